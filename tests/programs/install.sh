@@ -262,7 +262,7 @@ if [ "${1-}" = built ]; then
     [ "$(real/bin/"$name" --version | cut -d ' ' -f 1-2)" = "$name $version" ] || fail "the version of $name"
   done
   # Each command has a page. hashbag_ledger names them in a sentence.
-  jobs="balance batches close enter history put show take undo verify"
+  jobs="balance batches close count enter history put show take undo verify"
   # shellcheck disable=SC2046,SC2086
   files real/share/man/man1 $(printf 'hashbag_ledger-%s.1 ' $jobs) hashbag_ledger.1 hashbag_match.1 hashbag_run.1 \
     hashbag_words-{common,count,less,merge}.1 hashbag_words.1

@@ -144,6 +144,17 @@ printf '\357\273\277article,change\r\nbolt,5\r\nnut,7\r\nbolt,-2' > crlf.csv
 ends 0 "" crlf.csv
 has ../out 'article,number\nbolt,3\nnut,7\n' "a byte order mark, CRLF and no last line feed"
 
+# Movements in UTF-16 with a mark, and a stock in Windows-1252
+printf 'Größe,5\n' > rest && { printf 'article,change\n'; cat rest; } | iconv -f UTF-8 -t UTF-16 > wide.csv
+{ printf 'article,number\n'; cat rest; } | iconv -f UTF-8 -t CP1252 > start.csv
+ends 0 "" --encoding UTF-16 wide.csv
+has ../out 'article,number\nGröße,5\n' "movements in UTF-16"
+ends 0 "" --start start.csv --start-encoding Windows-1252 --encoding UTF-16 wide.csv
+has ../out 'article,number\nGröße,10\n' "a stock in Windows-1252"
+ends 2 'hashbag_ledger: wide.csv:1: UTF-16; `--encoding UTF-16` reads it' wide.csv
+ends 2 "hashbag_ledger: start.csv:1: not UTF-16: no byte order mark; UTF-16LE and UTF-16BE need none" --encoding UTF-16 start.csv
+ends 2 'hashbag_ledger: start.csv:2: column `article` is not UTF-8; if it is Windows-1252, `--encoding Windows-1252`' --start start.csv --encoding UTF-16 wide.csv
+
 # A quote that is never closed: the line is that of the quote
 printf 'article,change,note\nbolt,5,\nnut,7,"12 inch\nbolt,-2,\n' > open.csv
 ends 2 "hashbag_ledger: open.csv:3: quote never closed" open.csv

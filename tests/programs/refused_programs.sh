@@ -336,7 +336,8 @@ stock_in() {
   (cd "$scratch/at" && "$program" balance --db "$1" && "$program" batches --db "$1" | cut -d , -f 1-5,7-)
 }
 
-# refuse_kept STATUS DATABASE WORD..: each request of a run on these words, which changes that database
+# refuse_kept STATUS DATABASE WORD..: each request of a run on these words, which changes that database. If it does without one, it writes what
+# it writes with all memory
 refuse_kept() {
   local request=$((first - stride)) tried=0 without=0 wanted=$1 db=$2 status before after now
   shift 2
@@ -346,6 +347,7 @@ refuse_kept() {
   run 0
   [ $? = "$wanted" ] || { cat "$scratch/err"; echo "refused memory: $name ${words[*]}: not status $wanted with all memory"; return 1; }
   cp "$scratch/err" "$scratch/said"
+  cp "$scratch/out" "$scratch/wanted"
   after=$(stock_in "$db") || return 1
   [ "$before" != "$after" ] || { echo "refused memory: $name ${words[*]}: nothing is written"; return 1; }
   while :; do
@@ -354,7 +356,7 @@ refuse_kept() {
     status=$?
     [ -s "$scratch/refused" ] || break
     if diff -r "$scratch/files" "$scratch/at" > "$scratch/differ"; then now=$before; else now=$(stock_in "$db"); fi || { echo "refused memory: $name ${words[*]}: request $request: the stock is damaged"; return 1; }
-    if [ "$status" = "$wanted" ] && cmp -s "$scratch/err" "$scratch/said" && [ "$now" = "$after" ]; then
+    if [ "$status" = "$wanted" ] && cmp -s "$scratch/err" "$scratch/said" && cmp -s "$scratch/out" "$scratch/wanted" && [ "$now" = "$after" ]; then
       without=$((without + 1))
     elif [ "$status" != 3 ] || [ -s "$scratch/out" ] || [ "$now" != "$before" ]; then
       cat "$scratch/err"
@@ -367,7 +369,8 @@ refuse_kept() {
 }
 
 # fail_kept STATUS DATABASE WORD..: each change of a database's files fails, as on a full disk, of a run on these words, which changes that
-# database. The stock is then the one before or after. If the run ends as it does on a disk with room, it is the one after.
+# database. The stock is then the one before or after. If the run ends as it does on a disk with room, it is the one after, and the run writes
+# the same.
 fail_kept() {
   local change=0 wanted=$1 db=$2 status before after now
   shift 2
@@ -375,6 +378,7 @@ fail_kept() {
   rm -rf "$scratch/at" && cp -r "$scratch/files" "$scratch/at"
   before=$(stock_in "$db")
   run 0
+  cp "$scratch/out" "$scratch/wanted"
   after=$(stock_in "$db") || return 1
   while :; do
     change=$((change + 1))
@@ -382,7 +386,7 @@ fail_kept() {
     status=$?
     [ -s "$scratch/refused" ] || break
     now=$(stock_in "$db") || { echo "failed changes: $name ${words[*]}: change $change: the stock is damaged"; return 1; }
-    if { [ "$status" = "$wanted" ] && [ "$now" = "$after" ]; } || { [ "$status" = 4 ] && [ ! -s "$scratch/out" ] && { [ "$now" = "$before" ] || [ "$now" = "$after" ]; }; }; then
+    if { [ "$status" = "$wanted" ] && cmp -s "$scratch/out" "$scratch/wanted" && [ "$now" = "$after" ]; } || { [ "$status" = 4 ] && [ ! -s "$scratch/out" ] && { [ "$now" = "$before" ] || [ "$now" = "$after" ]; }; }; then
       continue
     fi
     cat "$scratch/err"
@@ -417,6 +421,7 @@ on_a_stock() {
   printf 'article,number\nbolt,10\nnut,40\n' > "$scratch/files/stock.csv"
   printf 'article,change\nbolt,-4\nbolt,-7\nwasher,3\n' > "$scratch/files/monday.csv"
   printf 'article,change\nnut,-40\nbolt,2\nscrew,-1\n' > "$scratch/files/tuesday.csv"
+  printf 'article,number\nbolt,1\nscrew,2\nbolt,3\n' > "$scratch/files/counted.csv"
   (cd "$scratch/files" && "$program" enter --db s.db --from stock.csv monday.csv 2> /dev/null)
   [ $? = 1 ] || { echo "refused memory: $name: no database"; return 1; }
   rm -rf "$scratch/at" && cp -r "$scratch/files" "$scratch/at" && stock=$(stock_in s.db) && [ -n "$stock" ] || return 1
@@ -426,6 +431,7 @@ on_a_stock() {
     fail_kept 1 s.db enter --db s.db tuesday.csv && fail_kept 1 new.db enter --db new.db monday.csv &&
     fail_kept 0 s.db undo --db s.db 2 && fail_kept 0 new.db close --db s.db --into new.db &&
     refuse_kept 1 s.db take --db s.db nut 41 && refuse_kept 0 new.db put --db new.db nut 1 &&
+    refuse_kept 0 s.db count --db s.db --all counted.csv && fail_kept 0 s.db count --db s.db --all counted.csv &&
     shows 0 balance --db s.db nut && shows 0 history --db s.db bolt && shows 0 batches --db s.db && shows 0 verify --db s.db &&
     shows 0 show --db s.db 2 && shows 0 balance --db s.db --to table && shows 0 balance --db s.db --to json
 }

@@ -65,9 +65,23 @@ is s.db "select abs(strftime('%%s', 'now') - strftime('%%s', max(time))) < 600 f
 # Another program reads the same
 is s.db 'pragma integrity_check' 'ok' "integrity_check"
 is s.db 'select article, number from article order by article' 'bolt|5\nnut|60\nscrew, long|12' "the balance by Python's SQLite"
-is s.db 'select name, value from meta order by name' 'hashbag_ledger|2\nscale|0' "the table meta"
+is s.db 'select name, value from meta order by name' 'columns|article,change\ndelimiter|,\nhashbag_ledger|3\nmark|.\nscale|0' "the table meta"
 is s.db 'select movement, there from refusal order by movement' '6|6\n10|60' "the refusals by Python's SQLite"
 is s.db 'select batch, sum(change), count(*) from movement where movement not in (select movement from refusal) group by batch' '1|53|3\n2|19|5\n3|5|1' "the movements by Python's SQLite"
+
+# Files in other encodings: the sum is that of their bytes, so the same movements in UTF-8 are another file
+printf 'article,change\nGröße,3\n' > moves.utf8 && printf 'article,number\nGröße,4\n' | iconv -f UTF-8 -t CP1252 > start.csv
+iconv -f UTF-8 -t UTF-16 moves.utf8 > wide.csv
+ends 0 '' enter --quiet --db e.db --from start.csv --start-encoding Windows-1252 --encoding UTF-16 wide.csv
+ends 6 "$p: wide.csv: entered before, as batch 2 (wide.csv)" enter --quiet --db e.db --encoding UTF-16 wide.csv
+ends 0 '' enter --quiet --db e.db moves.utf8
+ends 2 "$p: moves.utf8:1: not UTF-16: no byte order mark; UTF-16LE and UTF-16BE need none" enter --quiet --again --db e.db --encoding UTF-16 moves.utf8
+ends 0 '' balance --db e.db
+has ../out 'article,number\nGröße,10\n' "files in three encodings"
+sums=($(sha256sum start.csv wide.csv moves.utf8 | cut -d ' ' -f 1))
+is e.db 'select sha256 from batch order by batch' "${sums[0]}\n${sums[1]}\n${sums[2]}" "the sums of files in three encodings"
+ends 0 '' take --quiet --db e.db Größe 1
+ends 0 '' verify --db e.db
 
 # Once: a file whose bytes were entered before is rejected, under another name too, and nothing else is entered
 cp monday.csv again.csv
@@ -304,12 +318,12 @@ ends 0 '' history --db w.db washer
 # Decimals: the scale is kept, and another is rejected
 printf 'article;change\nsalt;1,5\nsalt;-0,25\n' > kg.csv
 ends 0 '' enter --quiet --db kg.db --scale 2 --mark , --delimiter ';' kg.csv
-ends 0 '' balance --db kg.db --mark , --delimiter ';'
-has ../out 'article;number\nsalt;1,25\n' "a balance with decimals"
+ends 0 '' balance --db kg.db --mark . --delimiter ,
+has ../out 'article,number\nsalt,1.25\n' "a balance with decimals"
 is kg.db "select value from meta where name = 'scale'" '2' "the scale in the file"
 printf 'article,change\nsalt,-2.00\nsalt,0.05\n' > point.csv
-ends 1 'point.csv:2: refused: out 2.00 of "salt", 1.25 there' enter --quiet --db kg.db point.csv
-ends 0 '' history --db kg.db salt
+ends 1 'point.csv:2: refused: out 2.00 of "salt", 1.25 there' enter --quiet --db kg.db --mark . -d , point.csv
+ends 0 '' history --db kg.db -d , --mark . salt
 cut -d , -f 5,7 ../out > ../plain
 has ../plain 'change,number\n1.50,1.50\n-0.25,1.25\n-2.00,1.25\n0.05,1.30\n' "a history with decimals"
 ends 2 "$p: kg.db: numbers have 2 decimals, not 3" enter --quiet --db kg.db --scale 3 more.csv
@@ -319,10 +333,51 @@ ends 0 '' enter --quiet --db gold.db --scale 9 gold.csv
 ends 0 '' balance --db gold.db
 has ../out 'article,number\ngold,1.000000001\n' "a balance with nine decimals"
 printf 'article,change\nsalt,92233720368547758.07\n' > heavy.csv
-ends 5 "$p: heavy.csv:2: total past 92233720368547758.07" enter --quiet --db kg.db heavy.csv
+ends 5 "$p: heavy.csv:2: total past 92233720368547758.07" enter --quiet --db kg.db --mark . -d , heavy.csv
 cp kg.db w.db
 sql w.db "update movement set change = 9223372036854775807 where movement in (1, 4)"
-ends 1 'w.db: movement 4: total past 92233720368547758.07' verify --db w.db
+ends 1 'w.db: movement 4: total past 92233720368547758,07' verify --db w.db
+
+# The columns, the delimiter and the mark of the first call are kept, and so read and written; those of a later call count for that call alone
+printf 'Artikel\tArt\tMenge\nsalt\tin\t2,5\nsalt\tout\t0,5\n' > kept.csv
+ends 0 '' enter --quiet --db kept.db --scale 1 --mark , --delimiter tab --columns Artikel,Art,Menge kept.csv
+is kept.db 'select name, value from meta order by name' 'columns|Artikel,Art,Menge\ndelimiter|tab\nhashbag_ledger|3\nmark|,\nscale|1' "what a stock keeps"
+printf 'Artikel\tArt\tMenge\nsalt\tin\t0,5\n' > kept2.csv
+ends 0 '' enter --quiet --db kept.db kept2.csv
+ends 0 '' balance --db kept.db
+has ../out 'article\tnumber\nsalt\t2,5\n' "a balance is written as the first file was read"
+printf 'article,change\nsalt,0.5\nsalt,-9.0\n' > other.csv
+ends 1 'other.csv:3: refused: out 9.0 of "salt", 3.0 there' enter --quiet --db kept.db --mark . -d , -c article,change other.csv
+printf 'article\tchange\nsalt\t0,5\n' > other2.csv
+ends 0 '' enter --quiet --db kept.db --columns article,change other2.csv
+is kept.db 'select name, value from meta order by name' 'columns|Artikel,Art,Menge\ndelimiter|tab\nhashbag_ledger|3\nmark|,\nscale|1' "options of a later call change nothing that is kept"
+ends 2 "$p: other2.csv:1: no column \`Artikel\`; there are: \`article\`, \`change\`" enter --quiet --db kept.db --again other2.csv
+ends 0 '' take --quiet --db kept.db salt 0,5
+ends 0 '' put --quiet --db kept.db --mark . salt 1.5
+ends 0 '' balance --db kept.db --mark . --to json
+has ../out '[{"article":"salt","number":"4.5"}]\n' "the balance after movements that were typed"
+ends 0 '' undo --quiet --db kept.db 3
+ends 0 '' verify --db kept.db
+ends 0 '' close --db kept.db --into kept3.db
+is kept3.db 'select name, value from meta order by name' 'columns|Artikel,Art,Menge\ndelimiter|tab\nhashbag_ledger|3\nmark|,\nscale|1' "a new stock keeps what the old one kept"
+ends 0 '' close --db kept.db --into kept4.db --mark . -d ';' -c a,b
+is kept4.db 'select name, value from meta order by name' 'columns|a,b\ndelimiter|;\nhashbag_ledger|3\nmark|.\nscale|1' "a new stock keeps what close names"
+ends 0 '' balance --db kept4.db
+has ../out 'article;number\nsalt;4.0\n' "the balance of a stock that keeps something else"
+ends 0 '' put --quiet --db kept5.db --mark , salt 1
+is kept5.db 'select name, value from meta order by name' 'columns|article,change\ndelimiter|,\nhashbag_ledger|3\nmark|,\nscale|0' "what a stock keeps that begins with a typed movement"
+# damaged TEXT WHAT: after this change of the table meta the stock can't be read, and this is said
+damaged() {
+  cp kept.db w.db
+  rm -f w.db-wal
+  sql w.db "$1"
+  ends 2 "$p: w.db: $2" enter --quiet --db w.db --again kept2.csv
+}
+damaged "update meta set value = '|' where name = 'delimiter'" 'no delimiter in the table meta'
+damaged "update meta set value = ';' where name = 'mark'" 'no mark in the table meta'
+damaged "delete from meta where name = 'mark'" 'no mark, delimiter or columns in the table meta'
+damaged "delete from meta where name = 'columns'" 'no mark, delimiter or columns in the table meta'
+damaged "update meta set value = 'a' where name = 'columns'" 'no two or three columns in the table meta'
 
 # A new database with the balance as its beginning
 ends 0 '' balance --db s.db
@@ -335,6 +390,67 @@ ends 0 '' verify --db next.db
 said='has a stock already, so it takes no other at the beginning'
 ends 2 "$p: next.db: $said" close --db s.db --into next.db
 ends 2 "$p: s.db: $said" enter --quiet --db s.db --from stock.csv
+
+# A stock that is counted: the differences are entered and written. An article that two lines name has their sum; one that isn't named stays
+printf 'article,change\nbolt,10\nnut,40\nwasher,3\n' > count1.csv
+ends 0 '' enter --quiet --db count.db count1.csv
+printf 'article,number\nbolt,4\nscrew,2\nnut,40\nbolt,3\n' > counted.csv
+ends 0 'counted.csv: batch 2, 3 movements' count --db count.db counted.csv
+has ../out 'article,there,counted,change\nbolt,10,7,-3\nscrew,0,2,2\nnut,40,40,0\n' "the differences of a count"
+ends 0 '' balance --db count.db
+has ../out 'article,number\nbolt,7\nnut,40\nscrew,2\nwasher,3\n' "the balance after a count"
+is count.db 'select line, article, change from movement where batch = 2 order by movement' '2|bolt|-3\n3|screw|2\n4|nut|0' "the movements of a count"
+is count.db 'select kind, file, undoes, movements, refused from batch where batch = 2' 'count|counted.csv||3|0' "the batch of a count"
+is count.db 'select sha256 from batch where batch = 2' "$(sha256sum < counted.csv | cut -d ' ' -f 1)" "the sum of a counted file"
+ends 0 '' verify --db count.db
+ends 0 '' show --db count.db counted.csv
+has ../out 'line,article,change,outcome,number\n2,bolt,-3,entered,7\n3,screw,2,entered,2\n4,nut,0,entered,40\n' "the movements of a count, shown"
+ends 0 '' history --db count.db bolt
+cut -d , -f 1-3,5- ../out > ../plain
+has ../plain 'batch,file,line,change,outcome,number\n1,count1.csv,2,10,entered,10\n2,counted.csv,2,-3,entered,7\n' "the history of a counted article"
+ends 0 '' batches --db count.db
+[ "$(cut -d , -f 1,2,4 ../out | tail -n 1)" = 2,counted.csv,count ] || fail "a count among the batches"
+ends 6 "$p: counted.csv: entered before, as batch 2 (counted.csv)" count --db count.db counted.csv
+ends 6 "$p: counted.csv: entered before, as batch 2 (counted.csv)" enter --db count.db counted.csv
+ends 0 'counted.csv: batch 3, 3 movements' count --db count.db --again -o again.txt counted.csv
+has again.txt 'article,there,counted,change\nbolt,7,7,0\nscrew,2,2,0\nnut,40,40,0\n' "the differences of a second count in a file"
+ends 0 '' undo --quiet --db count.db --last
+ends 0 'counted.csv: batch 5, 3 movements, the opposites of batch 2' undo --db count.db counted.csv
+ends 0 '' balance --db count.db
+has ../out 'article,number\nbolt,10\nnut,40\nwasher,3\n' "the balance after a count is undone"
+printf 'Artikel;Zahl\nnut;1\nbolt;0\ntape;0\n' > all.csv
+ends 0 '' count --quiet --db count.db --all -d ';' --start-columns Artikel,Zahl all.csv
+has ../out 'article;there;counted;change\nnut;40;1;-39\nbolt;10;0;-10\ntape;0;0;0\nwasher;3;0;-3\n' "the differences of a count of all"
+ends 0 '' balance --db count.db
+has ../out 'article,number\nnut,1\n' "the balance after a count of all"
+is count.db 'select line, article, change from movement where batch = 6 order by movement' '2|nut|-39\n3|bolt|-10\n4|tape|0\n0|washer|-3' "the movements of a count of all"
+ends 0 '' verify --db count.db
+printf 'article,number\nnut,5\n' > ../line
+input=../line ends 0 '-: batch 7, 1 movement' count --db count.db
+has ../out 'article,there,counted,change\nnut,1,5,4\n' "a count on standard input"
+printf 'article,number\n' > nothing.csv
+ends 0 'nothing.csv: batch 8, 0 movements' count --db count.db nothing.csv
+ends 0 'nothing.csv: batch 9, 1 movement' count --db count.db --all nothing.csv
+ends 0 '' balance --db count.db
+has ../out 'article,number\n' "the balance after nothing is counted"
+ends 0 '' verify --db count.db
+printf 'article,number\nnut,-1\n' > minus.csv
+ends 2 "$p: minus.csv:2: no number: \`-1\`" count --db count.db minus.csv
+ends 2 "$p: more.csv:1: no column \`number\`; there are: \`article\`, \`change\`" count --db count.db more.csv
+ends 2 "$p: ./count.db: both an input and an output, or two outputs" count --db count.db ./count.db
+ends 2 "$p: all.csv: both an input and an output, or two outputs" count --db count.db -o all.csv all.csv
+ends 2 "$p: count.db-wal: both an input and an output, or two outputs" count --db count.db -o count.db-wal more.csv
+ends 4 "$p: none.db: no such file" count --db none.db counted.csv
+[ ! -e none.db ] || fail "a database is made by count"
+printf 'article,number\nnut,9223372036854775807\nbolt,1\n' > most2.csv
+ends 5 "$p: most2.csv:3: total past 9223372036854775807" count --db count.db most2.csv
+ends 2 "$p: minus.csv:2: no number: \`-1\`" count --db count.db -o again.txt minus.csv
+has again.txt 'article,there,counted,change\nbolt,7,7,0\nscrew,2,2,0\nnut,40,40,0\n' "the file of -o after a bad count"
+is count.db 'select count(*) from batch' '9' "the batches after bad counts"
+printf 'article\tnumber\nsalt\t1,5\n' > kept6.csv
+ends 0 '' count --quiet --db kept.db kept6.csv
+has ../out 'article\tthere\tcounted\tchange\nsalt\t4,0\t1,5\t-2,5\n' "a count with decimals, read and written as the stock keeps it"
+ends 0 '' verify --db kept.db
 
 # Files that have no stock
 ends 4 "$p: none.db: no such file" balance --db none.db
@@ -354,10 +470,43 @@ sql meta.db 'create table meta (name text, value integer)'
 ends 2 "$p: meta.db: a database of another program" enter --quiet --db meta.db more.csv
 same other.db "$sum" "a database of another program is written"
 cp v.db later.db
-sql later.db "update meta set value = 3 where name = 'hashbag_ledger'"
+sql later.db "update meta set value = 4 where name = 'hashbag_ledger'"
 sum=$(sha256sum < later.db)
-ends 2 "$p: later.db: a stock of version 3, which is later than 2" enter --quiet --db later.db more.csv
+ends 2 "$p: later.db: a stock of version 4, which is later than 3" enter --quiet --db later.db more.csv
 same later.db "$sum" "a stock of a later version is written"
+
+# A stock of the second version keeps its scale alone, and goes on as it was
+# as_second DATABASE: gives its tables the form of the second version
+as_second() {
+  sql "$1" "create table old (batch INTEGER PRIMARY KEY, file TEXT NOT NULL, sha256 TEXT NOT NULL, kind TEXT NOT NULL CHECK (kind IN ('start', 'moves', 'undo')), undoes INTEGER, time TEXT NOT NULL, movements INTEGER NOT NULL, refused INTEGER NOT NULL, seal TEXT NOT NULL) STRICT"
+  sql "$1" 'insert into old select batch, file, sha256, kind, undoes, time, movements, refused, seal from batch'
+  sql "$1" 'drop table batch'
+  sql "$1" 'alter table old rename to batch'
+  sql "$1" 'create table few (name TEXT PRIMARY KEY NOT NULL, value INTEGER NOT NULL) STRICT'
+  sql "$1" "insert into few select name, value from meta where name in ('scale', 'hashbag_ledger')"
+  sql "$1" 'drop table meta'
+  sql "$1" 'alter table few rename to meta'
+  sql "$1" "update meta set value = 2 where name = 'hashbag_ledger'"
+}
+cp kg.db second.db
+as_second second.db
+ends 0 '' verify --db second.db
+ends 0 '' balance --db second.db
+has ../out 'article,number\nsalt,1.30\n' "the balance of a stock of the second version"
+printf 'article,change\nsalt,0.25\n' > second.csv
+ends 0 '' enter --quiet --db second.db second.csv
+printf 'Artikel;Menge\nsalt;0,5\n' > second2.csv
+ends 0 '' enter --quiet --db second.db -d ';' --mark , -c Artikel,Menge second2.csv
+ends 0 '' balance --db second.db
+has ../out 'article,number\nsalt,2.05\n' "the balance of a stock of the second version after a file with options"
+is second.db 'select name, value from meta order by name' 'hashbag_ledger|2\nscale|2' "a stock of the second version keeps its scale alone"
+ends 0 '' undo --quiet --db second.db --last
+ends 0 '' verify --db second.db
+ends 0 '' close --db second.db --into third.db --mark ,
+is third.db 'select name, value from meta order by name' 'columns|article,change\ndelimiter|,\nhashbag_ledger|3\nmark|,\nscale|2' "what a new stock keeps after one of the second version"
+ends 2 "$p: second.db: tables of version 2 take no count: \`close --into NEW\` makes newer ones" count --db second.db kept6.csv
+sql second.db "update meta set value = 3 where name = 'hashbag_ledger'"
+ends 2 "$p: second.db: another version in the table meta than its tables have" balance --db second.db
 
 # A stock of the first version, whose batches have no seals, goes on as it was
 # as_first DATABASE: gives its tables the form of the first version
@@ -480,13 +629,13 @@ has ../out 'article,number\nbolt,5\nnut,2\n' "a file that has the name of a subc
 
 # Arguments
 for words in "enter a.csv" "balance" "history --db s.db" "undo --quiet --db s.db" "undo --quiet --db s.db x" "close --db s.db" "verify --db" "balance --db s.db --wrong" \
-  "show --db s.db" "take --db s.db bolt" "put --db s.db 5" "balance --db s.db --to csw" \
+  "show --db s.db" "count a.csv" "count --db s.db a.csv b.csv" "take --db s.db bolt" "put --db s.db 5" "balance --db s.db --to csw" \
   "enter --quiet --db s.db --wait x" "enter --quiet --db s.db --columns a" "enter --quiet --db s.db --start-columns a,b,c" "enter --quiet --db s.db --scale 10"; do
   # shellcheck disable=SC2086
   "$program" $words > ../out 2> ../err < /dev/null
   [ $? = 2 ] && [ ! -s ../out ] && [ -s ../err ] || { cat ../err; fail "bad arguments: $words"; }
 done
-for job in enter take put balance history batches show undo verify close; do
+for job in enter take put count balance history batches show undo verify close; do
   ends 0 "" $job --help
   grep -q -e --db ../out || fail "no --db in the help of $job"
 done

@@ -4,7 +4,7 @@ use hashbag_csv::fault::in_file;
 use hashbag_ledger_args::arguments::Request;
 use hashbag_ledger_lib::ledger::Ledger;
 use hashbag_ledger_lib::reading::enter_movements;
-use hashbag_shell::input::read_file;
+use hashbag_shell::text::read_text;
 use hashbag_shell::trouble::Trouble;
 use std::hash::BuildHasher;
 
@@ -20,7 +20,7 @@ pub fn start_of<'a>(
     let Some(file) = request.start else {
         return Ok(Vec::new(rt.alloc()));
     };
-    let text = read_file(rt, file)?;
+    let text = read_text(rt, file, request.start_encoding)?;
     let (article, number) = request.start_columns;
     let counts = read_counts_as(
         rt.alloc(),
@@ -44,7 +44,7 @@ pub fn enter_files<'a, S: BuildHasher + Drop>(
 ) -> Result<(), Trouble<'a>> {
     for i in 0..request.files.len() {
         let file = request.files[i];
-        let text = read_file(rt, file)?;
+        let text = read_text(rt, file, request.encoding)?;
         let entered = enter_movements(
             rt.alloc(),
             ledger,

@@ -1,4 +1,5 @@
 //! A stock that is kept in a database: the subcommands with `--db`.
+mod count;
 mod database;
 mod enter;
 mod say;
@@ -18,8 +19,9 @@ fn do_job<'a>(rt: &HostRuntime, name: &str, given: &ArgMatches<'a>) -> Result<u8
     let request = Job::of(rt.alloc(), given)?;
     match name {
         "enter" => enter::enter(rt, &request),
-        "take" => enter::enter_typed(rt, &request, "-"),
-        "put" => enter::enter_typed(rt, &request, "+"),
+        "take" => enter::enter_typed(rt, &request.typed(), "-"),
+        "put" => enter::enter_typed(rt, &request.typed(), "+"),
+        "count" => count::count(rt, &request),
         "balance" => show::balance(rt, &request),
         "history" => show::history(rt, &request),
         "batches" => show::batches(rt, &request),

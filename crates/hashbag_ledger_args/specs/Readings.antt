@@ -1,26 +1,62 @@
--- How the texts of a job are read.
-use Rattle.std.specs.Prelude.{◌≡◌, ℕ, ◌-◌, ◌^◌, nat_le, if◌then◌else◌, unwrap_or}
+-- How the files of a job are read: by its options, and else as the stock keeps it.
+use Rattle.std.specs.Prelude.{◌≡◌, ℕ, Bool, ◌-◌, ◌^◌, nat_le, if◌then◌else◌, List, Option, None, Some, String, string_bytes, codes, unwrap_or}
+use Rattle.std.specs.Global.{Global}
 use Rattle.hashbag_csv.specs.Decimals.{most_decimals}
 use Rattle.hashbag_csv.specs.declared.counts.Reading.{Reading}
 use Rattle.hashbag_csv.specs.declared.scale.Mark.{Mark}
 use Rattle.hashbag_csv.specs.declared.scale.Mark.TheVariants.{Point}
+use Rattle.hashbag_ledger_args.specs.declared.columns.KeptColumns.{KeptColumns}
 use Rattle.hashbag_ledger_args.specs.declared.job.Job.{Job}
+use Rattle.hashbag_ledger_lib.specs.Movements.{columns_by}
+use Rattle.hashbag_ledger_lib.specs.Styles.{plain_style}
+use Rattle.hashbag_ledger_lib.specs.declared.reading.ChangeColumns.{ChangeColumns}
+use Rattle.hashbag_ledger_lib.specs.declared.reading.ChangeColumns.TheVariants.{Signed, ByKind}
+use Rattle.hashbag_ledger_lib.specs.declared.reading.Columns.{Columns}
+use Rattle.hashbag_ledger_lib.specs.declared.style.Style.{Style}
+use Rattle.hashbag_text.specs.declared.encoding.Encoding.{Encoding}
+
+-- how files are written: the mark and the delimiter of the options that are given, else those that are kept. With `--mark ,` alone and `.`
+-- and `;` kept: `,` and `;`
+abbrev pub style_by : Job → Style → Style
+style_by job kept = record { scale = kept.scale; mark = unwrap_or job.mark kept.mark; delimiter = unwrap_or job.delimiter kept.delimiter }
 
 -- n decimals, or none if no scale has so many
 abbrev pub decimals_by : ℕ → ℕ
 decimals_by n = if nat_le n most_decimals then n else 0
 
--- the mark before n decimals: that of the job, or `.` if no scale has so many
-abbrev pub mark_by : Job → ℕ → Mark
-mark_by job n = if nat_le n most_decimals then job.mark else Point
+-- the mark before the decimals of a style, or `.` if no scale has so many
+abbrev pub mark_by : Style → Mark
+mark_by style = if nat_le style.scale most_decimals then style.mark else Point
 
--- texts have the delimiter and the mark of the job, and numbers n decimals; none is past the greatest of a database
-pub record IsReadingOf (job : Job) (n : ℕ) (reading : Reading) : Type 0 where
-  pub delimiter : reading.delimiter ≡ job.delimiter
-  pub decimals : reading.scale.decimals ≡ decimals_by n
-  pub mark : reading.scale.mark ≡ mark_by job n
+-- texts have the delimiter, and numbers the mark, of the job's options, and else those that are kept; numbers have the kept decimals, and
+-- none is past the greatest of a database
+pub record IsReadingOf (job : Job) (kept : Style) (reading : Reading) : Type 0 where
+  pub delimiter : reading.delimiter ≡ (style_by job kept).delimiter
+  pub decimals : reading.scale.decimals ≡ decimals_by kept.scale
+  pub mark : reading.scale.mark ≡ mark_by (style_by job kept)
   pub most : reading.scale.most ≡ 2 ^ 63 - 1
 
--- how many decimals the job asks for: none, if it names no scale
-abbrev pub asked_decimals : Job → ℕ
-asked_decimals job = unwrap_or job.scale 0
+-- what a new stock is taken to keep before its first call: as many decimals as the job asks for, none if it names no scale
+abbrev pub asked_style : Job → Style
+asked_style job = plain_style (unwrap_or job.scale 0)
+
+-- the columns of a change: with a kind, or alone
+abbrev pub change_named : Option (String Global) → String Global → ChangeColumns (List ℕ)
+change_named None number = Signed (string_bytes number)
+change_named (Some kind) number = ByKind (string_bytes kind) (string_bytes number)
+
+-- the names of the columns that are kept
+abbrev pub kept_names : KeptColumns → Columns (List ℕ)
+kept_names kept = record { article = string_bytes kept.article; change = change_named kept.kind kept.number }
+
+-- the names of the columns of a stock that keeps none
+abbrev pub plain_names : Columns (List ℕ)
+plain_names = record { article = codes "article"; change = Signed (codes "change") }
+
+-- the names of the columns of movements: those that the job gives, else those that are kept
+abbrev pub names_by : Job → Columns (List ℕ) → Columns (List ℕ)
+names_by job kept = elim job.columns [ None ↦ kept | Some given ↦ columns_by (λ n. n.now) given ]
+
+-- the encoding of the job's stock at the beginning, or of its movements
+abbrev pub encoding_of : Job → Bool → Option Encoding
+encoding_of job is_start = if is_start then job.start_encoding else job.encoding

@@ -5,9 +5,10 @@ use crate::listing::with_listed;
 use clap::ArgMatches;
 use hashbag_csv::counts::Reading;
 use hashbag_ledger_lib::reading::Columns;
-use hashbag_shell::options::word;
+use hashbag_shell::options::{encoding, word};
 use hashbag_shell::program::given_to;
 use hashbag_shell::trouble::Trouble;
+use hashbag_text::encoding::Encoding;
 use std::alloc::{AllocError, Global};
 
 /// What the arguments ask for.
@@ -17,8 +18,12 @@ pub struct Request<'a> {
     pub start: Option<&'a str>,
     /// Its columns of articles and of numbers.
     pub start_columns: (&'a str, &'a str),
+    /// Its encoding, `None` for UTF-8.
+    pub start_encoding: Option<Encoding>,
     /// The files of movements.
     pub files: Vec<&'a str>,
+    /// Their encoding, `None` for UTF-8.
+    pub encoding: Option<Encoding>,
     /// The columns of movements.
     pub columns: Columns<&'a str>,
     /// The delimiter of fields, and how numbers are written.
@@ -57,7 +62,9 @@ fn request_of<'a>(
     Ok(Request {
         start: matches.get_str("start"),
         start_columns,
+        start_encoding: encoding(matches, "start-encoding"),
         files,
+        encoding: encoding(matches, "encoding"),
         columns,
         reading: reading_of(matches),
         output: matches.get_str("output"),

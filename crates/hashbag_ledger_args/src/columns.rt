@@ -1,7 +1,11 @@
 //! The names of columns that are given as one word.
+ghost use Rattle.std.specs.Prelude.{◌≡◌, IfOk};
+ghost use Rattle.hashbag_ledger_args.specs.Readings.{kept_names, plain_names};
+ghost use Rattle.hashbag_ledger_lib.specs.Movements.{columns_by};
+
 use hashbag_ledger_lib::reading::{ChangeColumns, Columns};
 use hashbag_shell::trouble::Trouble;
-use std::alloc::Global;
+use std::alloc::{AllocError, Global};
 
 // Returns the columns of two or three names with commas between them.
 fn split_columns(names: &str) -> Option<Columns<&str>> {
@@ -40,6 +44,91 @@ pub fn columns_of<'a>(alloc: Global, names: &'a str) -> Result<Columns<&'a str>,
             let what = format!(in alloc; "--columns takes two or three names: {names}")?;
             Err(Trouble::Words(what))
         }
+    }
+}
+
+/// Returns the columns of movements in a stock that keeps none: `article` and `change`.
+pub fn plain_columns() -> Columns<&'static str>
+    ensures { columns_by (λ n. n.now) result ≡ plain_names }
+{
+    Columns {
+        article: "article",
+        change: ChangeColumns::Signed("change"),
+    }
+}
+
+/// The names of the columns of movements that a stock keeps.
+#[derive(Drop)]
+pub struct KeptColumns {
+    /// The column of articles.
+    pub article: String,
+    /// The column of kinds, if there is one.
+    pub kind: Option<String>,
+    /// The column of changes, or of numbers if there is one of kinds.
+    pub number: String,
+}
+
+impl KeptColumns {
+    /// Returns a copy of these names.
+    ///
+    /// # Errors
+    ///
+    /// An allocation fails.
+    pub fn copy_of(alloc: Global, columns: Columns<&str>) -> Result<KeptColumns, AllocError>
+        ensures { IfOk result (λ kept. kept_names kept ≡ columns_by (λ n. n.now) columns.entry) }
+    {
+        let article = String::from_str(alloc, columns.article)?;
+        match columns.change {
+            ChangeColumns::Signed(change) => Ok(KeptColumns {
+                article,
+                kind: None,
+                number: String::from_str(alloc, change)?,
+            }),
+            ChangeColumns::ByKind(kind, number) => Ok(KeptColumns {
+                article,
+                kind: Some(String::from_str(alloc, kind)?),
+                number: String::from_str(alloc, number)?,
+            }),
+        }
+    }
+
+    /// Returns the columns of a text that a database keeps. `None` if these aren't two or three names with commas between them.
+    ///
+    /// # Errors
+    ///
+    /// An allocation fails.
+    pub fn named(alloc: Global, names: &str) -> Result<Option<KeptColumns>, AllocError> {
+        match split_columns(names) {
+            Some(columns) => Ok(Some(KeptColumns::copy_of(alloc, columns)?)),
+            None => Ok(None),
+        }
+    }
+
+    /// Returns the names.
+    pub fn names(&self) -> Columns<&str>
+        ensures { columns_by (λ n. n.now) result ≡ kept_names self.now }
+    {
+        let number = self.number.as_str();
+        Columns {
+            article: self.article.as_str(),
+            change: match &self.kind {
+                Some(kind) => ChangeColumns::ByKind(kind.as_str(), number),
+                None => ChangeColumns::Signed(number),
+            },
+        }
+    }
+}
+
+/// Returns the names of columns with commas between them.
+///
+/// # Errors
+///
+/// An allocation fails.
+pub fn columns_text(alloc: Global, columns: Columns<&str>) -> Result<String, AllocError> {
+    let article = columns.article;
+    match columns.change {
+        ChangeColumns::Signed(change) => format!(in alloc; "{article},{change}"),
+        ChangeColumns::ByKind(kind, number) => format!(in alloc; "{article},{kind},{number}"),
     }
 }
 

@@ -1,7 +1,7 @@
 //! The arguments and their help.
 use clap::{Arg, ArgAction, Command};
 use hashbag_shell::VERSION;
-use hashbag_shell::options::{CommandResult, with, with_output, with_reading};
+use hashbag_shell::options::{CommandResult, encoding_arg, with, with_output, with_reading};
 use std::alloc::Global;
 
 /// The name of the program. Its messages on standard error begin with it.
@@ -22,8 +22,8 @@ A movement that asks for more than is there at that time is refused, and named w
 The balance is CSV with the columns of the stock, articles rising, and may be the --start of the next run. All is read before
 anything is written, so the balance may replace the stock: hashbag_ledger --start stock.csv monday.csv -o stock.csv
 
-A database keeps a stock: hashbag_ledger enter --db stock.db monday.csv. If the first word is enter, take, put, balance, history,
-batches, show, undo, verify or close, it is a subcommand on the database of --db; hashbag_ledger enter --help has its arguments.
+A database keeps a stock: hashbag_ledger enter --db stock.db monday.csv. If the first word is enter, take, put, count, balance,
+history, batches, show, undo, verify or close, it is a subcommand on the database of --db; hashbag_ledger enter --help has its arguments.
 
 Status: 0 all entered, 1 some refused, 2 bad arguments or a bad line (FILE:LINE is named), 3 no memory, 4 a file can't be opened, or
 a read or a write failed, 5 a total of more than 2^64-1. With 2 to 5 the file of -o is unchanged.";
@@ -53,6 +53,15 @@ fn with_inputs<'a>(alloc: Global, command: CommandResult<'a>) -> CommandResult<'
     with(with(command, columns), moves)
 }
 
+/// Adds the encodings of movements and of the stock at the beginning.
+pub fn with_encodings<'a>(alloc: Global, command: CommandResult<'a>) -> CommandResult<'a> {
+    let help = "The encoding of movements; what is written is UTF-8";
+    let moves = encoding_arg(alloc, "encoding", help).default_value("UTF-8");
+    let help = "The encoding of the stock at the beginning";
+    let start = encoding_arg(alloc, "start-encoding", help).default_value("UTF-8");
+    with(with(command, moves), start)
+}
+
 // Adds the outputs.
 fn with_outputs<'a>(alloc: Global, command: CommandResult<'a>) -> CommandResult<'a> {
     let help =
@@ -78,5 +87,6 @@ pub fn command<'a>(alloc: Global) -> CommandResult<'a> {
         .version(VERSION)
         .about(ABOUT)
         .after_help(AFTER);
-    with_outputs(alloc, with_reading(alloc, with_inputs(alloc, Ok(command))))
+    let command = with_reading(alloc, with_inputs(alloc, Ok(command)));
+    with_outputs(alloc, with_encodings(alloc, command))
 }

@@ -1,8 +1,10 @@
 //! What is asked of a database, by a subcommand's arguments.
-ghost use Rattle.hashbag_ledger_args.specs.Readings.{IsReadingOf};
+ghost use Rattle.std.specs.Prelude.{◌≡◌};
+ghost use Rattle.hashbag_ledger_args.specs.Readings.{asked_style, encoding_of, names_by, style_by, IsReadingOf};
+ghost use Rattle.hashbag_ledger_lib.specs.Movements.{columns_by};
 
-use crate::columns::{columns_of, start_columns_of};
-use crate::command::{COLUMNS, START_COLUMNS};
+use crate::columns::{columns_of, plain_columns, start_columns_of};
+use crate::command::START_COLUMNS;
 use clap::ArgMatches;
 use hashbag_csv::counts::Reading;
 use hashbag_csv::delimiter::Delimiter;
@@ -10,8 +12,10 @@ use hashbag_csv::scale::{Mark, Scale};
 use hashbag_ledger_lib::balance_forms::Form;
 use hashbag_ledger_lib::numbers::MOST;
 use hashbag_ledger_lib::reading::Columns;
-use hashbag_shell::options::word;
+use hashbag_ledger_lib::style::Style;
+use hashbag_shell::options::{encoding, word};
 use hashbag_shell::trouble::Trouble;
+use hashbag_text::encoding::Encoding;
 use std::alloc::{AllocError, Global};
 
 /// What a subcommand is asked to do.
@@ -27,14 +31,18 @@ pub struct Job<'a> {
     pub from: Option<&'a str>,
     /// Its columns of articles and of numbers.
     pub start_columns: (&'a str, &'a str),
-    /// The columns of movements.
-    pub columns: Columns<&'a str>,
+    /// Its encoding, `None` for UTF-8.
+    pub start_encoding: Option<Encoding>,
+    /// The encoding of movements, `None` for UTF-8.
+    pub encoding: Option<Encoding>,
+    /// The columns of movements, if they are named.
+    pub columns: Option<Columns<&'a str>>,
     /// The scale, if one is named.
     pub scale: Option<u32>,
-    /// What is before decimals.
-    pub mark: Mark,
-    /// What is between fields.
-    pub delimiter: Delimiter,
+    /// What is before decimals, if it is named.
+    pub mark: Option<Mark>,
+    /// What is between fields, if it is named.
+    pub delimiter: Option<Delimiter>,
     /// The file to which refusals are written; `None` is standard error.
     pub refused: Option<&'a str>,
     /// The file to which a table is written; `None` is standard output.
@@ -45,6 +53,10 @@ pub struct Job<'a> {
     pub again: bool,
     /// How a balance is written.
     pub form: Form,
+    /// The file of what was counted.
+    pub counted: &'a str,
+    /// Whether of an article that it doesn't name none was counted.
+    pub all: bool,
     /// The articles that are asked for.
     pub articles: Vec<&'a str>,
     /// The number of a movement that is typed.
@@ -81,6 +93,23 @@ fn files_of<'a>(alloc: Global, given: &ArgMatches<'a>) -> Result<Vec<&'a str>, A
     Ok(files)
 }
 
+// Returns the mark, if it is named.
+fn mark_of(given: &ArgMatches<'_>) -> Option<Mark> {
+    match given.get_str("mark") {
+        Some(",") => Some(Mark::Comma),
+        Some(_) => Some(Mark::Point),
+        None => None,
+    }
+}
+
+// Returns the delimiter, if it is named.
+fn delimiter_of(given: &ArgMatches<'_>) -> Option<Delimiter> {
+    match given.get_str("delimiter") {
+        Some(name) => Some(Delimiter::named(name)),
+        None => None,
+    }
+}
+
 impl<'a> Job<'a> {
     /// Returns what these arguments ask for.
     ///
@@ -88,7 +117,10 @@ impl<'a> Job<'a> {
     ///
     /// `Words` if the names of columns are too few or too many, `Memory` if an allocation fails.
     pub fn of(alloc: Global, given: &ArgMatches<'a>) -> Result<Job<'a>, Trouble<'a>> {
-        let columns = columns_of(alloc, word(given, "columns", COLUMNS))?;
+        let columns = match given.get_str("columns") {
+            Some(names) => Some(columns_of(alloc, names)?),
+            None => None,
+        };
         let start_columns = start_columns_of(alloc, word(given, "start-columns", START_COLUMNS))?;
         let scale = match given.get_str("scale") {
             Some(digits) => digits.parse().ok(),
@@ -100,18 +132,19 @@ impl<'a> Job<'a> {
             files: files_of(alloc, given)?,
             from: given.get_str("from"),
             start_columns,
+            start_encoding: encoding(given, "start-encoding"),
+            encoding: encoding(given, "encoding"),
             columns,
             scale,
-            mark: match given.get_str("mark") {
-                Some(",") => Mark::Comma,
-                _ => Mark::Point,
-            },
-            delimiter: Delimiter::named(given.get_str("delimiter").unwrap_or(",")),
+            mark: mark_of(given),
+            delimiter: delimiter_of(given),
             refused: given.get_str("refused"),
             output: given.get_str("output"),
             strict: given.get_flag("strict"),
             again: given.get_flag("again"),
             form: Form::named(word(given, "to", "csv")),
+            counted: given.get_str("COUNTED.csv").unwrap_or("-"),
+            all: given.get_flag("all"),
             articles: words_of(alloc, given, "ARTICLE")?,
             number: given.get_str("NUMBER").unwrap_or(""),
             batch: given.get_str("BATCH"),
@@ -121,15 +154,62 @@ impl<'a> Job<'a> {
         })
     }
 
-    /// Returns how texts are read and written with this many decimals. No number is past the greatest of a database.
-    pub fn reading(&self, decimals: u32) -> Reading
-        ensures { IsReadingOf self.now decimals result }
+    /// Returns the encoding of the stock at the beginning, or of movements.
+    pub fn encoding_of(&self, is_start: bool) -> Option<Encoding>
+        ensures { result ≡ encoding_of self.now is_start }
     {
+        if is_start {
+            return self.start_encoding;
+        }
+        self.encoding
+    }
+
+    /// Returns it for a movement that is typed, whose text has the columns `article` and `change`, and commas between fields.
+    pub fn typed(self) -> Job<'a> {
+        let mut job = self;
+        job.columns = Some(plain_columns());
+        job.delimiter = Some(Delimiter::Comma);
+        job
+    }
+
+    /// Returns what a new stock is taken to keep before its first call.
+    pub fn asked_style(&self) -> Style
+        ensures { result ≡ asked_style self.now }
+    {
+        Style::plain(self.scale.unwrap_or(0))
+    }
+
+    /// Returns how files are written: by the mark and the delimiter that are named, and else by those that are kept.
+    pub fn style(&self, kept: Style) -> Style
+        ensures { result ≡ style_by self.now kept }
+    {
+        Style {
+            scale: kept.scale,
+            mark: self.mark.unwrap_or(kept.mark),
+            delimiter: self.delimiter.unwrap_or(kept.delimiter),
+        }
+    }
+
+    /// Returns how texts are read and written, if a stock keeps this. No number is past the greatest of a database.
+    pub fn reading(&self, kept: Style) -> Reading
+        ensures { IsReadingOf self.now kept result }
+    {
+        let style = self.style(kept);
         Reading {
-            delimiter: self.delimiter,
-            scale: Scale::new(decimals, self.mark)
+            delimiter: style.delimiter,
+            scale: Scale::new(style.scale, style.mark)
                 .unwrap_or(Scale::whole())
                 .at_most(MOST),
+        }
+    }
+
+    /// Returns the columns of movements: those that are named, and else those that are kept.
+    pub fn columns_or<'k>(&'k self, kept: Columns<&'k str>) -> Columns<&'k str>
+        ensures { columns_by (λ n. n.now) result ≡ names_by self.entry.now (columns_by (λ n. n.now) kept.entry) }
+    {
+        match self.columns {
+            Some(columns) => columns,
+            None => kept,
         }
     }
 }

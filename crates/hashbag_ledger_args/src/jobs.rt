@@ -1,8 +1,8 @@
 //! The arguments of the subcommands, and their help.
-use crate::command::{COLUMNS, PROGRAM, START_COLUMNS};
+use crate::command::{PROGRAM, START_COLUMNS, with_encodings};
 use clap::{Arg, ArgAction, Command, value_parser};
 use hashbag_shell::VERSION;
-use hashbag_shell::options::{self, CommandResult, MARKS, SCALES, with};
+use hashbag_shell::options::{self, CommandResult, DELIMITERS, MARKS, SCALES, with};
 use std::alloc::Global;
 
 const ABOUT: &str = "Keeps a stock in a database.";
@@ -12,7 +12,8 @@ static FORMS: [&str; 3] = ["csv", "table", "json"];
 
 const AFTER: &str = "\
 The database is a SQLite file; `sqlite3 stock.db` reads it too. Once a batch is entered it is on the disk. A file whose bytes were
-entered before is not entered again, except with --again.
+entered before is not entered again, except with --again. A new database keeps the scale, the columns, the delimiter and the mark of
+the call that makes it: later calls read and write by them, unless they name others.
 
 Status: 0 done, 1 some movements were refused, an undo was refused or made before, or the stock doesn't agree with its movements, 2 bad
 arguments, a bad line, no such batch, no stock or more than one, or a database that isn't one of a stock, 3 no memory, 4 a file can't
@@ -26,6 +27,7 @@ fn is_job(word: &str) -> bool {
         "enter"
             | "take"
             | "put"
+            | "count"
             | "balance"
             | "history"
             | "batches"
@@ -71,9 +73,25 @@ fn job<'a>(alloc: Global, name: &'a str, about: &'a str) -> CommandResult<'a> {
     with(with(Ok(command), db), wait)
 }
 
+// Adds what is before decimals.
+fn with_mark<'a>(alloc: Global, command: CommandResult<'a>) -> CommandResult<'a> {
+    let mark = Arg::new(alloc, "mark")
+        .long("mark")
+        .value_name("MARK")
+        .value_parser(MARKS.as_slice())
+        .help("What is before decimals; by default what the database keeps, `.` if it is new");
+    with(command, mark)
+}
+
 // Adds how fields are delimited, and numbers written.
 fn with_form<'a>(alloc: Global, command: CommandResult<'a>) -> CommandResult<'a> {
-    options::with_form(alloc, command, "What is between fields")
+    let delimiter = Arg::new(alloc, "delimiter")
+        .short('d')
+        .long("delimiter")
+        .value_name("DELIMITER")
+        .value_parser(DELIMITERS.as_slice())
+        .help("What is between fields; by default what the database keeps, `,` if it is new");
+    with(with_mark(alloc, command), delimiter)
 }
 
 // Adds where a table is written.
@@ -82,35 +100,51 @@ fn with_output<'a>(alloc: Global, command: CommandResult<'a>) -> CommandResult<'
     options::with_output(alloc, with_form(alloc, command), help)
 }
 
+// Adds the columns of articles and numbers.
+fn with_start_columns<'a>(
+    alloc: Global,
+    command: CommandResult<'a>,
+    help: &'a str,
+) -> CommandResult<'a> {
+    let start_columns = Arg::new(alloc, "start-columns")
+        .long("start-columns")
+        .value_name("NAMES")
+        .default_value(START_COLUMNS)
+        .help(help);
+    with(command, start_columns)
+}
+
 // Adds the stock at the beginning.
 fn with_start<'a>(alloc: Global, command: CommandResult<'a>) -> CommandResult<'a> {
     let from = Arg::new(alloc, "from")
         .long("from")
         .value_name("STOCK.csv")
         .help("The stock at the beginning, for a database that has none");
-    let start_columns = Arg::new(alloc, "start-columns")
-        .long("start-columns")
-        .value_name("NAMES")
-        .default_value(START_COLUMNS)
-        .help("The columns of the stock at the beginning");
-    with(with(command, from), start_columns)
+    let help = "The columns of the stock at the beginning";
+    with_start_columns(alloc, with(command, from), help)
 }
 
-// Adds the movements.
-fn with_moves<'a>(alloc: Global, command: CommandResult<'a>) -> CommandResult<'a> {
+// Adds the columns of movements.
+fn with_columns<'a>(alloc: Global, command: CommandResult<'a>) -> CommandResult<'a> {
     let columns = Arg::new(alloc, "columns")
         .short('c')
         .long("columns")
         .value_name("NAMES")
-        .default_value(COLUMNS)
-        .help("The columns of movements: article,change or article,kind,number");
+        .help(
+            "The columns of movements, as article,change or article,kind,number; by default what the database keeps, article,change if it is new",
+        );
+    with(command, columns)
+}
+
+// Adds the movements.
+fn with_moves<'a>(alloc: Global, command: CommandResult<'a>) -> CommandResult<'a> {
     let moves = Arg::new(alloc, "MOVES.csv")
         .num_args(0..)
         .action(ArgAction::Append)
         .help(
             "Movements, each file a batch; `-` is standard input, which is read if neither a file nor --from is named",
         );
-    with(with(command, columns), moves)
+    with(with_columns(alloc, command), moves)
 }
 
 // Adds how many decimals numbers have, and what is done with refusals.
@@ -138,18 +172,23 @@ fn with_quiet<'a>(alloc: Global, command: CommandResult<'a>, help: &'a str) -> C
     with(command, quiet)
 }
 
+// Adds `--again`.
+fn with_again<'a>(alloc: Global, command: CommandResult<'a>) -> CommandResult<'a> {
+    let again = Arg::new(alloc, "again")
+        .long("again")
+        .action(ArgAction::SetTrue)
+        .help("Enters a file also if it was entered before");
+    with(command, again)
+}
+
 // Adds the flags of `enter`.
 fn with_flags<'a>(alloc: Global, command: CommandResult<'a>) -> CommandResult<'a> {
     let strict = Arg::new(alloc, "strict")
         .long("strict")
         .action(ArgAction::SetTrue)
         .help("Enters nothing if a movement is refused");
-    let again = Arg::new(alloc, "again")
-        .long("again")
-        .action(ArgAction::SetTrue)
-        .help("Enters a file also if it was entered before");
     let help = "Doesn't say which batches were entered";
-    with_quiet(alloc, with(with(command, strict), again), help)
+    with_quiet(alloc, with_again(alloc, with(command, strict)), help)
 }
 
 fn enter<'a>(alloc: Global) -> CommandResult<'a> {
@@ -159,7 +198,8 @@ fn enter<'a>(alloc: Global) -> CommandResult<'a> {
         "Enters files of movements, each whole or not at all",
     );
     let command = with_moves(alloc, with_start(alloc, command));
-    with_flags(alloc, with_rules(alloc, with_form(alloc, command)))
+    let command = with_encodings(alloc, with_form(alloc, command));
+    with_flags(alloc, with_rules(alloc, command))
 }
 
 // Returns a subcommand that enters one movement.
@@ -172,15 +212,32 @@ fn typed<'a>(alloc: Global, name: &'a str, about: &'a str) -> CommandResult<'a> 
         .required(true)
         .action(ArgAction::Set)
         .help("How many, without a sign, with as many decimals as the database has");
-    let mark = Arg::new(alloc, "mark")
-        .long("mark")
-        .value_name("MARK")
-        .value_parser(MARKS.as_slice())
-        .default_value(".")
-        .help("What is before decimals");
     let command = with(with(job(alloc, name, about), article), number);
     let help = "Doesn't say which batch was entered";
-    with_quiet(alloc, with(command, mark), help)
+    with_quiet(alloc, with_mark(alloc, command), help)
+}
+
+fn count<'a>(alloc: Global) -> CommandResult<'a> {
+    let counted = Arg::new(alloc, "COUNTED.csv").action(ArgAction::Set).help(
+        "The articles with their counted numbers; standard input by default, or with `-`",
+    );
+    let all = Arg::new(alloc, "all")
+        .long("all")
+        .action(ArgAction::SetTrue)
+        .help("An article that isn't named was counted too: there is none of it");
+    let command = job(
+        alloc,
+        "count",
+        "Enters and writes the differences between the stock and what was counted",
+    );
+    let command = with(with(command, counted), all);
+    let command = with_start_columns(
+        alloc,
+        command,
+        "The columns of articles and counted numbers",
+    );
+    let help = "Doesn't say which batch was entered";
+    with_output(alloc, with_quiet(alloc, with_again(alloc, command), help))
 }
 
 fn balance<'a>(alloc: Global) -> CommandResult<'a> {
@@ -258,7 +315,7 @@ fn close<'a>(alloc: Global) -> CommandResult<'a> {
         "close",
         "Begins a new database with the balance of this one",
     );
-    with(command, into)
+    with_columns(alloc, with_form(alloc, with(command, into)))
 }
 
 // Adds the subcommands that show a stock.
@@ -292,5 +349,6 @@ pub fn command<'a>(alloc: Global) -> CommandResult<'a> {
     );
     let put = typed(alloc, "put", "Adds some of an article: enters one movement");
     let command = with_job(with_job(with_job(Ok(command), enter(alloc)), take), put);
+    let command = with_job(command, count(alloc));
     with_checks(alloc, with_views(alloc, command))
 }

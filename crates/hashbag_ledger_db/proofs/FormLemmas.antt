@@ -1,35 +1,38 @@
 -- What the inputs of a call do to a new stock, and to one that is kept.
-use Rattle.std.proofs.Common.{◌≡◌, ℕ, List, [], String, Global, refl, sym, subst}
+use Rattle.std.proofs.Common.{◌≡◌, ℕ, List, [], String, Global, refl, sym, ◌∙◌, ap, subst}
 use Rattle.hashbag_csv.specs.declared.counts.Reading.{Reading}
-use Rattle.hashbag_ledger_args.specs.Readings.{IsReadingOf, asked_decimals}
+use Rattle.hashbag_ledger_args.specs.Readings.{IsReadingOf, asked_style, names_by, plain_names}
 use Rattle.hashbag_ledger_args.specs.declared.job.Job.{Job}
-use Rattle.hashbag_ledger_db.specs.Filed.{IsFiledOf, IsFiledAs, IsFiledAnew, decimals_in}
+use Rattle.hashbag_ledger_db.specs.Filed.{IsFiledOf, IsFiledAs, IsFiledAnew, style_in}
 use Rattle.hashbag_ledger_db.specs.declared.movements.Input.{Input}
 use Rattle.hashbag_ledger_lib.specs.declared.filing.Filed.{Filed}
+use Rattle.hashbag_ledger_lib.specs.declared.reading.Columns.{Columns}
+use Rattle.hashbag_ledger_lib.specs.declared.style.Style.{Style}
 use Rattle.hashbag_stock.specs.declared.tables.Contents.{Contents}
 use Rattle.hashbag_stock.specs.declared.tables.Contents.TheVariants.{Empty, Stock}
 use Rattle.hashbag_stock.specs.declared.tables.Shape.{Shape}
 
-pub filed_as : (job : Job) (n m : ℕ) (reading : Reading) (inputs : List Input) (kept : List (String Global × ℕ)) (filed : Filed)
-    → n ≡ m → IsReadingOf job n reading → IsFiledOf job reading inputs kept filed → IsFiledAs job m inputs kept filed
-filed_as job n m reading inputs kept filed same is all = record {
+pub filed_as : (job : Job) (s t : Style) (given names : Columns (List ℕ)) (kept : Columns (List ℕ)) (reading : Reading) (inputs : List Input) (balance : List (String Global × ℕ)) (filed : Filed)
+    → s ≡ t → given ≡ names_by job names → names ≡ kept → IsReadingOf job s reading → IsFiledOf job reading given inputs balance filed → IsFiledAs job t kept inputs balance filed
+filed_as job s t given names kept reading inputs balance filed same by are is all = record {
   reading = reading;
-  is = subst (λ (k : ℕ). IsReadingOf job k reading) same is;
-  all = all;
+  is = subst (λ (k : Style). IsReadingOf job k reading) same is;
+  all = subst (λ (n : Columns (List ℕ)). IsFiledOf job reading n inputs balance filed) (by ∙ ap (names_by job) are) all;
 }
 
-pub filed_on_kept : (job : Job) (form : Contents) (s shape : Shape) (reading : Reading) (inputs : List Input) (kept balance : List (String Global × ℕ)) (filed : Filed)
-    → form ≡ Stock s → form ≡ Stock shape → kept ≡ balance → IsReadingOf job s.scale reading → IsFiledOf job reading inputs kept filed
-    → IsFiledAs job shape.scale inputs balance filed
-filed_on_kept job form s shape reading inputs kept balance filed was is same read all =
-    let scales : s.scale ≡ shape.scale = cc in
-    filed_as job s.scale shape.scale reading inputs balance filed scales read
-    (subst (λ (b : List (String Global × ℕ)). IsFiledOf job reading inputs b filed) same all)
+pub filed_on_kept : (job : Job) (form : Contents) (s shape : Shape) (given names kept : Columns (List ℕ)) (reading : Reading) (inputs : List Input) (was balance : List (String Global × ℕ)) (filed : Filed)
+    → form ≡ Stock s → form ≡ Stock shape → was ≡ balance → given ≡ names_by job names → names ≡ kept → IsReadingOf job s.style reading → IsFiledOf job reading given inputs was filed
+    → IsFiledAs job shape.style kept inputs balance filed
+filed_on_kept job form s shape given names kept reading inputs was balance filed was_form is same by are read all =
+    let styles : s.style ≡ shape.style = cc in
+    filed_as job s.style shape.style given names kept reading inputs balance filed styles by are read
+    (subst (λ (b : List (String Global × ℕ)). IsFiledOf job reading given inputs b filed) same all)
 
-pub filed_by_form : (job : Job) (form : Contents) (inputs : List Input) (balance : List (String Global × ℕ)) (filed : Filed)
-    → (form ≡ Empty → balance ≡ []) → (form ≡ Empty → IsFiledAnew job inputs filed)
-    → ((shape : Shape) → form ≡ Stock shape → IsFiledAs job shape.scale inputs balance filed)
-    → IsFiledAs job (decimals_in form job) inputs balance filed
-filed_by_form job Empty inputs balance filed none anew kept =
-    subst (λ (b : List (String Global × ℕ)). IsFiledAs job (asked_decimals job) inputs b filed) (sym (none refl)) (anew refl)
-filed_by_form job (Stock shape) inputs balance filed none anew kept = kept shape refl
+pub filed_by_form : (job : Job) (form : Contents) (inputs : List Input) (names : Columns (List ℕ)) (balance : List (String Global × ℕ)) (filed : Filed)
+    → (form ≡ Empty → balance ≡ []) → (form ≡ Empty → names ≡ plain_names) → (form ≡ Empty → IsFiledAnew job inputs filed)
+    → ((shape : Shape) → form ≡ Stock shape → IsFiledAs job shape.style names inputs balance filed)
+    → IsFiledAs job (style_in form job) names inputs balance filed
+filed_by_form job Empty inputs names balance filed none plain anew kept =
+    subst (λ (n : Columns (List ℕ)). IsFiledAs job (asked_style job) n inputs balance filed) (sym (plain refl))
+    (subst (λ (b : List (String Global × ℕ)). IsFiledAs job (asked_style job) plain_names inputs b filed) (sym (none refl)) (anew refl))
+filed_by_form job (Stock shape) inputs names balance filed none plain anew kept = kept shape refl

@@ -1,3 +1,4 @@
+pub mod CountedLemmas
 pub mod FiledLemmas
 pub mod FormLemmas
 pub mod InputLemmas

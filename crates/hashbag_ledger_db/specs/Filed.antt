@@ -1,24 +1,26 @@
 -- What the inputs of a call do to the balance that is kept.
-use Rattle.std.specs.Prelude.{◌≡◌, ℕ, ◌^◌, ◌-◌, nat_lt, if◌then◌else◌, Bool, List, [], length, map, vec_len, String, string_cmp}
+use Rattle.std.specs.Prelude.{◌≡◌, ℕ, ◌^◌, ◌-◌, nat_lt, if◌then◌else◌, Bool, List, [], length, map, vec_len, String, string_cmp, Option, IfSome, IsSomeAnd}
 use Rattle.std.specs.Global.{Global, Vec}
 use Rattle.std.specs.String.{string_eq}
 use Rattle.hashbag_csv.specs.declared.counts.Reading.{Reading}
-use Rattle.hashbag_ledger_args.specs.Readings.{IsReadingOf, asked_decimals}
+use Rattle.hashbag_ledger_args.specs.Readings.{IsReadingOf, asked_style, kept_names, names_by, plain_names}
 use Rattle.hashbag_ledger_args.specs.declared.job.Job.{Job}
 use Rattle.hashbag_ledger_db.specs.declared.entering.Ready.{Ready}
 use Rattle.hashbag_ledger_db.specs.declared.movements.Input.{Input}
 use Rattle.hashbag_ledger_lib.specs.Batches.{all_of}
 use Rattle.hashbag_ledger_lib.specs.Changes.{AreChanges, Rises}
 use Rattle.hashbag_ledger_lib.specs.Entries.{IsBooked, refusals_in}
-use Rattle.hashbag_ledger_lib.specs.Movements.{columns_by, movements_in, said}
+use Rattle.hashbag_ledger_lib.specs.Movements.{movements_in, said}
 use Rattle.hashbag_ledger_lib.specs.Numbers.{plain}
 use Rattle.hashbag_ledger_lib.specs.declared.filing.Filed.{Filed}
 use Rattle.hashbag_ledger_lib.specs.declared.movements.Change.{Change}
 use Rattle.hashbag_ledger_lib.specs.declared.movements.Movement.{Movement}
 use Rattle.hashbag_ledger_lib.specs.declared.reading.ChangeColumns.TheVariants.{Signed}
 use Rattle.hashbag_ledger_lib.specs.declared.reading.Columns.{Columns}
+use Rattle.hashbag_ledger_lib.specs.declared.style.Style.{Style}
 use Rattle.hashbag_stock.specs.declared.tables.Contents.{Contents}
 use Rattle.hashbag_stock.specs.declared.tables.Contents.TheVariants.{Empty, Stock}
+use Rattle.hashbag_stock.specs.declared.tables.Shape.{Shape}
 
 -- a movement as a row has it: `Out 0` is `In 0`
 abbrev pub plain_movement : Movement (String Global) → Movement (String Global)
@@ -28,47 +30,52 @@ plain_movement m = record { place = m.place; article = m.article; change = plain
 abbrev pub plain_said : List ℕ × Change → List ℕ × Change
 plain_said m = (m.0, plain m.1)
 
--- the names of the columns of an input; the stock at the beginning has its own
-abbrev pub names_of : Job → Input → Columns (List ℕ)
-names_of job input = if input.is_start then record { article = job.start_columns.0.now; change = Signed job.start_columns.1.now } else columns_by (λ n. n.now) job.columns
+-- the names of the columns of the stock at the beginning, and of what was counted
+abbrev pub start_names : Job → Columns (List ℕ)
+start_names job = record { article = job.start_columns.0.now; change = Signed job.start_columns.1.now }
+
+-- the names of the columns of an input, if those of movements are these; the stock at the beginning has its own
+abbrev pub names_of : Job → Columns (List ℕ) → Input → Columns (List ℕ)
+names_of job names input = if input.is_start then start_names job else names
 
 -- the movements of an input, as rows have them
-abbrev pub rows_in : Job → Reading → Input → List (List ℕ × Change)
-rows_in job reading input = map plain_said (movements_in reading (names_of job input) input.text.items)
+abbrev pub rows_in : Job → Reading → Columns (List ℕ) → Input → List (List ℕ × Change)
+rows_in job reading names input = map plain_said (movements_in reading (names_of job names input) input.text.items)
 
 -- these are the movements of the inputs, in turn
-abbrev pub AreMovementsOf : Job → Reading → List Input → List (Vec (Movement (String Global))) → Type 0
-AreMovementsOf job reading inputs files = map (λ f. map said f.items) files ≡ map (rows_in job reading) inputs
+abbrev pub AreMovementsOf : Job → Reading → Columns (List ℕ) → List Input → List (Vec (Movement (String Global))) → Type 0
+AreMovementsOf job reading names inputs files = map (λ f. map said f.items) files ≡ map (rows_in job reading names) inputs
 
 -- all movements of all inputs were booked, in turn, on the balance that is kept: what becomes of its rows, and how many each input has
-pub record IsFiledOf (job : Job) (reading : Reading) (inputs : List Input) (kept : List (String Global × ℕ)) (filed : Filed) : Type 0 where
+pub record IsFiledOf (job : Job) (reading : Reading) (names : Columns (List ℕ)) (inputs : List Input) (kept : List (String Global × ℕ)) (filed : Filed) : Type 0 where
   pub files : List (Vec (Movement (String Global)))
-  pub read : AreMovementsOf job reading inputs files
+  pub read : AreMovementsOf job reading names inputs files
   pub booked : IsBooked string_eq string_cmp (2 ^ 63 - 1) kept (all_of files) filed.booked.balance.items filed.booked.entries.items
   pub changed : Rises kept → AreChanges kept filed.booked.balance.items filed.changed.items
   pub counts : filed.counts.items ≡ map (λ f. vec_len f) files
 
--- they were read as the job says, with n decimals
-pub record IsFiledAs (job : Job) (n : ℕ) (inputs : List Input) (kept : List (String Global × ℕ)) (filed : Filed) : Type 0 where
+-- they were read by the options of the job, and else as it is kept: `style` is how files are written, `names` are the columns of movements
+pub record IsFiledAs (job : Job) (style : Style) (names : Columns (List ℕ)) (inputs : List Input) (kept : List (String Global × ℕ)) (filed : Filed) : Type 0 where
   pub reading : Reading
-  pub is : IsReadingOf job n reading
-  pub all : IsFiledOf job reading inputs kept filed
+  pub is : IsReadingOf job style reading
+  pub all : IsFiledOf job reading (names_by job names) inputs kept filed
 
--- on an empty stock, with as many decimals as the job asks for
+-- on an empty stock, which keeps nothing but as many decimals as the job asks for
 abbrev pub IsFiledAnew : Job → List Input → Filed → Type 0
-IsFiledAnew job inputs filed = IsFiledAs job (asked_decimals job) inputs [] filed
+IsFiledAnew job inputs filed = IsFiledAs job (asked_style job) plain_names inputs [] filed
 
--- the decimals of a stock: a new one has as many as the job asks for
-abbrev pub decimals_in : Contents → Job → ℕ
-decimals_in Empty job = asked_decimals job
-decimals_in (Stock shape) job = shape.scale
+-- how the files of a stock are written: those of a new one have as many decimals as the job asks for
+abbrev pub style_in : Contents → Job → Style
+style_in Empty job = asked_style job
+style_in (Stock shape) job = shape.style
 
--- on the balance that was read of the database, and with its decimals
+-- on the balance that was read of the database, and read by the columns that it keeps, the decimals, the delimiter and the mark
 pub record IsFiledIn (job : Job) (form : Contents) (inputs : List Input) (ready : Ready) : Type 0 where
   pub is : ready.before.form ≡ form
   pub empty : form ≡ Empty → ready.before.balance.items ≡ []
+  pub new : form ≡ Empty → kept_names ready.before.columns ≡ plain_names
   pub rising : Rises ready.before.balance.items
-  pub all : IsFiledAs job (decimals_in form job) inputs ready.before.balance.items ready.filed
+  pub all : IsFiledAs job (style_in form job) (kept_names ready.before.columns) inputs ready.before.balance.items ready.filed
 
 -- whether a movement was refused
 abbrev pub has_refusal : Filed → Bool
@@ -77,3 +84,15 @@ has_refusal filed = nat_lt 0 (length (refusals_in filed.booked.entries.items))
 -- the status of a run: 1 after a refusal, else 0
 abbrev pub status_after : Filed → ℕ
 status_after filed = if has_refusal filed then 1 else 0
+
+-- what was filed, if anything was, is what the inputs do to an empty stock
+abbrev pub IsAnewIfThere : Job → List Input → Option Filed → Type 0
+IsAnewIfThere job inputs anew = IfSome anew (IsFiledAnew job inputs)
+
+-- P of the shape of a stock, if the database has one
+abbrev pub IfStock : Contents → (Shape → Type 0) → Type 0
+IfStock form P = (shape : Shape) → form ≡ Stock shape → P shape
+
+-- it is there, and is what the inputs do to the balance that was read of the database
+abbrev pub IsThereAsFiled : Job → Contents → List Input → Option Ready → Type 0
+IsThereAsFiled job form inputs ready = IsSomeAnd ready (IsFiledIn job form inputs)

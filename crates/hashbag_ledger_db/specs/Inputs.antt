@@ -1,17 +1,26 @@
 -- The inputs of a call: which they are, and what is known of each.
-use Rattle.std.specs.Prelude.{◌≡◌, ◌++◌, ℕ, Bool, true, false, List, All, map, string_bytes}
+use Rattle.std.specs.Prelude.{◌≡◌, ◌++◌, ℕ, Bool, true, false, List, All, map, Option, Some, string_bytes}
 use Rattle.std.specs.Option.{option_to_list}
 use Rattle.hex.specs.Hex.{encode_lower}
 use Rattle.sha2.specs.Sha256.{sha256}
+use Rattle.hashbag_ledger_args.specs.Readings.{encoding_of}
 use Rattle.hashbag_ledger_args.specs.declared.job.Job.{Job}
 use Rattle.hashbag_ledger_db.specs.Filed.{IsFiledIn}
 use Rattle.hashbag_ledger_db.specs.declared.entering.Ready.{Ready}
 use Rattle.hashbag_ledger_db.specs.declared.movements.Input.{Input}
 use Rattle.hashbag_stock.specs.declared.tables.Contents.{Contents}
+use Rattle.hashbag_text.specs.Encodings.{text_in}
+use Rattle.hashbag_text.specs.declared.encoding.Encoding.{Encoding}
 
--- an input's sum is the SHA-256 of its bytes, in hexadecimal digits
-abbrev pub HasSum : Input → Type 0
-HasSum input = string_bytes input.sha256 ≡ encode_lower (sha256 input.text.items)
+-- an input has the text of these bytes, and their SHA-256, in hexadecimal digits
+abbrev pub IsTextOf : Option Encoding → List ℕ → Input → Type 0
+IsTextOf encoding bytes input = (text_in encoding bytes ≡ Some input.text.items) × (string_bytes input.sha256 ≡ encode_lower (sha256 bytes))
+
+-- an input was read from its file
+pub record IsRead (gives : List ℕ → List ℕ → Type 0) (job : Job) (input : Input) : Type 0 where
+  pub bytes : List ℕ
+  pub given : gives input.file.now bytes
+  pub text : IsTextOf (encoding_of job input.is_start) bytes input
 
 -- the input of this name, which is the stock at the beginning or a file of movements
 abbrev pub named : Input → List ℕ × Bool
@@ -21,11 +30,10 @@ named input = (input.file.now, input.is_start)
 abbrev pub names_in : Job → List (List ℕ × Bool)
 names_in job = map (λ file. (file.now, true)) (option_to_list job.from) ++ map (λ file. (file.now, false)) job.files.items
 
--- these are the inputs that a job names, each with the bytes of its file and their sum
+-- these are the inputs that a job names, each with the text of its file and the sum of its bytes
 pub record AreInputsOf (gives : List ℕ → List ℕ → Type 0) (job : Job) (inputs : List Input) : Type 0 where
   pub are : map named inputs ≡ names_in job
-  pub given : All (λ input. gives input.file.now input.text.items) inputs
-  pub summed : All HasSum inputs
+  pub read : All (IsRead gives job) inputs
 
 -- what all inputs that a job names do to what its database has
 pub record IsReadyOf (gives : List ℕ → List ℕ → Type 0) (has : List ℕ → Contents → Type 0) (job : Job) (ready : Ready) : Type 0 where

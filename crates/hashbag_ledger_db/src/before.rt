@@ -1,15 +1,20 @@
 //! What a database has before the inputs of a job are entered. Only [`before_in`] makes a `Before`, so it is what was read.
 ghost use Rattle.std.specs.Prelude.{◌≡◌, [], IfOk};
+ghost use Rattle.hashbag_ledger_args.specs.Readings.{kept_names, plain_names};
 ghost use Rattle.hashbag_ledger_lib.specs.Changes.{Rises};
+ghost use Rattle.hashbag_ledger_lib.specs.Movements.{columns_by};
 
 use crate::failure::Failure;
 use crate::movements::{Input, is_once};
 use crate::putting::in_database;
 use crate::said::movements_in;
+use hashbag_ledger_args::columns::{KeptColumns, plain_columns};
 use hashbag_ledger_args::job::Job;
 use hashbag_ledger_lib::once::{Batch, entered_before, next_number};
+use hashbag_ledger_lib::reading::Columns;
+use hashbag_stock::error::StockError;
 use hashbag_stock::reading::{balance_of, batches_of};
-use hashbag_stock::tables::Contents;
+use hashbag_stock::tables::{Contents, Shape, columns_of};
 use sqlite::{Alter, Connection};
 use std::alloc::Global;
 
@@ -18,6 +23,8 @@ use std::alloc::Global;
 pub struct Before {
     form: Contents,
     balance: Vec<(String, usize)>,
+    // The columns of movements that it keeps.
+    columns: KeptColumns,
     // The number of the next batch.
     number: i64,
     movements: u64,
@@ -29,6 +36,13 @@ impl Before {
         ensures { result.now ≡ self.now.balance.items }
     {
         self.balance.as_slice()
+    }
+
+    /// Returns the names of the columns of movements that the database keeps.
+    pub fn names(&self) -> Columns<&str>
+        ensures { columns_by (λ n. n.now) result ≡ kept_names self.now.columns }
+    {
+        self.columns.names()
     }
 
     /// Returns the number of the next batch.
@@ -76,6 +90,29 @@ pub(crate) fn entered_twice<'a>(
     Ok(())
 }
 
+/// Returns the columns of movements that a stock keeps, or the default ones.
+///
+/// # Errors
+///
+/// `Damaged` if these aren't two or three names. Else what fails.
+pub fn kept_columns<'a, D: Alter>(
+    alloc: Global,
+    db: &'a str,
+    conn: &mut Connection<D>,
+    shape: Shape,
+) -> Result<KeptColumns, Failure<'a>> {
+    let Some(names) = in_database(db, columns_of(conn, shape))? else {
+        return Ok(KeptColumns::copy_of(alloc, plain_columns())?);
+    };
+    match KeptColumns::named(alloc, names.as_str())? {
+        Some(columns) => Ok(columns),
+        None => Err(Failure::Stock {
+            db,
+            error: StockError::Damaged("no two or three columns in the table meta"),
+        }),
+    }
+}
+
 /// Returns what an open database has, if the inputs may be entered into it.
 ///
 /// # Errors
@@ -90,12 +127,14 @@ pub fn before_in<'a, D: Alter>(
 ) -> Result<Before, Failure<'a>>
     ensures form { IfOk result (λ before. before.form ≡ form) }
     ensures empty { form ≡ Contents.Empty → IfOk result (λ before. before.balance.items ≡ []) }
+    ensures new { form ≡ Contents.Empty → IfOk result (λ before. kept_names before.columns ≡ plain_names) }
     ensures rising { IfOk result (λ before. Rises before.balance.items) }
 {
     let Contents::Stock(shape) = form else {
         return Ok(Before {
             form,
             balance: Vec::new(alloc),
+            columns: KeptColumns::copy_of(alloc, plain_columns())?,
             number: 1,
             movements: 0,
         });
@@ -111,6 +150,7 @@ pub fn before_in<'a, D: Alter>(
     Ok(Before {
         form,
         balance: in_database(db, balance_of(alloc, conn))?,
+        columns: kept_columns(alloc, db, conn, shape)?,
         number: next_number(&batches),
         movements: movements_in(&batches),
     })

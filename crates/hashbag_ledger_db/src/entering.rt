@@ -1,9 +1,11 @@
 //! Files that are entered into a stock, in an open database.
-ghost use Rattle.std.specs.Prelude.{◌≡◌, [], None, IfOk, IfSome, IsSomeAnd};
+ghost use Rattle.std.specs.Prelude.{◌≡◌, [], None, IfOk, IsSomeAnd};
 ghost use Rattle.hashbag_stock.specs.declared.tables.Shape.{Shape};
-ghost use Rattle.hashbag_ledger_db.specs.Filed.{AreMovementsOf, IsFiledOf, IsFiledAs, IsFiledAnew, IsFiledIn, has_refusal, status_after};
+ghost use Rattle.hashbag_ledger_args.specs.Readings.{kept_names};
+ghost use Rattle.hashbag_ledger_db.specs.Filed.{AreMovementsOf, IsFiledOf, IsFiledAs, IsFiledAnew, IsFiledIn, has_refusal, status_after, IfStock, IsAnewIfThere, IsThereAsFiled};
+ghost use Rattle.hashbag_ledger_lib.specs.Movements.{columns_by};
 
-use crate::before::{Before, before_in, entered_twice};
+use crate::before::{Before, before_in, entered_twice, kept_columns};
 use crate::failure::Failure;
 use crate::movements::{Input, input_of, movements_of};
 use crate::putting::{in_database, put};
@@ -11,6 +13,7 @@ use crate::said::entered_text;
 use hashbag_csv::counts::Reading;
 use hashbag_csv::decimals::write_decimal;
 use hashbag_csv::fault::{Fault, SheetError, in_file};
+use hashbag_ledger_args::columns::{KeptColumns, columns_text, plain_columns};
 use hashbag_ledger_args::job::Job;
 use hashbag_ledger_lib::entering::LedgerError;
 use hashbag_ledger_lib::filing::{Filed, enter_files, refusals_of};
@@ -19,13 +22,14 @@ use hashbag_ledger_lib::movements::Movement;
 use hashbag_ledger_lib::numbers::MOST;
 use hashbag_ledger_lib::once::Kind;
 use hashbag_ledger_lib::output::{balance_text, refusals_table, refusals_text};
+use hashbag_ledger_lib::reading::Columns;
 use hashbag_ledger_lib::sealing::{Draft, sealed_rows};
 use hashbag_shell::status::{DENIED, DONE};
 use hashbag_shell::trouble::Trouble;
 use hashbag_stock::error::StockError;
-use hashbag_stock::reading::time_of;
+use hashbag_stock::reading::{balance_of, time_of};
 use hashbag_stock::tables::{Contents, Shape};
-use hashbag_stock::writing::NewRows;
+use hashbag_stock::writing::{NewRows, NewStock};
 use sqlite::{Alter, Connection};
 use std::alloc::{AllocError, Global};
 use std::hash::BuildHasher;
@@ -52,8 +56,13 @@ pub struct Report {
     pub ready: Option<Ready>,
 }
 
-// Returns the failure for a line that takes the total past the maximum.
-fn too_large<'a>(alloc: Global, file: &'a str, line: u64, reading: Reading) -> Failure<'a> {
+/// Returns the failure for a line that takes the total past the maximum.
+pub(crate) fn too_large<'a>(
+    alloc: Global,
+    file: &'a str,
+    line: u64,
+    reading: Reading,
+) -> Failure<'a> {
     match write_decimal(alloc, MOST, reading.scale) {
         Ok(most) => {
             let fault = Fault::TotalPastMost(most);
@@ -80,13 +89,15 @@ fn all_movements<'a>(
     alloc: Global,
     request: &Job<'a>,
     inputs: &[Input<'a>],
+    columns: Columns<&str>,
     reading: Reading,
 ) -> Result<(Vec<Vec<Movement<String>>>, Option<Failure<'a>>), Failure<'a>>
-    ensures { IfOk result (λ all. all.1 ≡ None → AreMovementsOf request.now reading inputs.now all.0.items) }
+    ensures { IfOk result (λ all. all.1 ≡ None
+        → AreMovementsOf request.now reading (columns_by (λ n. n.now) columns.entry) inputs.now all.0.items) }
 {
     let mut files = Vec::new(alloc);
     for i in 0..inputs.len() {
-        match movements_of(alloc, request, &inputs[i], i, reading) {
+        match movements_of(alloc, request, &inputs[i], i, columns, reading) {
             Ok(movements) => files.push(movements).map_err(AllocError::from)?,
             Err(failure) => return Ok((files, Some(failure))),
         }
@@ -121,12 +132,14 @@ fn filed_of<'a, S: BuildHasher + Drop>(
     state: S,
     request: &Job<'a>,
     inputs: &[Input<'a>],
+    columns: Columns<&str>,
     reading: Reading,
     kept: &[(String, usize)],
 ) -> Result<Filed, Failure<'a>>
-    ensures { IfOk result (λ filed. IsFiledOf request.now reading inputs.now kept.now filed) }
+    ensures { IfOk result (λ filed.
+        IsFiledOf request.now reading (columns_by (λ n. n.now) columns.entry) inputs.now kept.now filed) }
 {
-    let (files, bad) = all_movements(alloc, request, inputs, reading)?;
+    let (files, bad) = all_movements(alloc, request, inputs, columns, reading)?;
     let filed = match enter_files(alloc, state, kept, files) {
         Ok(filed) => filed,
         Err(error) => return Err(failure_of(alloc, request.db, inputs, reading, error)),
@@ -137,21 +150,30 @@ fn filed_of<'a, S: BuildHasher + Drop>(
     }
 }
 
-// Returns what holds of the rows of the stock, and how many decimals a new one is made with.
-fn shape_of<'a>(request: &Job<'a>, form: Contents) -> Result<(Shape, Option<u32>), Failure<'a>> {
+// Returns what holds of the rows of the stock.
+fn shape_of<'a>(request: &Job<'a>, form: Contents) -> Result<Shape, Failure<'a>> {
     let db = request.db;
     match (form, request.scale) {
-        (Contents::Empty, asked) => {
-            let scale = asked.unwrap_or(0);
-            let is_sealed = true;
-            Ok((Shape { scale, is_sealed }, Some(scale)))
+        (Contents::Empty, _) => Ok(Shape::of_new(request.style(request.asked_style()))),
+        (Contents::Stock(shape), Some(asked)) if shape.style.scale != asked => {
+            Err(Failure::OtherScale {
+                db,
+                kept: shape.style.scale,
+                asked,
+            })
         }
-        (Contents::Stock(shape), Some(asked)) if shape.scale != asked => Err(Failure::OtherScale {
-            db,
-            kept: shape.scale,
-            asked,
+        (Contents::Stock(shape), _) => Ok(shape),
+    }
+}
+
+// Returns what a stock of this shape keeps with these columns, if it is new.
+fn new_stock_of(form: Contents, shape: Shape, columns: &str) -> Option<NewStock<'_>> {
+    match form {
+        Contents::Empty => Some(NewStock {
+            style: shape.style,
+            columns,
         }),
-        (Contents::Stock(shape), _) => Ok((shape, None)),
+        Contents::Stock(_) => None,
     }
 }
 
@@ -190,7 +212,7 @@ fn write<'a, D: Alter>(
     conn: &mut Connection<D>,
     db: &'a str,
     shape: Shape,
-    new_scale: Option<u32>,
+    new_stock: Option<NewStock<'_>>,
     inputs: &[Input<'a>],
     ready: &Ready,
 ) -> Result<String, Failure<'a>> {
@@ -198,7 +220,7 @@ fn write<'a, D: Alter>(
     let (before, filed) = (&ready.before, &ready.filed);
     let drafts = drafts_of(alloc, inputs, &filed.counts, before.number(), time.as_str())?;
     let entries = &filed.booked.entries;
-    let batches = sealed_rows(alloc, shape.scale, &drafts, entries)?;
+    let batches = sealed_rows(alloc, shape.style.scale, &drafts, entries)?;
     let new = NewRows {
         is_sealed: shape.is_sealed,
         batches: &batches,
@@ -206,7 +228,7 @@ fn write<'a, D: Alter>(
         changed: &filed.changed,
     };
     let said = entered_text(alloc, db, before.movements(), &batches)?;
-    put(db, conn, new_scale, &new)?;
+    put(db, conn, new_stock, &new)?;
     Ok(said)
 }
 
@@ -263,8 +285,9 @@ pub fn filed_anew<'a, S: BuildHasher + Drop>(
     // All movements of all inputs are booked, read as the job says.
     ensures { IfOk result (IsFiledAnew request.now inputs.now) }
 {
-    let reading = request.reading(request.scale.unwrap_or(0));
-    let filed = filed_of(alloc, state, request, inputs, reading, &[])?;
+    let reading = request.reading(request.asked_style());
+    let columns = request.columns_or(plain_columns());
+    let filed = filed_of(alloc, state, request, inputs, columns, reading, &[])?;
     if !request.again {
         entered_twice(inputs, &[])?;
     }
@@ -281,17 +304,25 @@ fn filed_in<'a, S: BuildHasher + Drop>(
     form: Contents,
     anew: Option<Filed>,
 ) -> Result<Filed, Failure<'a>>
-    ensures empty { form ≡ Contents.Empty → IfSome anew (IsFiledAnew request.now inputs.now)
-        → IfOk result (IsFiledAnew request.now inputs.now) }
-    ensures stock { (shape : Shape) → form ≡ Contents.Stock shape
-        → IfOk result (IsFiledAs request.now shape.scale inputs.now before.now.balance.items) }
+    ensures empty { form ≡ Contents.Empty → IsAnewIfThere request.now inputs.now anew → IfOk result (IsFiledAnew request.now inputs.now) }
+    ensures stock { IfStock form (λ shape. IfOk result
+        (IsFiledAs request.now shape.style (kept_names before.now.columns) inputs.now before.now.balance.items)) }
 {
     match (form, anew) {
         (Contents::Empty, Some(filed)) => Ok(filed),
         (Contents::Empty, None) => filed_anew(alloc, state, request, inputs),
         (Contents::Stock(shape), _) => {
-            let reading = request.reading(shape.scale);
-            filed_of(alloc, state, request, inputs, reading, before.balance())
+            let reading = request.reading(shape.style);
+            let columns = request.columns_or(before.names());
+            filed_of(
+                alloc,
+                state,
+                request,
+                inputs,
+                columns,
+                reading,
+                before.balance(),
+            )
         }
     }
 }
@@ -307,8 +338,7 @@ fn ready_in<'a, D: Alter, S: BuildHasher + Drop>(
     form: Contents,
     anew: Option<Filed>,
 ) -> Result<Ready, Failure<'a>>
-    ensures { IfSome anew (IsFiledAnew request.now inputs.now)
-        → IfOk result (IsFiledIn request.now form inputs.now) }
+    ensures { IsAnewIfThere request.now inputs.now anew → IfOk result (IsFiledIn request.now form inputs.now) }
 {
     let before = before_in(alloc, request, inputs, conn, form)?;
     let filed = filed_in(alloc, state, request, inputs, &before, form, anew)?;
@@ -332,22 +362,24 @@ pub fn report_in<'a, D: Alter, S: BuildHasher + Drop>(
 ) -> Result<Report, Failure<'a>>
     // If `anew` is what the inputs do to an empty stock, as `filed_anew` returns it, then `ready` is what they do to the balance that was
     // read: all movements of all inputs are booked on it.
-    ensures filed { IfSome anew (IsFiledAnew request.now inputs.now)
-        → IfOk result (λ report. IsSomeAnd report.ready (IsFiledIn request.now form inputs.now)) }
+    ensures filed { IsAnewIfThere request.now inputs.now anew
+        → IfOk result (λ r. IsThereAsFiled request.now form inputs.now r.ready) }
 
     // It is 1 exactly if a movement is refused.
     ensures status { IfOk result (λ report. IsSomeAnd report.ready (λ ready.
         report.status ≡ status_after ready.filed)) }
 {
     let db = request.db;
-    let (shape, new_scale) = shape_of(request, form)?;
+    let shape = shape_of(request, form)?;
     let ready = ready_in(alloc, state, request, inputs, conn, form, anew)?;
-    let reading = request.reading(shape.scale);
+    let reading = request.reading(shape.style);
     let refusals = text_of(alloc, request, inputs, reading, &ready.filed)?;
     let said = if request.strict && is_refused(&ready.filed) {
         String::new(alloc)
     } else {
-        write(alloc, conn, db, shape, new_scale, inputs, &ready)?
+        let columns = columns_text(alloc, request.columns_or(ready.before.names()))?;
+        let new_stock = new_stock_of(form, shape, columns.as_str());
+        write(alloc, conn, db, shape, new_stock, inputs, &ready)?
     };
     Ok(Report {
         refusals,
@@ -371,12 +403,42 @@ pub fn denied_report(
     ensures ready { IfOk result (λ report. report.ready ≡ None) }
     ensures status { IfOk result (λ report. report.status ≡ 1) }
 {
-    let reading = request.reading(request.scale.unwrap_or(0));
+    let reading = request.reading(request.asked_style());
     Ok(Report {
         refusals: text_of(alloc, request, inputs, reading, filed)?,
         said: String::new(alloc),
         status: DENIED,
         ready: None,
+    })
+}
+
+/// What a stock leaves to the one that follows it.
+#[derive(Drop)]
+pub struct Closed {
+    /// The shape of the closed stock.
+    pub shape: Shape,
+    /// The columns of movements that it keeps.
+    pub columns: KeptColumns,
+    /// Its balance.
+    pub balance: Vec<(String, usize)>,
+}
+
+/// Returns what an open stock leaves to the one that follows it.
+///
+/// # Errors
+///
+/// Why it can't be read.
+pub fn closed_in<'a, D: Alter>(
+    alloc: Global,
+    request: &Job<'a>,
+    shape: Shape,
+    conn: &mut Connection<D>,
+) -> Result<Closed, Failure<'a>> {
+    let db = request.db;
+    Ok(Closed {
+        shape,
+        columns: kept_columns(alloc, db, conn, shape)?,
+        balance: in_database(db, balance_of(alloc, conn))?,
     })
 }
 
@@ -388,15 +450,14 @@ pub fn denied_report(
 pub fn beginning_of<'a>(
     alloc: Global,
     request: &Job<'a>,
-    scale: u32,
-    balance: &[(String, usize)],
-) -> Result<Input<'a>, AllocError> {
-    let reading = request.reading(scale);
-    let text = balance_text(alloc, ("article", "number"), reading, balance)?;
-    input_of(alloc, request.db, text, true)
+    closed: &Closed,
+) -> Result<Input<'a>, Failure<'a>> {
+    let reading = request.reading(closed.shape.style);
+    let text = balance_text(alloc, ("article", "number"), reading, &closed.balance)?;
+    input_of(alloc, request.db, text, None, true)
 }
 
-/// Writes the first batch of a new database.
+/// Writes the first batch of a new database, which keeps what the closed one kept, and what the job names in place of it.
 ///
 /// # Errors
 ///
@@ -405,26 +466,20 @@ pub fn begin_in<'a, D: Alter, S: BuildHasher + Drop>(
     alloc: Global,
     state: S,
     request: &Job<'a>,
-    scale: u32,
+    closed: &Closed,
     inputs: &[Input<'a>],
     conn: &mut Connection<D>,
 ) -> Result<(), Failure<'a>> {
-    let shape = Shape {
-        scale,
-        is_sealed: true,
-    };
+    let (form, db) = (Contents::Empty, request.into);
+    let reading = request.reading(closed.shape.style);
+    let columns = request.columns_or(closed.columns.names());
     let ready = Ready {
-        before: before_in(alloc, request, inputs, conn, Contents::Empty)?,
-        filed: filed_of(alloc, state, request, inputs, request.reading(scale), &[])?,
+        before: before_in(alloc, request, inputs, conn, form)?,
+        filed: filed_of(alloc, state, request, inputs, columns, reading, &[])?,
     };
-    write(
-        alloc,
-        conn,
-        request.into,
-        shape,
-        Some(scale),
-        inputs,
-        &ready,
-    )?;
+    let shape = Shape::of_new(request.style(closed.shape.style));
+    let text = columns_text(alloc, columns)?;
+    let new_stock = new_stock_of(form, shape, text.as_str());
+    write(alloc, conn, db, shape, new_stock, inputs, &ready)?;
     Ok(())
 }

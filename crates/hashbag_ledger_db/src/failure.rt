@@ -39,6 +39,12 @@ pub enum Failure<'a> {
     HasStock {
         db: &'a str,
     },
+    /// The tables of the stock are of a version that has no counts.
+    #[error("{db}: tables of version {version} take no count: `close --into NEW` makes newer ones")]
+    NoCounts {
+        db: &'a str,
+        version: i64,
+    },
     /// The numbers of the stock have another scale.
     #[error("{db}: numbers have {kept} decimals, not {asked}")]
     OtherScale {
@@ -114,6 +120,7 @@ impl Failure<'_> {
             Failure::Conflict(_)
             | Failure::NoStock { .. }
             | Failure::HasStock { .. }
+            | Failure::NoCounts { .. }
             | Failure::OtherScale { .. }
             | Failure::NoBatch { .. }
             | Failure::NoBatchNamed => BAD_INPUT,

@@ -2,7 +2,7 @@
 ghost use Rattle.std.specs.Prelude.{◌≡◌, ℕ, List, None, true, IfOk, IfSome};
 ghost use Rattle.hashbag_stock.specs.declared.tables.Contents.{Contents};
 ghost use Rattle.hashbag_ledger_db.specs.Filed.{status_after};
-ghost use Rattle.hashbag_ledger_db.specs.Inputs.{AreInputsOf, IsReadyOf};
+ghost use Rattle.hashbag_ledger_db.specs.Inputs.{AreInputsOf, IsRead, IsReadyOf, named};
 
 use crate::entering::{Report, denied_report, filed_anew, is_refused, report_in};
 use crate::failure::Failure;
@@ -48,6 +48,21 @@ pub trait Files<C> {
     fn close(&self, conn: C);
 }
 
+// Reads the stock at the beginning, or a file of movements.
+fn read_input<'a, C, F: Files<C>>(
+    alloc: Global,
+    files: &F,
+    request: &Job<'_>,
+    file: &'a str,
+    is_start: bool,
+) -> Result<Input<'a>, Failure<'a>>
+    ensures named { IfOk result (λ input. named input ≡ (file.now, is_start)) }
+    ensures read { IfOk result (IsRead (F.gives files.now) request.now) }
+{
+    let bytes = files.read(file)?;
+    input_of(alloc, file, bytes, request.encoding_of(is_start), is_start)
+}
+
 // Reads the stock at the beginning, if there is one, and all files of movements.
 fn inputs_of<'a, C, F: Files<C>>(
     alloc: Global,
@@ -58,10 +73,10 @@ fn inputs_of<'a, C, F: Files<C>>(
 {
     let mut inputs = Vec::new(alloc);
     if let Some(file) = request.from {
-        inputs.push(input_of(alloc, file, files.read(file)?, true)?)?;
+        inputs.push(read_input::<C, F>(alloc, files, request, file, true)?)?;
     }
     for file in &request.files {
-        inputs.push(input_of(alloc, *file, files.read(*file)?, false)?)?;
+        inputs.push(read_input::<C, F>(alloc, files, request, *file, false)?)?;
     }
     Ok(inputs)
 }

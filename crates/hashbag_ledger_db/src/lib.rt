@@ -3,6 +3,7 @@
 #![tactic(auto)]
 
 pub mod before;
+pub mod counting;
 pub mod entering;
 pub mod failure;
 pub mod files;

@@ -1,8 +1,8 @@
 //! The movements of the inputs.
 ghost use Rattle.std.specs.Prelude.{◌≡◌, map, IfOk};
 ghost use Rattle.hashbag_ledger_db.specs.Filed.{plain_movement, rows_in};
-ghost use Rattle.hashbag_ledger_db.specs.Inputs.{named, HasSum};
-ghost use Rattle.hashbag_ledger_lib.specs.Movements.{said};
+ghost use Rattle.hashbag_ledger_db.specs.Inputs.{named, IsTextOf};
+ghost use Rattle.hashbag_ledger_lib.specs.Movements.{columns_by, said};
 
 use crate::failure::Failure;
 use hashbag_csv::counts::{Reading, read_counts_as};
@@ -12,6 +12,8 @@ use hashbag_ledger_lib::movements::Movement;
 use hashbag_ledger_lib::numbers::plain_change;
 use hashbag_ledger_lib::reading::{ChangeColumns, Columns, read_movements};
 use hashbag_ledger_lib::sealing::digest_of;
+use hashbag_shell::text::text_of;
+use hashbag_text::encoding::Encoding;
 use std::alloc::{AllocError, Global};
 
 /// A file that is to be entered.
@@ -19,30 +21,32 @@ use std::alloc::{AllocError, Global};
 pub struct Input<'a> {
     /// Its name.
     pub file: &'a str,
-    /// Its bytes.
+    /// Its text.
     pub text: Vec<u8>,
-    /// The SHA-256 of its bytes, in hexadecimal digits.
+    /// The SHA-256 of its bytes, before they are decoded, in hexadecimal digits.
     pub sha256: String,
     /// Whether it is the stock at the beginning.
     pub is_start: bool,
 }
 
-/// Returns the input of this name with these bytes: the stock at the beginning, or a file of movements.
+/// Returns the input of this name with these bytes, which are text in this encoding, `None` for UTF-8: the stock at the beginning, or a file of
+/// movements.
 ///
 /// # Errors
 ///
-/// An allocation fails.
+/// Why the bytes aren't text, or a failed allocation.
 pub fn input_of<'a>(
     alloc: Global,
     file: &'a str,
-    text: Vec<u8>,
+    bytes: Vec<u8>,
+    encoding: Option<Encoding>,
     is_start: bool,
-) -> Result<Input<'a>, AllocError>
+) -> Result<Input<'a>, Failure<'a>>
     ensures named { IfOk result (λ input. named input ≡ (file.now, is_start)) }
-    ensures text { IfOk result (λ input. input.text.items ≡ text.items) }
-    ensures sum { IfOk result HasSum }
+    ensures text { IfOk result (IsTextOf encoding bytes.items) }
 {
-    let sha256 = digest_of(alloc, text.as_slice())?;
+    let sha256 = digest_of(alloc, bytes.as_slice())?;
+    let text = text_of(alloc, file, encoding, bytes)?;
     Ok(Input {
         file,
         text,
@@ -99,13 +103,15 @@ fn read<'a>(
     request: &Job<'a>,
     input: &Input<'a>,
     at: usize,
+    columns: Columns<&str>,
     reading: Reading,
 ) -> Result<Vec<Movement<String>>, SheetError>
-    ensures { IfOk result (λ all. map said all.items ≡ rows_in request.now reading input.now) }
+    ensures { IfOk result (λ all. map said all.items
+        ≡ rows_in request.now reading (columns_by (λ n. n.now) columns.entry) input.now) }
 {
     let text = input.text.as_slice();
     if !input.is_start {
-        let movements = read_movements(alloc, text, at, request.columns, reading)?;
+        let movements = read_movements(alloc, text, at, columns, reading)?;
         return Ok(plain_movements(alloc, movements)?);
     }
     // The first read rejects signs. The second returns the movements with their lines.
@@ -117,7 +123,7 @@ fn read<'a>(
     Ok(plain_movements(alloc, movements)?)
 }
 
-/// Returns the movements of an input. The opening stock becomes incoming movements.
+/// Returns the movements of an input, whose columns have these names. The opening stock, which has its own, becomes incoming movements.
 ///
 /// # Errors
 ///
@@ -127,10 +133,12 @@ pub fn movements_of<'a>(
     request: &Job<'a>,
     input: &Input<'a>,
     at: usize,
+    columns: Columns<&str>,
     reading: Reading,
 ) -> Result<Vec<Movement<String>>, Failure<'a>>
-    ensures { IfOk result (λ all. map said all.items ≡ rows_in request.now reading input.now) }
+    ensures { IfOk result (λ all. map said all.items
+        ≡ rows_in request.now reading (columns_by (λ n. n.now) columns.entry) input.now) }
 {
-    let read = read(alloc, request, input, at, reading);
+    let read = read(alloc, request, input, at, columns, reading);
     Ok(in_file(alloc, input.file, read)?)
 }

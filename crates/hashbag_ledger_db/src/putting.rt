@@ -3,7 +3,7 @@ ghost use Rattle.std.specs.Prelude.{◌≡◌, Ok, IfOk};
 
 use crate::failure::Failure;
 use hashbag_stock::error::StockError;
-use hashbag_stock::writing::{NewRows, put_batches};
+use hashbag_stock::writing::{NewRows, NewStock, put_batches};
 use sqlite::{Alter, Connection};
 use std::alloc::AllocError;
 
@@ -29,7 +29,7 @@ pub fn in_database<'a, T>(db: &'a str, done: Result<T, StockError>) -> Result<T,
     }
 }
 
-/// Writes what one run of a subcommand writes, in one transaction; and first the tables if there is a scale.
+/// Writes what one run of a subcommand writes, in one transaction; and first the tables if the stock is new.
 ///
 /// # Errors
 ///
@@ -37,8 +37,8 @@ pub fn in_database<'a, T>(db: &'a str, done: Result<T, StockError>) -> Result<T,
 pub fn put<'a, D: Alter>(
     db: &'a str,
     conn: &mut Connection<D>,
-    new_scale: Option<u32>,
+    new_stock: Option<NewStock<'_>>,
     new: &NewRows<'_>,
 ) -> Result<(), Failure<'a>> {
-    in_database(db, put_batches(conn, new_scale, new))
+    in_database(db, put_batches(conn, new_stock, new))
 }

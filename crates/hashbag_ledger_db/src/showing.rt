@@ -74,7 +74,7 @@ pub fn balance_in<'a, D: Alter>(
     } else {
         chosen_of(alloc, &all, &request.articles)?
     };
-    let table = formed_text(alloc, request.reading(shape.scale), request.form, &shown)?;
+    let table = formed_text(alloc, request.reading(shape.style), request.form, &shown)?;
     Ok(Shown { table, said })
 }
 
@@ -119,7 +119,7 @@ pub fn show_in<'a, D: Alter, S: BuildHasher + Drop>(
     let movements = in_database(db, movements_until(alloc, conn, number))?;
     let batch = number.unsigned_abs() as usize;
     let entries = recalled_in(db, recall_batch(alloc, state, movements, batch))?;
-    let table = movements_text(alloc, request.reading(shape.scale), &entries)?;
+    let table = movements_text(alloc, request.reading(shape.style), &entries)?;
     let said = String::new(alloc);
     Ok(Shown { table, said })
 }
@@ -144,7 +144,7 @@ pub fn history_in<'a, D: Alter, S: BuildHasher + Drop>(
         String::new(alloc)
     };
     let entries = recalled_in(request.db, recall(alloc, state, movements))?;
-    let table = history_text(alloc, request.reading(shape.scale), &batches, &entries)?;
+    let table = history_text(alloc, request.reading(shape.style), &batches, &entries)?;
     Ok(Shown { table, said })
 }
 
@@ -160,7 +160,7 @@ pub fn batches_in<'a, D: Alter>(
     conn: &mut Connection<D>,
 ) -> Result<Shown, Failure<'a>> {
     let batches = in_database(request.db, batches_of(alloc, conn, shape))?;
-    let table = batches_text(alloc, request.reading(shape.scale), &batches)?;
+    let table = batches_text(alloc, request.reading(shape.style), &batches)?;
     let said = String::new(alloc);
     Ok(Shown { table, said })
 }

@@ -13,6 +13,7 @@ use hashbag_ledger_lib::once::{Batch, Kind, batch_of, next_number, undone_by};
 use hashbag_ledger_lib::output::refusals_text;
 use hashbag_ledger_lib::rows::RowChange;
 use hashbag_ledger_lib::sealing::{Draft, sealed_rows};
+use hashbag_ledger_lib::style::Style;
 use hashbag_ledger_lib::undoing::{Undo, undo_batch};
 use hashbag_shell::status::{DENIED, DONE};
 use hashbag_stock::reading::{balance_of, batches_of, entered_of, time_of};
@@ -125,7 +126,12 @@ fn put<'a, D: Alter>(
         time: time.as_str(),
         movements: booked.entries.len() as u64,
     };
-    let batches = sealed_rows(alloc, shape.scale, [draft].as_slice(), &booked.entries)?;
+    let batches = sealed_rows(
+        alloc,
+        shape.style.scale,
+        [draft].as_slice(),
+        &booked.entries,
+    )?;
     let new = NewRows {
         is_sealed: shape.is_sealed,
         batches: &batches,
@@ -153,7 +159,7 @@ fn undo_of<'a, S: BuildHasher + Drop>(
     alloc: Global,
     state: S,
     request: &Job<'a>,
-    scale: u32,
+    style: Style,
     file: &str,
     kept: &[(String, usize)],
     entered: Vec<Movement<String>>,
@@ -163,7 +169,7 @@ fn undo_of<'a, S: BuildHasher + Drop>(
         Err(LedgerError::TooMany(place)) => Err(Failure::UndoneTotal {
             file: file.to_string(alloc)?,
             line: place.line,
-            most: write_decimal(alloc, MOST, request.reading(scale).scale)?,
+            most: write_decimal(alloc, MOST, request.reading(style).scale)?,
         }),
         Err(LedgerError::StartTooMany) => Err(start_too_many(request.db)),
         Err(LedgerError::Memory) => Err(Failure::from(AllocError)),
@@ -183,7 +189,7 @@ fn take_back_in<'a, D: Alter, S: BuildHasher + Drop>(
     let entered = in_database(db, entered_of(alloc, conn, found.number))?;
     let kept = in_database(db, balance_of(alloc, conn))?;
     let file = found.file.as_str();
-    let (undo, changed) = undo_of(alloc, state, request, shape.scale, file, &kept, entered)?;
+    let (undo, changed) = undo_of(alloc, state, request, shape.style, file, &kept, entered)?;
     match undo {
         Undo::Refused(refusals) => Ok(Undone {
             refusals,
@@ -216,7 +222,7 @@ fn report_of(
     undone: Undone,
 ) -> Result<Report, AllocError> {
     let names = [file];
-    let reading = request.reading(shape.scale);
+    let reading = request.reading(shape.style);
     let refusals = refusals_text(alloc, names.as_slice(), reading.scale, &undone.refusals)?;
     Ok(Report {
         refusals,

@@ -49,7 +49,7 @@ fn wrong_row(
         return Ok(Some(said));
     }
     if shape.is_sealed
-        && let Some(number) = wrong_seal(alloc, shape.scale, batches, &booked.entries)?
+        && let Some(number) = wrong_seal(alloc, shape.style.scale, batches, &booked.entries)?
     {
         return Ok(Some(format!(in alloc;
             "batch {number}: not as it was entered: the scale, its row, or a row of its movements was changed"
@@ -154,7 +154,7 @@ pub fn verify_in<'a, D: Alter, S: BuildHasher + Drop>(
         kept.refusals.len(),
         shape.is_sealed,
     )?;
-    match difference_of(alloc, state, kept, request.reading(shape.scale))? {
+    match difference_of(alloc, state, kept, request.reading(shape.style))? {
         Some(what) => Ok(Verdict::Differs(format!(in alloc; "{db}: {what}\n")?)),
         None => Ok(Verdict::Agrees(said)),
     }

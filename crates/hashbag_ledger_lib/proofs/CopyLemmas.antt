@@ -42,7 +42,7 @@ module _ (L M : Articles) (same : rows_of L ≡ rows_of M) where
   pub numbers_same : numbers L ≡ numbers M
   numbers_same = sym (numbers_of_rows L) ∙ ap all_in same ∙ numbers_of_rows M
 
-  listed_same : listed string_eq L ≡ listed string_eq M
+  pub listed_same : listed string_eq L ≡ listed string_eq M
   listed_same = λ i v. (sym (quantity_of_rows v L) ∙ ap (λ (rows : List (List ℕ × ℕ)). sum_by (of_bytes (string_bytes v)) rows) same ∙ quantity_of_rows v M) i
 
   module _ (most : ℕ) (ms : List (Movement (String Global))) where

@@ -3,6 +3,8 @@ pub mod BatchLemmas
 pub mod BookLemmas
 pub mod ChangeLemmas
 pub mod CopyLemmas
+pub mod CountLemmas
+pub mod CountedLemmas
 pub mod EnterLemmas
 pub mod LedgerLemmas
 pub mod ListLemmas

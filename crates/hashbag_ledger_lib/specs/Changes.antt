@@ -1,5 +1,5 @@
 -- Changes of the rows of a balance.
-use Rattle.std.specs.Prelude.{◌≡◌, ◌≢◌, ℕ, if◌then◌else◌, List, [], ◌∷◌, ◌++◌, map, All, Option, None, Some, String, string_bytes, string_cmp}
+use Rattle.std.specs.Prelude.{◌≡◌, ◌≢◌, ℕ, ◌+◌, ◌<◌, if◌then◌else◌, List, [], ◌∷◌, ◌++◌, length, map, All, Option, None, Some, String, string_bytes, string_cmp}
 use Rattle.std.specs.Cmp.Lexicographic.{slice_cmp}
 use Rattle.std.specs.Ordering.{nat_cmp}
 use Rattle.std.specs.declared.cmp.Ordering.TheVariants.{Less}
@@ -54,3 +54,19 @@ listed_of (Some c) = c ∷ []
 abbrev pub Begins : (before after : List (String Global × ℕ)) (first : List RowChange) (befores afters : List (String Global × ℕ)) → Type 0
 Begins before after first befores afters = (cs : List RowChange) → (Rises befores → Rises afters → AreChanges befores afters cs)
     → Rises before → Rises after → AreChanges before after (first ++ cs)
+
+-- these changes turn the numbers of the first balance into those of the second
+abbrev pub TurnInto : List (String Global × ℕ) → List RowChange → List (String Global × ℕ) → Type 0
+TurnInto before cs after = (v : List ℕ) → applied v cs (number_in v before) ≡ number_in v after
+
+-- the articles of these changes are in ascending order
+abbrev pub HaveRisingArticles : List RowChange → Type 0
+HaveRisingArticles cs = IsStrictlySortedBy string_cmp (map article_of cs)
+
+-- the article of each of these changes has another number in the second balance
+abbrev pub AreNeeded : List (String Global × ℕ) → List (String Global × ℕ) → List RowChange → Type 0
+AreNeeded before after cs = All (λ c. let v = string_bytes (article_of c) in number_in v before ≢ number_in v after) cs
+
+-- fewer rows are left of two balances, unless both had none
+abbrev pub LeavesFewerRows : (before after befores afters : List (String Global × ℕ)) → Type 0
+LeavesFewerRows before after befores afters = 0 < length before + length after → length befores + length afters < length before + length after

@@ -1,5 +1,5 @@
 -- Movements of a stock. A stock is how many there are of each article.
-use Rattle.std.specs.Prelude.{◌≡◌, ℕ, ◌+◌, ◌-◌, ◌<◌, ◌≤◌, if◌then◌else◌, nat_lt, Bool, List, [], ◌∷◌, ◌++◌, sum_by, take}
+use Rattle.std.specs.Prelude.{◌≡◌, ℕ, ◌+◌, ◌-◌, ◌<◌, ◌≤◌, if◌then◌else◌, nat_lt, Bool, List, [], ◌∷◌, ◌++◌, length, sum_by, take}
 use Rattle.hashbag.specs.Occurrences.{count}
 use Rattle.hashbag_ledger_lib.specs.declared.movements.Change.{Change}
 use Rattle.hashbag_ledger_lib.specs.declared.movements.Change.TheVariants.{In, Out}
@@ -97,3 +97,7 @@ module _ {T : Type 0} (eq : T → T → Bool) where
       pub in_turn : before ++ movement ∷ later ≡ ms
       pub at_place : place ≡ movement.place
       pub over : most < total_after total (entered_of before) + coming movement.change
+
+-- of all articles there are more by what comes in, and fewer by what goes out
+abbrev pub ChangesTotal : {T : Type 0} → Change → List T → List T → Type 0
+ChangesTotal change old new = length new + going change ≡ length old + coming change

@@ -1,8 +1,13 @@
 pub mod Batches
+pub mod Bookings
 pub mod Changes
+pub mod Counts
 pub mod Entries
+pub mod Errors
 pub mod Kinds
 pub mod Ledger
+pub mod LedgerExamples
+pub mod Ledgers
 pub mod Movements
 pub mod MovementsExamples
 pub mod Numbers
@@ -11,4 +16,5 @@ pub mod Rows
 pub mod Seals
 pub mod SealsExamples
 pub mod Settled
+pub mod Styles
 pub mod Undos

@@ -1,12 +1,15 @@
 -- The movements of a CSV text under its header: of each record an article and a change.
-use Rattle.std.specs.Prelude.{◌≡◌, ℕ, Bool, true, false, List, [], ◌∷◌, ◌==◌, ◌++◌, if◌then◌else◌, map, get_or, bytes_eq, codes, All, String}
+use Rattle.std.specs.Prelude.{◌≡◌, ℕ, Bool, true, false, List, [], ◌∷◌, ◌==◌, ◌++◌, if◌then◌else◌, map, get_or, bytes_eq, codes, All, String, Option, MatchOption}
+use Rattle.std.specs.Borrow.{Bor}
 use Rattle.std.specs.Global.{Global}
 use Rattle.std.specs.String.{string_bytes, string_eq}
 use Rattle.hashbag.specs.Bag.{Bag}
 use Rattle.hashbag_csv.specs.Lines.{number_in, place_of}
 use Rattle.hashbag_csv.specs.Readers.{Record, records_in}
+use Rattle.hashbag_csv.specs.Sheets.{left}
 use Rattle.hashbag_csv.specs.declared.counts.Reading.{Reading}
 use Rattle.hashbag_csv.specs.declared.scale.Scale.{Scale}
+use Rattle.hashbag_csv.specs.declared.sheet.Sheet.{Sheet}
 use Rattle.hashbag_ledger_lib.specs.declared.movements.Change.{Change}
 use Rattle.hashbag_ledger_lib.specs.declared.movements.Change.TheVariants.{In, Out}
 use Rattle.hashbag_ledger_lib.specs.declared.movements.Movement.{Movement}
@@ -66,3 +69,11 @@ pub record EntersFile {S : Type 0} (file : ℕ) (moved : List (List ℕ × Chang
   pub all : map said read ≡ moved
   pub places : All (λ m. m.place.file ≡ file) read
   pub entered : (L : List (String Global × ℕ)) (ms : List (Movement (String Global))) → IsLedgerOf string_eq L ms refused stock → IsLedgerOf string_eq L (ms ++ read) refused' stock'
+
+-- the movements of a text, whose columns have these names
+abbrev pub movements_named : Reading → Columns (Bor (List ℕ)) → List ℕ → List (List ℕ × Change)
+movements_named reading names text = movements_in reading (columns_by (λ n. n.now) names) text
+
+-- the next record was read, as its movement, or none was left
+abbrev pub ReadsNextMovement : Scale → Columns ℕ → Sheet → Option (Movement (String Global)) → Sheet → Type 0
+ReadsNextMovement scale columns old next new = MatchOption next (left old ≡ []) (λ m. IsNextMovement scale columns (left old) (left new) m)

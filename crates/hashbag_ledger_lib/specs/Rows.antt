@@ -1,12 +1,15 @@
 -- What a database keeps of a balance and of refusals: the bytes of texts, and numbers.
 use Rattle.std.specs.Prelude.{◌≡◌, ◌≢◌, ℕ, ◌<◌, min, List, map, Option, None, Some, slice_get, String, string_bytes}
+use Rattle.std.specs.Borrow.{Bor}
 use Rattle.std.specs.Cmp.Lexicographic.{slice_cmp}
+use Rattle.std.specs.Option.{option_copied, option_map}
 use Rattle.std.specs.Ordering.{nat_cmp}
 use Rattle.std.specs.declared.cmp.Ordering.{Ordering}
 use Rattle.std.specs.declared.cmp.Ordering.TheVariants.{Less, Equal, Greater}
 use Rattle.std.specs.Global.{Global}
 use Rattle.hashbag_ledger_lib.specs.declared.movements.Refusal.{Refusal}
 use Rattle.hashbag_ledger_lib.specs.declared.verifying.KeptRefusal.{KeptRefusal}
+use Rattle.hashbag_ledger_lib.specs.declared.verifying.WrongNumber.{WrongNumber}
 
 -- the row of an article: its bytes, and its number
 abbrev pub row : String Global × ℕ → List ℕ × ℕ
@@ -47,3 +50,15 @@ wrong_movement (Some k) (Some c) = min k.movement c.movement
 wrong_movement (Some k) None = k.movement
 wrong_movement None (Some c) = c.movement
 wrong_movement None None = 0
+
+-- of two rows the article that comes first, with its number in each; 0 if the row is another one's
+abbrev pub first_row : (k c : List ℕ × ℕ) → List ℕ × ℕ × ℕ
+first_row k c = lower_row k c (slice_cmp nat_cmp k.0 c.0)
+
+-- the row of an article, if there is one
+abbrev pub row_there : Option (Bor (String Global × ℕ)) → Option (List ℕ × ℕ)
+row_there e = option_map row (option_copied e)
+
+-- an article with the two numbers that differ
+abbrev pub article_with_both : WrongNumber → List ℕ × ℕ × ℕ
+article_with_both w = (w.article.now, w.kept, w.counted)

@@ -2,6 +2,7 @@
 use Rattle.std.specs.Prelude.{◌≡◌, ℕ, ◌+◌, ◌-◌, ◌<◌, Bool, List, [], ◌∷◌, ◌++◌, String}
 use Rattle.std.specs.declared.cmp.Ordering.{Ordering}
 use Rattle.std.specs.Global.{Global}
+use Rattle.std.specs.String.{string_eq}
 use Rattle.hashbag_csv.specs.Quantities.{IsBalance}
 use Rattle.hashbag_ledger_lib.specs.declared.movements.Change.{Change}
 use Rattle.hashbag_ledger_lib.specs.declared.movements.Change.TheVariants.{In, Out}
@@ -74,3 +75,8 @@ HasRisingRows (Refused refusals) = Unit {0}
 abbrev pub IsChangedBy : List (String Global × ℕ) → Undo (String Global) → List RowChange → Type 0
 IsChangedBy kept (Done booked) changed = AreChanges kept booked.balance.items changed
 IsChangedBy kept (Refused refusals) changed = changed ≡ []
+
+-- if the batch, as the last one, turned a stock into the balance that is kept, the undo leaves that stock again
+abbrev pub RestoresWhatWas : List (String Global × ℕ) → List (Movement (String Global)) → Undo (String Global) → Type 0
+RestoresWhatWas kept batch undo =
+    (before : String Global → ℕ) → ((v : String Global) → listed string_eq kept v + went string_eq v batch ≡ before v + came string_eq v batch) → IsAsBefore string_eq undo before

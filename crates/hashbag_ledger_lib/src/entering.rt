@@ -1,6 +1,6 @@
 //! Entering a movement into a stock.
 ghost use Rattle.std.specs.Prelude.{◌≡◌, ◌⊎◌, ◌+◌, ◌<◌, ◌≤◌, ◌↔◌, length, OnOk, OnErr, IfOk, IfErr, IfSome, IsSome};
-ghost use Rattle.hashbag_ledger_lib.specs.Ledger.{coming, going, stock_of, Changes, RefusesMovement};
+ghost use Rattle.hashbag_ledger_lib.specs.Ledger.{coming, stock_of, Changes, ChangesTotal, RefusesMovement};
 
 use crate::movements::{Change, Movement, Place, Refusal};
 use hashbag::{BagError, HashBag};
@@ -46,7 +46,7 @@ pub fn enter<T: Eq + Hash + Drop, S: BuildHasher + Drop>(
 ) -> Result<Option<Refusal<T>>, LedgerError>
     // If it returns `None`, the movement was entered: the number of its article alone changed.
     ensures entered { IfOk result (λ r. r ≡ None → Changes T.eq movement (stock_of T.eq stock.old.items) (stock_of T.eq stock.new.items)) }
-    ensures total { IfOk result (λ r. r ≡ None → length stock.new.items + going movement.change ≡ length stock.old.items + coming movement.change) }
+    ensures total { IfOk result (λ r. r ≡ None → ChangesTotal movement.change stock.old.items stock.new.items) }
 
     // If it returns a refusal, more was to go out than was there.
     ensures refusal { IfOk result (λ r. IfSome r (RefusesMovement T.eq movement (stock_of T.eq stock.old.items))) }

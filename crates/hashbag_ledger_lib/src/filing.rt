@@ -1,13 +1,13 @@
 //! The files of one run of a subcommand, entered in turn into the balance that is kept.
-ghost use Rattle.std.specs.Prelude.{◌≡◌, ◌<◌, ◌^◌, ◌-◌, map, vec_len, IfOk, IfErr, string_cmp};
+ghost use Rattle.std.specs.Prelude.{◌≡◌, ◌<◌, ◌^◌, ◌-◌, map, vec_len, IfOk};
 ghost use Rattle.std.specs.String.{string_eq};
 ghost use Rattle.hashbag_csv.specs.Quantities.{numbers};
 ghost use Rattle.hashbag_ledger_lib.specs.Batches.{all_of};
+ghost use Rattle.hashbag_ledger_lib.specs.Bookings.{HasBooked};
 ghost use Rattle.hashbag_ledger_lib.specs.Changes.{Rises, AreChanges};
-ghost use Rattle.hashbag_ledger_lib.specs.declared.movements.Place.{Place};
-ghost use Rattle.hashbag_ledger_lib.specs.Entries.{IsBooked};
 ghost use Rattle.hashbag_ledger_lib.specs.Rows.{rows_of};
 ghost use Rattle.hashbag_ledger_lib.specs.Settled.{IsPastWithin};
+ghost use Rattle.hashbag_ledger_lib.specs.Errors.{IfTooMany};
 
 use crate::entering::LedgerError;
 use crate::ledger::booking::{Booked, book_batch};
@@ -44,16 +44,14 @@ pub fn enter_files<S: BuildHasher + Drop>(
     kept: &[(String, usize)],
     files: Vec<Vec<Movement<String>>>,
 ) -> Result<Filed, LedgerError>
-    ensures booked { IfOk result (λ f. IsBooked string_eq string_cmp (2 ^ 63 - 1) kept.now (all_of files.items)
-        f.booked.balance.items f.booked.entries.items) }
+    ensures booked { IfOk result (λ f. HasBooked (2 ^ 63 - 1) kept.now (all_of files.items) f.booked) }
 
     // If the kept rows are in ascending order, the changes turn them into the rows of the new balance.
     ensures changed { IfOk result (λ f. Rises kept.now → AreChanges kept.now f.booked.balance.items f.changed.items) }
     ensures counts { IfOk result (λ f. f.counts.items ≡ map (λ file. vec_len file) files.items) }
 
     // `TooMany p`: with the movement at `p` the total would pass 2^63-1.
-    ensures past { IfErr result (λ e. (p : Place) → e ≡ LedgerError.TooMany p
-        → IsPastWithin string_eq (2 ^ 63 - 1) kept.now (all_of files.items) p) }
+    ensures past { IfTooMany result (λ p. IsPastWithin string_eq (2 ^ 63 - 1) kept.now (all_of files.items) p) }
     ensures start { (result ≡ Err LedgerError.StartTooMany) → 2 ^ 63 - 1 < numbers kept.now }
 {
     let counts = counts_of(alloc, &files)?;

@@ -1,12 +1,12 @@
-//! A stock into which movements are entered one by one. In clauses L is the list that it began as, and ms are the movements so far.
-ghost use Rattle.std.specs.Prelude.{◌≡◌, ◌⊎◌, ◌<◌, ◌↔◌, ◌≤◌, ◌++◌, ◌∷◌, ℕ, List, [], length, IsTrue, IfOk, IfErr, OnOk};
+//! A stock into which movements are entered one by one. Clauses hold whatever list it began as, and whatever movements it has so far.
+ghost use Rattle.std.specs.Prelude.{◌≡◌, ◌⊎◌, ◌<◌, ◌↔◌, ◌≤◌, [], length, IsTrue, IfOk, IfErr, OnOk};
 ghost use Rattle.hashbag.specs.Occurrences.{count};
-ghost use Rattle.hashbag_csv.specs.Quantities.{numbers, quantity, IsBalance};
+ghost use Rattle.hashbag_csv.specs.Quantities.{numbers, quantity};
+ghost use Rattle.hashbag_ledger_lib.specs.Ledgers.{AreRefusalsOf, EntersMovement, IsBalanceOf, IsLeftBy, LedgerPassesLimitWith};
+ghost use Rattle.hashbag_ledger_lib.specs.Errors.{IfTooMany};
 ghost use Rattle.hashbag_ledger_lib.specs.declared.movements.Movement.{Movement};
-ghost use Rattle.hashbag_ledger_lib.specs.declared.movements.Place.{Place};
 ghost use Rattle.hashbag_ledger_lib.specs.Entries.{IsStockAfter};
-ghost use Rattle.hashbag_ledger_lib.specs.Ledger.{in_the_end, refused_of, Leaves};
-ghost use Rattle.hashbag_ledger_lib.specs.Settled.{listed, IsLedgerOf, IsPastWithin};
+ghost use Rattle.hashbag_ledger_lib.specs.Settled.{IsLedgerOf};
 
 pub mod booking;
 
@@ -144,14 +144,10 @@ impl<T: Eq + Hash + Drop, S: BuildHasher + Drop> Ledger<T, S> {
     /// Same as [`enter`]. A refusal is put into a list, which may allocate.
     pub fn enter(&mut self, movement: Movement<T>) -> Result<(), LedgerError>
         // It is the ledger of this movement too: entered, or among the refusals.
-        ensures entered { OnOk result ((L : List (T × ℕ)) (ms : List (Movement T))
-            → IsLedgerOf T.eq L ms self.old.refusals.items self.old.stock
-            → IsLedgerOf T.eq L (ms ++ movement ∷ []) self.new.refusals.items self.new.stock) }
+        ensures entered { OnOk result (EntersMovement T.eq self.old self.new movement) }
 
         // `TooMany p`: with the movement, which is at `p`, the total would pass the limit.
-        ensures past { IfErr result (λ e. (p : Place) → e ≡ LedgerError.TooMany p → (L : List (T × ℕ)) (ms : List (Movement T))
-            → IsLedgerOf T.eq L ms self.old.refusals.items self.old.stock
-            → IsPastWithin T.eq self.old.stock.most L (ms ++ movement ∷ []) p) }
+        ensures past { IfTooMany result (λ p. LedgerPassesLimitWith T.eq self.old movement p) }
         ensures limit { self.new.stock.most ≡ self.old.stock.most }
         ensures why { IfErr result (λ e. (e ≡ LedgerError.Memory) ⊎ (e ≡ LedgerError.TooMany movement.place)) }
     {
@@ -175,14 +171,11 @@ pub fn end<T: Ord + Hash + Drop, S: BuildHasher + Drop>(
     alloc: Global,
     ledger: Ledger<T, S>,
 ) -> Result<Entered<T>, AllocError>
-    // For the L and ms of the ledger (head of the file), the balance and the refusals are those of all movements. Of each article, what L had
-    // plus what came in is what the balance has plus what went out.
-    ensures balance { IfOk result (λ e. (L : List (T × ℕ)) (ms : List (Movement T)) → IsLedgerOf T.eq L ms ledger.refusals.items ledger.stock
-        → IsBalance T.eq T.cmp (in_the_end T.eq (listed T.eq L) ms) e.balance.items) }
-    ensures leaves { IfOk result (λ e. (L : List (T × ℕ)) (ms : List (Movement T)) → IsLedgerOf T.eq L ms ledger.refusals.items ledger.stock
-        → Leaves T.eq (listed T.eq L) ms (listed T.eq e.balance.items)) }
-    ensures refusals { IfOk result (λ e. (L : List (T × ℕ)) (ms : List (Movement T)) → IsLedgerOf T.eq L ms ledger.refusals.items ledger.stock
-        → e.refusals.items ≡ refused_of T.eq (listed T.eq L) ms) }
+    // The balance and the refusals are those of all movements. Of each article, what the list had that the ledger began as, plus what came in,
+    // is what the balance has plus what went out.
+    ensures balance { IfOk result (λ e. IsBalanceOf T.eq T.cmp ledger e.balance.items) }
+    ensures leaves { IfOk result (λ e. IsLeftBy T.eq ledger e.balance.items) }
+    ensures refusals { IfOk result (λ e. AreRefusalsOf T.eq ledger e.refusals.items) }
 {
     let Ledger { stock, refusals } = ledger;
     let balance = balance_of(alloc, stock)?;

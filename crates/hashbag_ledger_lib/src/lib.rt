@@ -2,6 +2,7 @@
 #![tactic(auto)]
 
 pub mod balance_forms;
+pub mod counting;
 pub mod entering;
 pub mod filing;
 pub mod ledger;
@@ -14,5 +15,6 @@ pub mod reading;
 pub mod recalling;
 pub mod rows;
 pub mod sealing;
+pub mod style;
 pub mod undoing;
 pub mod verifying;

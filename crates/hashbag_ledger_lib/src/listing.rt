@@ -1,4 +1,4 @@
-//! The batches, the history of an article, and the movements of a batch, as CSV.
+//! The batches, the history of an article, the movements of a batch, and the differences of a counted stock, as CSV.
 use crate::movements::{Change, Entry, Outcome};
 use crate::once::{Batch, batch_of};
 use crate::output::push_record;
@@ -146,6 +146,43 @@ pub fn history_text(
             outcome,
             left.as_str(),
         ];
+        push_record(&mut records, fields.as_slice())?;
+    }
+    records.into_text()
+}
+
+// Returns how many there were before a movement after which there are this many.
+fn before_change(change: Change, after: usize) -> usize {
+    match change {
+        Change::In(n) => after.saturating_sub(n),
+        Change::Out(n) => after.saturating_add(n),
+    }
+}
+
+/// Returns the differences of a counted stock as CSV, with the header `article,there,counted,change`. The entries are those of
+/// [`count_stock`](crate::counting::count_stock).
+///
+/// # Errors
+///
+/// An allocation fails.
+pub fn differences_text(
+    alloc: Global,
+    reading: Reading,
+    entries: &[Entry<String>],
+) -> Result<Vec<u8>, AllocError> {
+    let mut records = Records::empty(alloc, reading.delimiter);
+    push_record(
+        &mut records,
+        ["article", "there", "counted", "change"].as_slice(),
+    )?;
+    for entry in entries {
+        let change = entry.movement.change;
+        let (_, after) = outcome_of(entry);
+        let there = write_decimal(alloc, before_change(change, after), reading.scale)?;
+        let counted = write_decimal(alloc, after, reading.scale)?;
+        let change = change_text(alloc, change, reading.scale)?;
+        let article = entry.movement.article.as_str();
+        let fields = [article, there.as_str(), counted.as_str(), change.as_str()];
         push_record(&mut records, fields.as_slice())?;
     }
     records.into_text()

@@ -1,6 +1,6 @@
 //! What a batch is, and whether a file was entered before.
-ghost use Rattle.std.specs.Prelude.{◌≡◌, ◌≢◌, All, Contains, MatchOption, string_bytes};
-ghost use Rattle.hashbag_ledger_lib.specs.Kinds.{name_of, undone_of};
+ghost use Rattle.std.specs.Prelude.{◌≡◌};
+ghost use Rattle.hashbag_ledger_lib.specs.Kinds.{name_of, undone_of, IsBatchOfDigest};
 
 /// What a batch is.
 #[derive(Clone, Copy, PartialEq, Eq, Debug)]
@@ -9,6 +9,8 @@ pub enum Kind {
     Start,
     /// A file of movements.
     Moves,
+    /// The differences between the stock and what was counted.
+    Count,
     /// The opposite movements of the batch of this number.
     Undo(i64),
 }
@@ -21,6 +23,7 @@ impl Kind {
         match self {
             Kind::Start => "start",
             Kind::Moves => "moves",
+            Kind::Count => "count",
             Kind::Undo(_) => "undo",
         }
     }
@@ -31,7 +34,7 @@ impl Kind {
     {
         match self {
             Kind::Undo(other) => Some(other),
-            Kind::Start | Kind::Moves => None,
+            Kind::Start | Kind::Moves | Kind::Count => None,
         }
     }
 }
@@ -45,7 +48,7 @@ pub struct Batch {
     pub file: String,
     /// The SHA-256 of the bytes of its file, in hexadecimal digits; empty if it has no file.
     pub sha256: String,
-    /// What it is: `start`, `moves` or `undo`.
+    /// What it is: `start`, `moves`, `count` or `undo`.
     pub kind: String,
     /// The batch that it undoes.
     pub undoes: Option<i64>,
@@ -62,8 +65,7 @@ pub struct Batch {
 /// Returns the first batch whose file has these bytes, by their SHA-256.
 pub fn entered_before<'a>(batches: &'a [Batch], sha256: &str) -> Option<&'a Batch>
     // It is `None` exactly if no batch has this digest.
-    ensures { MatchOption result (All (λ b. string_bytes b.sha256 ≢ sha256.now) batches.now)
-        (λ b. Contains batches.now b.now × (string_bytes b.now.sha256 ≡ sha256.now)) }
+    ensures { IsBatchOfDigest sha256.now batches.now result }
 {
     for batch in batches {
         if batch.sha256.as_str() == sha256 {

@@ -1,12 +1,12 @@
 //! Reading movements from CSV texts.
-ghost use Rattle.std.specs.Prelude.{◌≡◌, ◌++◌, ◌∷◌, ℕ, List, [], String, All, IfOk, IfSome, MatchOption, OnOk, map};
+ghost use Rattle.std.specs.Prelude.{◌≡◌, String, All, IfOk, IfSome, OnOk, map};
 ghost use Rattle.std.specs.Global.{Global};
 ghost use Rattle.std.specs.String.{string_eq};
 ghost use Rattle.hashbag_csv.specs.Lines.{place_of};
-ghost use Rattle.hashbag_csv.specs.Sheets.{left, place, read_last};
+ghost use Rattle.hashbag_csv.specs.Sheets.{place, read_last};
+ghost use Rattle.hashbag_ledger_lib.specs.Ledgers.{EntersFileInto, EntersMovement};
 ghost use Rattle.hashbag_ledger_lib.specs.declared.movements.Movement.{Movement};
-ghost use Rattle.hashbag_ledger_lib.specs.Movements.{said, signed, of_kind, change_by, columns_by, change_in, movements_in, EntersFile, IsNextMovement};
-ghost use Rattle.hashbag_ledger_lib.specs.Settled.{IsLedgerOf};
+ghost use Rattle.hashbag_ledger_lib.specs.Movements.{said, signed, of_kind, change_by, columns_by, change_in, ReadsNextMovement, movements_named};
 
 use crate::entering::LedgerError;
 use crate::ledger::Ledger;
@@ -123,8 +123,7 @@ fn next_movement(
     columns: Columns<Column<'_>>,
     scale: Scale,
 ) -> Result<Option<Movement<String>>, SheetError>
-    ensures read { IfOk result (λ read. MatchOption read (left sheet.old ≡ [])
-        (λ m. IsNextMovement scale (columns_by place columns.entry) (left sheet.old) (left sheet.new) m)) }
+    ensures read { IfOk result (λ read. ReadsNextMovement scale (columns_by place columns.entry) sheet.old read sheet.new) }
     ensures place { IfOk result (λ read. IfSome read (λ m. m.place.file ≡ file)) }
 {
     if !sheet.read()? {
@@ -156,8 +155,7 @@ pub fn read_movements(
     reading: Reading,
 ) -> Result<Vec<Movement<String>>, SheetError>
     // They are those that the text has.
-    ensures movements { IfOk result (λ movements.
-        map said movements.items ≡ movements_in reading (columns_by (λ n. n.now) names.entry) text.now) }
+    ensures movements { IfOk result (λ movements. map said movements.items ≡ movements_named reading names.entry text.now) }
     ensures places { IfOk result (λ movements. All (λ m. m.place.file ≡ file) movements.items) }
 {
     let mut sheet = Sheet::open_with(alloc, text, reading.delimiter)?;
@@ -183,9 +181,7 @@ fn enter_record<S: BuildHasher + Drop>(
     movement: Movement<String>,
     scale: Scale,
 ) -> Result<(), SheetError>
-    ensures { OnOk result ((L : List (String Global × ℕ)) (ms : List (Movement (String Global)))
-        → IsLedgerOf string_eq L ms ledger.old.refusals.items ledger.old.stock
-        → IsLedgerOf string_eq L (ms ++ movement ∷ []) ledger.new.refusals.items ledger.new.stock) }
+    ensures { OnOk result (EntersMovement string_eq ledger.old ledger.new movement) }
 {
     let line = movement.place.line;
     match ledger.enter(movement) {
@@ -215,8 +211,7 @@ pub fn enter_movements<S: BuildHasher + Drop>(
     reading: Reading,
 ) -> Result<(), SheetError>
     // The movements of the text are added to those that the ledger had.
-    ensures { OnOk result (EntersFile file (movements_in reading (columns_by (λ n. n.now) names.entry) text.now)
-        ledger.old.refusals.items ledger.old.stock ledger.new.refusals.items ledger.new.stock) }
+    ensures { OnOk result (EntersFileInto file (movements_named reading names.entry text.now) ledger.old ledger.new) }
 {
     let mut sheet = Sheet::open_with(alloc, text, reading.delimiter)?;
     let columns = columns_of(&sheet, names)?;

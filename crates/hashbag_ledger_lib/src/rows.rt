@@ -1,7 +1,6 @@
 //! The rows of the balance that a batch changes.
-ghost use Rattle.std.specs.Prelude.{◌≡◌, ◌≢◌, ℕ, ◌+◌, ◌<◌, ◌↔◌, List, length, map, All, string_bytes, string_cmp, IsTrue, IfOk};
-ghost use Rattle.std.specs.List.Sorted.{IsStrictlySortedBy};
-ghost use Rattle.hashbag_ledger_lib.specs.Changes.{Rises, IsBefore, number_in, article_of, applied, listed_of, Begins};
+ghost use Rattle.std.specs.Prelude.{◌<◌, ◌↔◌, IsTrue, IfOk};
+ghost use Rattle.hashbag_ledger_lib.specs.Changes.{Rises, IsBefore, listed_of, Begins, AreNeeded, HaveRisingArticles, LeavesFewerRows, TurnInto};
 
 use std::alloc::{AllocError, Global};
 use std::cmp::Ordering;
@@ -48,8 +47,7 @@ fn next_change<'a, 'b>(
     after: Balance<'b>,
 ) -> Result<(Option<RowChange>, Balance<'a>, Balance<'b>), AllocError>
     ensures begins { IfOk result (λ next. Begins before.now after.now (listed_of next.0) next.1.now next.2.now) }
-    ensures shorter { IfOk result (λ next. 0 < length before.now + length after.now
-        → length next.1.now + length next.2.now < length before.now + length after.now) }
+    ensures shorter { IfOk result (λ next. LeavesFewerRows before.now after.now next.1.now next.2.now) }
 {
     match (before.split_first(), after.split_first()) {
         (None, None) => Ok((None, before, after)),
@@ -79,13 +77,10 @@ pub fn changed_rows(
     before: &[(String, usize)],
     after: &[(String, usize)],
 ) -> Result<Vec<RowChange>, AllocError>
-    // If both balances are sorted, the changes turn one into the other, are sorted, and none is needless. v is an article's bytes.
-    ensures makes { IfOk result (λ changes. Rises before.now → Rises after.now
-        → (v : List ℕ) → applied v changes.items (number_in v before.now) ≡ number_in v after.now) }
-    ensures rising { IfOk result (λ changes. Rises before.now → Rises after.now
-        → IsStrictlySortedBy string_cmp (map article_of changes.items)) }
-    ensures needed { IfOk result (λ changes. Rises before.now → Rises after.now
-        → All (λ c. let v = string_bytes (article_of c) in number_in v before.now ≢ number_in v after.now) changes.items) }
+    // If both balances are sorted, the changes turn one into the other, are sorted, and none is needless.
+    ensures makes { IfOk result (λ changes. Rises before.now → Rises after.now → TurnInto before.now changes.items after.now) }
+    ensures rising { IfOk result (λ changes. Rises before.now → Rises after.now → HaveRisingArticles changes.items) }
+    ensures needed { IfOk result (λ changes. Rises before.now → Rises after.now → AreNeeded before.now after.now changes.items) }
 {
     let mut changes = Vec::new(alloc);
     let (mut old, mut new) = (before, after);

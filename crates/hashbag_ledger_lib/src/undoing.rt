@@ -1,13 +1,13 @@
 //! A batch that is taken back.
-ghost use Rattle.std.specs.Prelude.{◌≡◌, ℕ, ◌+◌, ◌<◌, ◌^◌, ◌-◌, ◌↔◌, ◌++◌, [], String, IfOk, IfErr, OnOk, string_cmp};
+ghost use Rattle.std.specs.Prelude.{◌≡◌, ◌+◌, ◌<◌, ◌^◌, ◌-◌, ◌↔◌, ◌++◌, [], String, IfOk, OnOk, string_cmp};
 ghost use Rattle.std.specs.Global.{Global};
 ghost use Rattle.std.specs.String.{string_eq};
 ghost use Rattle.hashbag_csv.specs.Quantities.{numbers};
 ghost use Rattle.hashbag_ledger_lib.specs.Changes.{Rises};
-ghost use Rattle.hashbag_ledger_lib.specs.Ledger.{came, went};
+ghost use Rattle.hashbag_ledger_lib.specs.Errors.{IfTooMany};
 ghost use Rattle.hashbag_ledger_lib.specs.declared.movements.Place.{Place};
 ghost use Rattle.hashbag_ledger_lib.specs.Settled.{listed, IsPastWithin};
-ghost use Rattle.hashbag_ledger_lib.specs.Undos.{coming_back, going_back, opposites_of, IsUndo, IsUndoOf, IsAsBefore, IsChangedBy, HasRisingRows};
+ghost use Rattle.hashbag_ledger_lib.specs.Undos.{coming_back, going_back, opposites_of, IsUndo, IsUndoOf, IsChangedBy, HasRisingRows, RestoresWhatWas};
 
 use crate::entering::LedgerError;
 use crate::filing::copy_of;
@@ -103,9 +103,7 @@ pub fn take_back<S: BuildHasher + Drop>(
     ensures undo { IfOk result (IsUndo string_eq string_cmp (listed string_eq kept.items) batch.items) }
 
     // If the batch turned `before` into the balance kept, it is taken back, and the balance is `before` again.
-    ensures last { IfOk result (λ u. (before : String Global → ℕ)
-        → ((v : String Global) → listed string_eq kept.items v + went string_eq v batch.items ≡ before v + came string_eq v batch.items)
-        → IsAsBefore string_eq u before) }
+    ensures last { IfOk result (λ u. RestoresWhatWas kept.items batch.items u) }
 
     // The opposite movements were all entered, or the refusals are theirs.
     ensures each { IfOk result (IsUndoOf string_eq kept.items batch.items) }
@@ -113,8 +111,7 @@ pub fn take_back<S: BuildHasher + Drop>(
 
     // On success no total passes [`MOST`]. `TooMany p`: with the opposite of the movement at `p` it would.
     ensures fit { OnOk result ((p : Place) → ¬ (IsPastWithin string_eq (2 ^ 63 - 1) kept.items (opposites_of batch.items) p)) }
-    ensures past { IfErr result (λ e. (p : Place) → e ≡ LedgerError.TooMany p
-        → IsPastWithin string_eq (2 ^ 63 - 1) kept.items (opposites_of batch.items) p) }
+    ensures past { IfTooMany result (λ p. IsPastWithin string_eq (2 ^ 63 - 1) kept.items (opposites_of batch.items) p) }
 {
     let stock = stock_at_start(alloc, state, MOST, kept)?;
     let opposite = opposites(alloc, batch)?;
@@ -165,8 +162,7 @@ pub fn undo_batch<S: BuildHasher + Drop>(
     ensures start { (result ≡ Err LedgerError.StartTooMany) → 2 ^ 63 - 1 < numbers kept.now }
 
     // `TooMany p`: with the opposite of the movement at `p` the total would pass [`MOST`].
-    ensures past { IfErr result (λ e. (p : Place) → e ≡ LedgerError.TooMany p
-        → IsPastWithin string_eq (2 ^ 63 - 1) kept.now (opposites_of batch.items) p) }
+    ensures past { IfTooMany result (λ p. IsPastWithin string_eq (2 ^ 63 - 1) kept.now (opposites_of batch.items) p) }
 {
     let copy = copy_of(alloc, kept)?;
     let undo = take_back(alloc, state, copy, batch)?;

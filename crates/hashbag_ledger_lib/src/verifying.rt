@@ -1,9 +1,7 @@
 //! The balance and the refusals that are kept, compared with what the movements make.
-ghost use Rattle.std.specs.Prelude.{◌≡◌, ◌≢◌, ℕ, ◌<◌, ◌≤◌, ◌↔◌, IsTrue, IsNone, IfNone, IfSome, map, slice_get, string_bytes};
-ghost use Rattle.std.specs.Cmp.Lexicographic.{slice_cmp};
+ghost use Rattle.std.specs.Prelude.{◌≡◌, ◌≢◌, ℕ, ◌<◌, ◌≤◌, ◌↔◌, IsTrue, IsNone, IfNone, IfSome, map, slice_get};
 ghost use Rattle.std.specs.Option.{option_copied, option_map};
-ghost use Rattle.std.specs.Ordering.{nat_cmp};
-ghost use Rattle.hashbag_ledger_lib.specs.Rows.{row, rows_of, kept_of, lower_row, wrong_row, wrong_movement, IsFirstDifference};
+ghost use Rattle.hashbag_ledger_lib.specs.Rows.{row, rows_of, kept_of, wrong_row, wrong_movement, IsFirstDifference, article_with_both, first_row, row_there};
 
 use crate::movements::{Movement, Refusal};
 use crate::once::Batch;
@@ -75,8 +73,7 @@ fn first_difference(kept: &[(String, usize)], counted: &[(String, usize)]) -> Op
 
 // Returns the article of two rows that differ which comes first, with its two numbers.
 fn first_of<'a>(kept: &'a (String, usize), counted: &'a (String, usize)) -> WrongNumber<'a>
-    ensures { (result.article.now, result.kept, result.counted)
-        ≡ lower_row (row kept.now) (row counted.now) (slice_cmp nat_cmp (string_bytes kept.now.0) (string_bytes counted.now.0)) }
+    ensures { article_with_both result ≡ first_row (row kept.now) (row counted.now) }
 {
     match kept.0.as_str().cmp(&counted.0.as_str()) {
         Ordering::Less => WrongNumber {
@@ -102,8 +99,7 @@ fn wrong_of<'a>(
     kept: Option<&'a (String, usize)>,
     counted: Option<&'a (String, usize)>,
 ) -> Option<WrongNumber<'a>>
-    ensures { option_map (λ w. (w.article.now, w.kept, w.counted)) result
-        ≡ wrong_row (option_map row (option_copied kept.entry)) (option_map row (option_copied counted.entry)) }
+    ensures { option_map article_with_both result ≡ wrong_row (row_there kept.entry) (row_there counted.entry) }
 {
     match (kept, counted) {
         (Some(old), Some(new)) => Some(first_of(old, new)),
@@ -128,7 +124,7 @@ pub fn wrong_number<'a>(
     counted: &'a [(String, usize)],
 ) -> Option<WrongNumber<'a>>
     ensures agrees { IsNone result ↔ (rows_of kept.now ≡ rows_of counted.now) }
-    ensures first { IfSome result (λ w. IsFirstDifference wrong_row (rows_of kept.now) (rows_of counted.now) (Some (w.article.now, w.kept, w.counted))) }
+    ensures first { IfSome result (λ w. IsFirstDifference wrong_row (rows_of kept.now) (rows_of counted.now) (Some (article_with_both w))) }
 {
     match first_difference(kept, counted) {
         Some(at) => wrong_of(kept.get(at), counted.get(at)),

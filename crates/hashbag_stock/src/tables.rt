@@ -1,20 +1,25 @@
 //! The tables of a stock.
 use crate::error::StockError;
+use hashbag_csv::delimiter::Delimiter;
+use hashbag_csv::scale::Mark;
+use hashbag_ledger_lib::style::Style;
 use sqlite::{Alter, Connection, params};
 
 /// The version of the tables.
-pub const VERSION: i64 = 2;
+pub const VERSION: i64 = 3;
 
 // The first version whose batches have seals.
 const SEALED: i64 = 2;
 
-// What is known of the stock as a whole: its version, under the name of the program, and its scale.
-const META: &str =
-    "CREATE TABLE meta (name TEXT PRIMARY KEY NOT NULL, value INTEGER NOT NULL) STRICT";
+// The first version that keeps how its files are written, and whose batches may be counts.
+const STYLED: i64 = 3;
+
+// What is known of the stock as a whole: its version, under the name of the program, and how its files are written.
+const META: &str = "CREATE TABLE meta (name TEXT PRIMARY KEY NOT NULL, value ANY NOT NULL) STRICT";
 
 // What was entered at one time.
 const BATCH: &str =
-    "CREATE TABLE batch (batch INTEGER PRIMARY KEY, file TEXT NOT NULL, sha256 TEXT NOT NULL, kind TEXT NOT NULL CHECK (kind IN ('start', 'moves', 'undo')), undoes INTEGER, time TEXT NOT NULL, movements INTEGER NOT NULL CHECK (movements >= 0), refused INTEGER NOT NULL CHECK (refused BETWEEN 0 AND movements), seal TEXT NOT NULL) STRICT";
+    "CREATE TABLE batch (batch INTEGER PRIMARY KEY, file TEXT NOT NULL, sha256 TEXT NOT NULL, kind TEXT NOT NULL CHECK (kind IN ('start', 'moves', 'undo', 'count')), undoes INTEGER, time TEXT NOT NULL, movements INTEGER NOT NULL CHECK (movements >= 0), refused INTEGER NOT NULL CHECK (refused BETWEEN 0 AND movements), seal TEXT NOT NULL) STRICT";
 
 // All movements, in turn.
 const MOVEMENT: &str =
@@ -34,10 +39,28 @@ pub static TABLES: [&str; 5] = [META, BATCH, MOVEMENT, REFUSAL, ARTICLE];
 /// What holds of all rows of a stock.
 #[derive(Clone, Copy, PartialEq, Eq, Debug)]
 pub struct Shape {
-    /// How many decimals its numbers have.
-    pub scale: u32,
+    /// How its files are written, unless the arguments of a call say otherwise.
+    pub style: Style,
+    /// The version of its tables.
+    pub version: i64,
     /// Whether its batches have seals. Those of version 1 have none.
     pub is_sealed: bool,
+}
+
+impl Shape {
+    /// Returns whether its batches may be counts.
+    pub fn takes_counts(self) -> bool {
+        self.version >= STYLED
+    }
+
+    /// Returns the shape of a new stock whose files are written like this.
+    pub fn of_new(style: Style) -> Shape {
+        Shape {
+            style,
+            version: VERSION,
+            is_sealed: true,
+        }
+    }
 }
 
 /// What a database has.
@@ -49,11 +72,48 @@ pub enum Contents {
     Stock(Shape),
 }
 
+/// Returns the name of a delimiter in the table `meta`, which is also one of its names in an option.
+pub fn delimiter_name(delimiter: Delimiter) -> &'static str {
+    match delimiter {
+        Delimiter::Comma => ",",
+        Delimiter::Semicolon => ";",
+        Delimiter::Tab => "tab",
+    }
+}
+
+/// Returns the name of a mark in the table `meta`, which is also its name in an option.
+pub fn mark_name(mark: Mark) -> &'static str {
+    match mark {
+        Mark::Point => ".",
+        Mark::Comma => ",",
+    }
+}
+
+// Returns the delimiter of this name.
+fn delimiter_of(name: &str) -> Result<Delimiter, StockError> {
+    match name {
+        "," => Ok(Delimiter::Comma),
+        ";" => Ok(Delimiter::Semicolon),
+        "tab" => Ok(Delimiter::Tab),
+        _ => Err(StockError::Damaged("no delimiter in the table meta")),
+    }
+}
+
+// Returns the mark of this name.
+fn mark_of(name: &str) -> Result<Mark, StockError> {
+    match name {
+        "." => Ok(Mark::Point),
+        "," => Ok(Mark::Comma),
+        _ => Err(StockError::Damaged("no mark in the table meta")),
+    }
+}
+
 /// Returns what the database has.
 ///
 /// # Errors
 ///
-/// `Foreign` or `Later` for the tables of something else, `Damaged` for a version or a scale that no stock has, or what fails.
+/// `Foreign` or `Later` for the tables of something else, `Damaged` for a version, a scale, a mark or a delimiter that no stock has, or what
+/// fails.
 pub fn form_of<S: Alter>(conn: &mut Connection<S>) -> Result<Contents, StockError> {
     let tables: i64 = conn
         .query_row("SELECT count(*) FROM sqlite_schema", &[])?
@@ -61,7 +121,17 @@ pub fn form_of<S: Alter>(conn: &mut Connection<S>) -> Result<Contents, StockErro
     if tables == 0 {
         return Ok(Contents::Empty);
     }
-    let version = match meta_of(conn, "hashbag_ledger") {
+    let version = version_of(conn)?;
+    Ok(Contents::Stock(Shape {
+        style: style_of(conn, version)?,
+        version,
+        is_sealed: version >= SEALED,
+    }))
+}
+
+// Returns the version of the tables of a stock.
+fn version_of<S: Alter>(conn: &mut Connection<S>) -> Result<i64, StockError> {
+    let version = match number_of(conn, "hashbag_ledger") {
         Ok(Some(version)) => version,
         Ok(None) => return Err(StockError::Foreign),
         Err(StockError::Database(sqlite::Error::SqlInputError(_))) => {
@@ -75,21 +145,45 @@ pub fn form_of<S: Alter>(conn: &mut Connection<S>) -> Result<Contents, StockErro
     if version < 1 {
         return Err(StockError::Damaged("no version from 1 on in the table meta"));
     }
-    let is_sealed = version >= SEALED;
-    if has_seals(conn)? != is_sealed {
+    if has_seals(conn)? != (version >= SEALED) || has_counts(conn)? != (version >= STYLED) {
         return Err(StockError::Damaged("another version in the table meta than its tables have"));
     }
-    match meta_of(conn, "scale")? {
-        Some(scale) if 0 <= scale && scale <= 9 => Ok(Contents::Stock(Shape {
-            scale: scale as u32,
-            is_sealed,
-        })),
-        _ => Err(StockError::Damaged("no scale from 0 to 9 in the table meta")),
-    }
+    Ok(version)
 }
 
-// Returns the value of this name in the table `meta`.
-fn meta_of<S: Alter>(conn: &mut Connection<S>, name: &str) -> Result<Option<i64>, StockError> {
+// Returns how the files of a stock are written. Up to version 2 none keeps that: a comma is between fields, and a point before decimals.
+fn style_of<S: Alter>(conn: &mut Connection<S>, version: i64) -> Result<Style, StockError> {
+    let scale = match number_of(conn, "scale")? {
+        Some(scale) if 0 <= scale && scale <= 9 => scale as u32,
+        _ => return Err(StockError::Damaged("no scale from 0 to 9 in the table meta")),
+    };
+    if version < STYLED {
+        return Ok(Style::plain(scale));
+    }
+    Ok(Style {
+        scale,
+        mark: mark_of(text_of(conn, "mark")?.as_str())?,
+        delimiter: delimiter_of(text_of(conn, "delimiter")?.as_str())?,
+    })
+}
+
+/// Returns the names of the columns of movements that a stock keeps, with commas between them. `None` up to version 2, which keeps none.
+///
+/// # Errors
+///
+/// `Damaged` if a later one keeps none. Else what fails.
+pub fn columns_of<S: Alter>(
+    conn: &mut Connection<S>,
+    shape: Shape,
+) -> Result<Option<String>, StockError> {
+    if shape.version < STYLED {
+        return Ok(None);
+    }
+    Ok(Some(text_of(conn, "columns")?))
+}
+
+// Returns the number of this name in the table `meta`.
+fn number_of<S: Alter>(conn: &mut Connection<S>, name: &str) -> Result<Option<i64>, StockError> {
     let rows = conn.query_all("SELECT value FROM meta WHERE name = ?1", params![name])?;
     match rows.first() {
         Some(row) => Ok(Some(row.get(0)?)),
@@ -97,10 +191,27 @@ fn meta_of<S: Alter>(conn: &mut Connection<S>, name: &str) -> Result<Option<i64>
     }
 }
 
+// Returns the text of this name in the table `meta`.
+fn text_of<S: Alter>(conn: &mut Connection<S>, name: &str) -> Result<String, StockError> {
+    let rows = conn.query_all("SELECT value FROM meta WHERE name = ?1", params![name])?;
+    match rows.first() {
+        Some(row) => Ok(row.get(0)?),
+        None => Err(StockError::Damaged("no mark, delimiter or columns in the table meta")),
+    }
+}
+
 // Returns whether the table of batches has a column of seals.
 fn has_seals<S: Alter>(conn: &mut Connection<S>) -> Result<bool, StockError> {
     let text =
         "SELECT count(*) FROM sqlite_schema WHERE name = 'batch' AND instr(sql, 'seal TEXT') > 0";
+    let tables: i64 = conn.query_row(text, &[])?.get(0)?;
+    Ok(tables == 1)
+}
+
+// Returns whether the table of batches takes counts.
+fn has_counts<S: Alter>(conn: &mut Connection<S>) -> Result<bool, StockError> {
+    let text =
+        "SELECT count(*) FROM sqlite_schema WHERE name = 'batch' AND instr(sql, '''count''') > 0";
     let tables: i64 = conn.query_row(text, &[])?.get(0)?;
     Ok(tables == 1)
 }

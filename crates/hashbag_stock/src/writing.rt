@@ -4,12 +4,13 @@ ghost use Rattle.sqlite.specs.Held.{state};
 ghost use Rattle.hashbag_stock.specs.Commits.{IsInside, IsOneCommit};
 
 use crate::error::StockError;
-use crate::tables::{TABLES, VERSION};
+use crate::tables::{TABLES, VERSION, delimiter_name, mark_name};
 use hashbag_ledger_lib::movements::{Entry, Movement, Outcome};
 use hashbag_ledger_lib::numbers::{number_of, signed};
 use hashbag_ledger_lib::once::Batch;
 use hashbag_ledger_lib::rows::RowChange;
 use hashbag_ledger_lib::sealing::cut;
+use hashbag_ledger_lib::style::Style;
 use sqlite::types::ValueRef;
 use sqlite::{Alter, Connection, Transaction, params};
 
@@ -24,6 +25,15 @@ pub struct NewRows<'a> {
     pub entries: &'a [Entry<String>],
     /// What becomes of the rows of the balance after all of them.
     pub changed: &'a [RowChange],
+}
+
+/// What a new stock keeps of the call that makes it.
+#[derive(Clone, Copy)]
+pub struct NewStock<'a> {
+    /// How its files are written.
+    pub style: Style,
+    /// The names of the columns of movements, with commas between them.
+    pub columns: &'a str,
 }
 
 const TOO_LARGE: &str = "a number past 9223372036854775807";
@@ -46,8 +56,44 @@ fn run<S: Alter>(
     Ok(())
 }
 
-// Creates the tables of a stock whose numbers have this many decimals.
-fn create<S: Alter>(transaction: &mut Transaction<'_, S>, scale: u32) -> Result<(), StockError>
+// Writes a text of this name into the table `meta`.
+fn keep<S: Alter>(
+    transaction: &mut Transaction<'_, S>,
+    name: &str,
+    value: &str,
+) -> Result<(), StockError>
+    ensures same_reference { transaction.new.conn.ghost_name ≡ transaction.old.conn.ghost_name }
+    ensures inside { IsInside (state S.Store transaction.old.conn.now) (state S.Store transaction.new.conn.now) }
+{
+    run(
+        transaction,
+        "INSERT INTO meta (name, value) VALUES (?1, ?2)",
+        params![name, value],
+    )
+}
+
+// Writes what a new stock keeps, but for its scale.
+fn keep_style<S: Alter>(
+    transaction: &mut Transaction<'_, S>,
+    stock: NewStock<'_>,
+) -> Result<(), StockError>
+    ensures same_reference { transaction.new.conn.ghost_name ≡ transaction.old.conn.ghost_name }
+    ensures inside { IsInside (state S.Store transaction.old.conn.now) (state S.Store transaction.new.conn.now) }
+{
+    keep(transaction, "mark", mark_name(stock.style.mark))?;
+    keep(
+        transaction,
+        "delimiter",
+        delimiter_name(stock.style.delimiter),
+    )?;
+    keep(transaction, "columns", stock.columns)
+}
+
+// Creates the tables of a stock.
+fn create<S: Alter>(
+    transaction: &mut Transaction<'_, S>,
+    stock: NewStock<'_>,
+) -> Result<(), StockError>
     ensures same_reference { transaction.new.conn.ghost_name ≡ transaction.old.conn.ghost_name }
     ensures inside { IsInside (state S.Store transaction.old.conn.now) (state S.Store transaction.new.conn.now) }
 {
@@ -56,19 +102,24 @@ fn create<S: Alter>(transaction: &mut Transaction<'_, S>, scale: u32) -> Result<
     }
     let insert = "INSERT INTO meta (name, value) VALUES (?1, ?2)";
     run(transaction, insert, params!["hashbag_ledger", VERSION])?;
-    run(transaction, insert, params!["scale", i64::from(scale)])
+    run(
+        transaction,
+        insert,
+        params!["scale", i64::from(stock.style.scale)],
+    )?;
+    keep_style(transaction, stock)
 }
 
-// Creates the tables if there is a scale.
+// Creates the tables if the stock is new.
 fn create_new<S: Alter>(
     transaction: &mut Transaction<'_, S>,
-    new_scale: Option<u32>,
+    new_stock: Option<NewStock<'_>>,
 ) -> Result<(), StockError>
     ensures same_reference { transaction.new.conn.ghost_name ≡ transaction.old.conn.ghost_name }
     ensures inside { IsInside (state S.Store transaction.old.conn.now) (state S.Store transaction.new.conn.now) }
 {
-    match new_scale {
-        Some(scale) => create(transaction, scale),
+    match new_stock {
+        Some(stock) => create(transaction, stock),
         None => Ok(()),
     }
 }
@@ -241,21 +292,21 @@ fn write_batches<S: Alter>(
     Ok(())
 }
 
-// Writes what one run of a subcommand writes, and first the tables of a stock whose numbers have this many decimals, if it is new.
+// Writes what one run of a subcommand writes, and first the tables of the stock, if it is new.
 fn write_all<S: Alter>(
     transaction: &mut Transaction<'_, S>,
-    new_scale: Option<u32>,
+    new_stock: Option<NewStock<'_>>,
     new: &NewRows<'_>,
 ) -> Result<(), StockError>
     ensures same_reference { transaction.new.conn.ghost_name ≡ transaction.old.conn.ghost_name }
     ensures inside { IsInside (state S.Store transaction.old.conn.now) (state S.Store transaction.new.conn.now) }
 {
-    create_new(transaction, new_scale)?;
+    create_new(transaction, new_stock)?;
     write_batches(transaction, new)?;
     write_rows(transaction, new.changed)
 }
 
-/// Writes the batches of one run, and what becomes of the rows of the balance, in one transaction. With `new_scale` the tables of a stock
+/// Writes the batches of one run, and what becomes of the rows of the balance, in one transaction. With `new_stock` the tables of a stock
 /// are created first, in the same transaction.
 ///
 /// # Errors
@@ -263,7 +314,7 @@ fn write_all<S: Alter>(
 /// What fails. Then nothing is written.
 pub fn put_batches<S: Alter>(
     conn: &mut Connection<S>,
-    new_scale: Option<u32>,
+    new_stock: Option<NewStock<'_>>,
     new: &NewRows<'_>,
 ) -> Result<(), StockError>
     ensures { IsOneCommit (state S.Store conn.old) (state S.Store conn.new) (is_ok result) }
@@ -272,7 +323,7 @@ pub fn put_batches<S: Alter>(
         return Err(StockError::Damaged("a transaction is open"));
     }
     let mut transaction = conn.transaction();
-    write_all(&mut transaction, new_scale, new)?;
+    write_all(&mut transaction, new_stock, new)?;
     transaction.commit()?;
     Ok(())
 }

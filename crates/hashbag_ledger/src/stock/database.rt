@@ -118,15 +118,6 @@ fn abandon(conn: Db) {
     let _ = conn;
 }
 
-/// Closes a database after what was read of it, or leaves it as it is if that failed. Returns what was read.
-///
-/// # Errors
-///
-/// Why it couldn't be read.
-pub fn read<'a, T>(db: &'a str, conn: Db, done: Result<T, StockError>) -> Result<T, Failure<'a>> {
-    ended(conn, in_database(db, done))
-}
-
 /// Closes a database after what was done in it, or leaves it as it is if that failed. Returns what was done.
 ///
 /// # Errors

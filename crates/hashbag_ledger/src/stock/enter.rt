@@ -1,15 +1,15 @@
 //! Files that are entered into a stock.
 use crate::outputs::{is_same, write_refusals};
-use crate::stock::database::{HostFiles, ended, is_of_database, open, open_or_make, read};
+use crate::stock::database::{HostFiles, ended, is_of_database, open, open_or_make};
 use crate::stock::say::{random_state, say};
+use hashbag_csv::delimiter::Delimiter;
 use hashbag_ledger_args::job::Job;
-use hashbag_ledger_db::entering::{begin_in, beginning_of};
+use hashbag_ledger_db::entering::{Closed, begin_in, beginning_of, closed_in};
 use hashbag_ledger_db::failure::Failure;
 use hashbag_ledger_db::files::enter_named;
 use hashbag_ledger_lib::output::typed_text;
 use hashbag_shell::output::Output;
 use hashbag_shell::status::DONE;
-use hashbag_stock::reading::balance_of;
 use hashbag_stock::tables::Contents;
 
 // Returns a file that is named for two things.
@@ -79,29 +79,24 @@ pub fn enter<'a>(rt: &HostRuntime, request: &Job<'a>) -> Result<u8, Failure<'a>>
 }
 
 /// Enters one movement of the article that is asked for, of the number that is typed, with this sign: its text is entered in place of
-/// standard input.
+/// standard input. The job is one of [`Job::typed`].
 ///
 /// # Errors
 ///
 /// Why it isn't entered.
 pub fn enter_typed<'a>(rt: &HostRuntime, request: &Job<'a>, sign: &str) -> Result<u8, Failure<'a>> {
     let article = request.articles.first().copied().unwrap_or("");
-    let text = typed_text(rt.alloc(), request.delimiter, article, sign, request.number)?;
+    let text = typed_text(rt.alloc(), Delimiter::Comma, article, sign, request.number)?;
     enter_from(rt, request, Some(text))
 }
 
-// Begins a new database with a balance.
-fn begin<'a>(
-    rt: &HostRuntime,
-    request: &Job<'a>,
-    scale: u32,
-    balance: &[(String, usize)],
-) -> Result<(), Failure<'a>> {
+// Begins a new database with what another one leaves to it.
+fn begin<'a>(rt: &HostRuntime, request: &Job<'a>, closed: &Closed) -> Result<(), Failure<'a>> {
     let (alloc, state) = (rt.alloc(), random_state(rt)?);
-    let inputs = [beginning_of(alloc, request, scale, balance)?];
+    let inputs = [beginning_of(alloc, request, closed)?];
     let (mut conn, form) = open_or_make(rt, request.into, request.wait)?;
     let begun = match form {
-        Contents::Empty => begin_in(alloc, state, request, scale, inputs.as_slice(), &mut conn),
+        Contents::Empty => begin_in(alloc, state, request, closed, inputs.as_slice(), &mut conn),
         Contents::Stock(_) => Err(Failure::HasStock { db: request.into }),
     };
     ended(conn, begun)
@@ -117,8 +112,7 @@ pub fn close<'a>(rt: &HostRuntime, request: &Job<'a>) -> Result<u8, Failure<'a>>
         return Err(Failure::Conflict(request.into));
     }
     let (mut conn, shape) = open(rt, request)?;
-    let found = balance_of(rt.alloc(), &mut conn);
-    let balance = read(request.db, conn, found)?;
-    begin(rt, request, shape.scale, &balance)?;
+    let closed = closed_in(rt.alloc(), request, shape, &mut conn);
+    begin(rt, request, &ended(conn, closed)?)?;
     Ok(DONE)
 }

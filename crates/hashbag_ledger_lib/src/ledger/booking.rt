@@ -1,14 +1,14 @@
-//! Movements that are entered into a stock and kept, each with what became of it. In clauses L is the list that the stock began as.
-ghost use Rattle.std.specs.Prelude.{◌≡◌, ◌≢◌, ◌<◌, ◌≤◌, ◌^◌, ◌-◌, ◌↔◌, ◌++◌, ◌∷◌, ℕ, List, [], String, length, IfOk, IfErr, OnOk, string_cmp};
+//! Movements that are entered into a stock and kept, each with what became of it. Clauses hold whatever list the stock began as.
+ghost use Rattle.std.specs.Prelude.{◌≡◌, ◌≢◌, ◌<◌, ◌≤◌, ◌^◌, ◌-◌, ◌↔◌, ◌++◌, ◌∷◌, [], String, length, IfOk, IfErr, OnOk};
 ghost use Rattle.std.specs.Global.{Global};
 ghost use Rattle.std.specs.String.{string_eq};
 ghost use Rattle.hashbag_csv.specs.Quantities.{numbers};
-ghost use Rattle.hashbag_ledger_lib.specs.Batches.{Continues};
+ghost use Rattle.hashbag_ledger_lib.specs.Bookings.{BooksFirst, BooksMovement, ContinuesFrom, HasBooked, StockPassesLimitAmong, StockPassesLimitWith};
+ghost use Rattle.hashbag_ledger_lib.specs.Errors.{IfTooMany};
 ghost use Rattle.hashbag_ledger_lib.specs.declared.movements.Movement.{Movement};
-ghost use Rattle.hashbag_ledger_lib.specs.declared.movements.Place.{Place};
-ghost use Rattle.hashbag_ledger_lib.specs.Entries.{refusals_in, IsStockAfter, TakesNext, IsBooked};
-ghost use Rattle.hashbag_ledger_lib.specs.Ledger.{going, Leaves};
-ghost use Rattle.hashbag_ledger_lib.specs.Settled.{listed, IsPastWithin};
+ghost use Rattle.hashbag_ledger_lib.specs.Entries.{refusals_in};
+ghost use Rattle.hashbag_ledger_lib.specs.Ledger.{going};
+ghost use Rattle.hashbag_ledger_lib.specs.Settled.{IsPastWithin};
 
 use crate::entering::{LedgerError, enter};
 use crate::ledger::stock_at_start;
@@ -33,10 +33,8 @@ fn outcome_of<S: BuildHasher + Drop>(
     stock: &mut HashBag<String, S>,
     movement: &Movement<String>,
 ) -> Result<Outcome, LedgerError>
-    ensures next { IfOk result (λ o. (L : List (String Global × ℕ)) (ms : List (Movement (String Global)))
-        → IsStockAfter string_eq L ms stock.old → TakesNext string_eq L ms movement.now stock.new o) }
-    ensures past { IfErr result (λ e. (p : Place) → e ≡ LedgerError.TooMany p → (L : List (String Global × ℕ)) (ms : List (Movement (String Global)))
-        → IsStockAfter string_eq L ms stock.old → IsPastWithin string_eq stock.old.most L (ms ++ movement.now ∷ []) p) }
+    ensures next { IfOk result (λ o. BooksMovement stock.old stock.new movement.now o) }
+    ensures past { IfTooMany result (λ p. StockPassesLimitWith stock.old movement.now p) }
     ensures limit { stock.new.most ≡ stock.old.most }
     ensures not_start { IfErr result (λ e. e ≢ LedgerError.StartTooMany) }
 {
@@ -71,12 +69,10 @@ pub fn book_all<S: BuildHasher + Drop>(
     movements: Vec<Movement<String>>,
 ) -> Result<Booked<String>, LedgerError>
     // The balance and the entries follow from the list and the movements.
-    ensures booked { IfOk result (λ b. (L : List (String Global × ℕ)) → IsStockAfter string_eq L [] stock
-        → IsBooked string_eq string_cmp stock.most L movements.items b.balance.items b.entries.items) }
+    ensures booked { IfOk result (λ b. BooksFirst stock movements.items b) }
 
     // `TooMany p`: with the movement at `p` the total would pass the limit.
-    ensures past { IfErr result (λ e. (p : Place) → e ≡ LedgerError.TooMany p → (L : List (String Global × ℕ))
-        → IsStockAfter string_eq L [] stock → IsPastWithin string_eq stock.most L movements.items p) }
+    ensures past { IfTooMany result (λ p. StockPassesLimitAmong stock movements.items p) }
     ensures not_start { IfErr result (λ e. e ≢ LedgerError.StartTooMany) }
 {
     let mut stock = stock;
@@ -109,15 +105,13 @@ pub fn book_batch<S: BuildHasher + Drop>(
     kept: Vec<(String, usize)>,
     batch: Vec<Movement<String>>,
 ) -> Result<Booked<String>, LedgerError>
-    // `start` and `before` are the stock and the movements that left the balance `kept`.
-    ensures booked { IfOk result (λ b. IsBooked string_eq string_cmp (2 ^ 63 - 1) kept.items batch.items b.balance.items b.entries.items) }
-    ensures in_turn { IfOk result (λ b. (start : String Global → ℕ) (before : List (Movement (String Global)))
-        → Leaves string_eq start before (listed string_eq kept.items)
-        → Continues string_eq string_cmp start before batch.items b.balance.items (refusals_in b.entries.items)) }
+    // It continues from whatever stock and movements left the balance `kept`.
+    ensures booked { IfOk result (λ b. HasBooked (2 ^ 63 - 1) kept.items batch.items b) }
+    ensures in_turn { IfOk result (λ b. ContinuesFrom kept.items batch.items b) }
     ensures too_many { (result ≡ Err LedgerError.StartTooMany) ↔ (2 ^ 63 - 1 < numbers kept.items) }
 
     // `TooMany p`: with the movement at `p` the total would pass [`MOST`].
-    ensures past { IfErr result (λ e. (p : Place) → e ≡ LedgerError.TooMany p → IsPastWithin string_eq (2 ^ 63 - 1) kept.items batch.items p) }
+    ensures past { IfTooMany result (λ p. IsPastWithin string_eq (2 ^ 63 - 1) kept.items batch.items p) }
 {
     let stock = stock_at_start(alloc, state, MOST, kept)?;
     book_all(alloc, stock, batch)

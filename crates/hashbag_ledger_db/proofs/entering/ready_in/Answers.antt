@@ -1,3 +1,4 @@
+use Rattle.hashbag_ledger_args.specs.Readings.{kept_names}
 use Rattle.hashbag_ledger_db.proofs.FormLemmas.{filed_by_form}
 use Rattle.hashbag_ledger_db.proofs.entering.ready_in.Goals as goal
 
@@ -5,7 +6,8 @@ pub returns : goal.returns
 returns g c known = record {
   is = c.in_ok-before.ensures.form;
   empty = c.in_ok-before.ensures.empty;
+  new = c.in_ok-before.ensures.new;
   rising = c.in_ok-before.ensures.rising;
-  all = filed_by_form c.args.request.now c.args.form c.args.inputs.now c.in_ok-before.before.balance.items c.in_ok-filed.filed c.in_ok-before.ensures.empty
-      (λ e. c.in_ok-filed.ensures.empty e known) c.in_ok-filed.ensures.stock;
+  all = filed_by_form c.args.request.now c.args.form c.args.inputs.now (kept_names c.in_ok-before.before.columns) c.in_ok-before.before.balance.items c.in_ok-filed.filed c.in_ok-before.ensures.empty
+      c.in_ok-before.ensures.new (λ e. c.in_ok-filed.ensures.empty e known) c.in_ok-filed.ensures.stock;
 }

@@ -2,8 +2,7 @@ use Rattle.std.proofs.Common.{rules, ℕ, ◌<◌, false, List, [], length, get_
 use Rattle.std.specs.Borrow.{Bor}
 use Rattle.std.specs.List.{All}
 use Rattle.std.proofs.lemmas.List.Elements.{All-push}
-use Rattle.hashbag_ledger_db.specs.Inputs.{HasSum}
-use Rattle.hashbag_ledger_db.specs.declared.movements.Input.{Input}
+use Rattle.hashbag_ledger_db.specs.Inputs.{IsRead}
 use Rattle.hashbag_ledger_db.proofs.InputLemmas.{one_more}
 use Rattle.hashbag_ledger_db.proofs.files.inputs_of.Goals as goal
 
@@ -14,12 +13,11 @@ loop-file-preserved g c =
     let i = c.loop-file.file-index in
     let within : i < length files = search rules in
     let before = c.loop-file.inputs.items in
-    let input = c.in_ok-input_of-2.field-0 in
+    let input = c.in_ok-read_input-2.field-0 in
     let is = c.in_ok-push-2.ensures.items in
     let none : Bor (List ℕ) = record { ref_ptr = (0, 0); now = [] } in
-    let named_is = c.in_ok-input_of-2.ensures.named ∙ ap (λ (l : List (Bor (List ℕ))). ((get_or l i none).now, false)) c.deref-file-items.ensures.value in
-    let given = λ (x : Input). g.F.Files.gives c.args.files.now x.file.now x.text.items in (
+    let named_is = c.in_ok-read_input-2.ensures.named ∙ ap (λ (l : List (Bor (List ℕ))). ((get_or l i none).now, false)) c.deref-file-items.ensures.value in
+    let Read = IsRead (g.F.Files.gives c.args.files.now) c.args.request.now in (
       one_more before _ input _ files i none within c.loop-file.invariant.0 is named_is,
-      subst (λ l. All given l) (sym is) (All-push given before input c.loop-file.invariant.1 (search rules)),
-      subst (λ l. All HasSum l) (sym is) (All-push HasSum before input c.loop-file.invariant.2 c.in_ok-input_of-2.ensures.sum),
+      subst (λ l. All Read l) (sym is) (All-push Read before input c.loop-file.invariant.1 c.in_ok-read_input-2.ensures.read),
     )

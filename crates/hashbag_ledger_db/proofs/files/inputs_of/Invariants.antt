@@ -1,10 +1,10 @@
 use Rattle.std.proofs.Common.{◌≡◌, ◌++◌, true, false, All, map, take}
 use Rattle.std.specs.Option.{option_to_list}
-use Rattle.hashbag_ledger_db.specs.Inputs.{named, HasSum}
+use Rattle.hashbag_ledger_db.specs.Inputs.{named, IsRead}
 use Rattle.hashbag_ledger_db.proofs.files.inputs_of.Given as goal
 
 -- so far the inputs are the stock at the beginning and the first files
 abbrev pub invariant-loop-file : goal.invariant-loop-file
 invariant-loop-file g l =
     (map named l.inputs.items ≡ map (λ file. (file.now, true)) (option_to_list l.fn.request.from) ++ map (λ file. (file.now, false)) (take l.file-index l.fn.request.files.items))
-    × All (λ input. g.F.Files.gives l.fn.files input.file.now input.text.items) l.inputs.items × All HasSum l.inputs.items
+    × All (IsRead (g.F.Files.gives l.fn.files) l.fn.request) l.inputs.items

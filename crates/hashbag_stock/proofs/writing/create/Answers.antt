@@ -15,5 +15,9 @@ returns-in_err-run-clause-inside g c = inside_then _ _ _ c.loop-text.invariant.i
 pub returns-in_err-run-2-clause-inside : goal.returns-in_err-run-2-clause-inside
 returns-in_err-run-2-clause-inside g c = inside_then _ _ _ c.loop-text.invariant.inside c.run-2.ensures.inside
 
+pub returns-in_err-run-3-clause-inside : goal.returns-in_err-run-3-clause-inside
+returns-in_err-run-3-clause-inside g c = inside_then _ _ _ (inside_then _ _ _ c.loop-text.invariant.inside c.run-2.ensures.inside) c.run-3.ensures.inside
+
 pub returns-clause-inside : goal.returns-clause-inside
-returns-clause-inside g c = inside_then _ _ _ (inside_then _ _ _ c.loop-text.invariant.inside c.run-2.ensures.inside) c.run-3.ensures.inside
+returns-clause-inside g c =
+    inside_then _ _ _ (inside_then _ _ _ (inside_then _ _ _ c.loop-text.invariant.inside c.run-2.ensures.inside) c.run-3.ensures.inside) c.keep_style.ensures.inside
