@@ -21,7 +21,7 @@ PAGE = "docs/use/API.md"
 # file. A call of `HashBag` has no type before its name.
 SECTIONS = """
 The bag and its errors
-    HashBag FixedState BagError
+    HashBag FixedState BagError TryExtendError
 Make
     new with_capacity_and_hasher default_in clone
 Insert
@@ -43,7 +43,7 @@ Room
 Limits
     limit with_limit
 JSON
-    to_value from_value from_value_within from_value_with_hasher JsonError ItemError
+    to_value from_value from_value_within from_value_with_hasher JsonError ItemError JsonText
 Runs
     script::run script::run_pair script::joins_of script::Step script::Joins
 """
