@@ -19,7 +19,7 @@ pub enum Fault {
     NoColumn {
         /// The name.
         name: String,
-        /// The names that it has, and another delimiter if they look like one name.
+        /// The names that it has, and one of them that is near, or another delimiter if they look like one name.
         there: String,
     },
     /// The header has several columns of this name.

@@ -87,7 +87,7 @@ fn has_groups(text: &str, mark: Mark, other: u8) -> bool
     are_digits(part)
 }
 
-// Whether a text is a number with decimals, as some write it.
+// Whether a text is a number with decimals behind a point or a comma, such as `1,234.5` or `1.234,5`. Only the message depends on it.
 #[tactic(auto, unfolding(crate::specs::Faults::IsFraction))]
 fn is_fraction(text: &str) -> bool
     ensures { IsTrue result ↔ IsFraction text.now }
@@ -98,7 +98,7 @@ fn is_fraction(text: &str) -> bool
     has_groups(text, Mark::Comma, b'.')
 }
 
-// What is wrong with a text that isn't read at this scale.
+// What is wrong with a text that isn't read at this scale. `digits` is it without its group marks, `field` the whole field, which an error shows.
 #[tactic(auto, using(crate::proofs::NumberLemmas::parts_decimal, crate::proofs::NumberLemmas::past))]
 fn fault_of(alloc: Global, digits: &str, field: &str, scale: Scale) -> Result<Fault, AllocError>
     requires { ¬ (IsNumberIn scale digits.now × (number_in scale digits.now ≤ scale.most)) }

@@ -61,18 +61,19 @@ fn next_place(place: Place, byte: u8, delimiter: u8) -> Result<Place, Misplaced>
 /// a field in quotes that is the quote that opens it.
 pub fn misplaced_quote(record: &[u8], delimiter: u8) -> Option<(usize, Misplaced)> {
     let mut place = Place::Start;
-    let mut opened = 0;
+    // The quote that opens the present field, or a stray one.
+    let mut at = 0;
     for (index, byte) in record.iter().enumerate() {
         if *byte == QUOTE && !matches!(place, Place::Quoted | Place::Closed) {
-            opened = index;
+            at = index;
         }
         match next_place(place, *byte, delimiter) {
             Ok(next) => place = next,
-            Err(misplaced) => return Some((opened, misplaced)),
+            Err(misplaced) => return Some((at, misplaced)),
         }
     }
     match place {
-        Place::Quoted => Some((opened, Misplaced::Open)),
+        Place::Quoted => Some((at, Misplaced::Open)),
         _ => None,
     }
 }

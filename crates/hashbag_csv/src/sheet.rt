@@ -9,6 +9,7 @@ use crate::fault::{Fault, SheetError};
 use crate::quotes::misplaced_quote;
 use crate::trims::trim;
 use csv::{ByteRecord, Position, Reader, ReaderBuilder};
+use hashbag_shell::tips::is_near;
 use std::alloc::{AllocError, Global};
 use std::fmt::Write;
 use std::str;
@@ -49,7 +50,8 @@ fn lines_in(bytes: &[u8]) -> u64 {
     lines
 }
 
-// Returns the line where the record read at `position` begins, past empty lines.
+// Returns the line where the record read at `position` begins. The position is before the empty lines that the reader skips, so they are counted
+// here.
 fn line_of(text: &[u8], position: Position) -> u64 {
     let mut line = position.line();
     let rest = text.get(position.byte() as usize..).unwrap_or(&[]);
@@ -160,7 +162,7 @@ impl<'a> Sheet<'a> {
         // The next of the records that were left was read; or none was left.
         ensures next { IfOk result (λ found. IsNext found (read_last self.new) (left self.old) (left self.new)) }
 
-        // It has as many fields as the header, or fewer if that is allowed. An error on their number is that of another record.
+        // It has as many fields as the header, or fewer if that is allowed. If the error is about the number of fields, it doesn't.
         ensures fits { IfOk result (λ found. found ≡ true → fits_sheet self.old (read_last self.new) ≡ true) }
         ensures fault { IfErr result (λ e. IsReadError (fits_sheet self.old (read_last self.new)) e) }
         ensures reads_on { IfErr result (λ e. e ≢ SheetError.Memory → ReadsOne self.old self.new) }
@@ -184,7 +186,7 @@ impl<'a> Sheet<'a> {
         found == self.width
     }
 
-    // The error that the record that was read last has another number of fields than the header.
+    // The error for the last record, whose number of fields isn't the header's.
     fn fields_error(&self) -> SheetError
         ensures { (fits : Bool) → fits ≡ false → IsReadError fits result }
     {
@@ -271,8 +273,21 @@ impl<'a> Sheet<'a> {
         }
     }
 
-    // Returns the names of the columns of the header; and another delimiter, if that is in the name of the only column.
-    fn names_shown(&self) -> Result<String, AllocError> {
+    // Appends the first name of the header that is near to this one, if there is one.
+    fn push_near(&self, text: &mut String, name: &str) -> Result<(), AllocError> {
+        for place in 0..self.record.len() {
+            if let Ok(there) = str::from_utf8(self.bytes_at(place))
+                && is_near(self.alloc, name, there)?
+            {
+                return write!(text, "; is it `{}`?", shown(self.alloc, there)?);
+            }
+        }
+        Ok(())
+    }
+
+    // Returns the names of the columns of the header; and one that is near to this name, or another delimiter, if that is in the name of the
+    // only column.
+    fn names_shown(&self, name: &str) -> Result<String, AllocError> {
         let mut text = String::new(self.alloc);
         let columns = self.record.len();
         for place in 0..columns.min(NAMED) {
@@ -288,7 +303,9 @@ impl<'a> Sheet<'a> {
             && let Some(other) = delimiter_in(self.bytes_at(0), self.delimiter.byte())
         {
             write!(text, "; is the delimiter `{other}`?")?;
+            return Ok(text);
         }
+        self.push_near(&mut text, name)?;
         Ok(text)
     }
 
@@ -311,7 +328,7 @@ impl<'a> Sheet<'a> {
         match found {
             Some(place) => Ok(Column { name, place }),
             None => {
-                let there = self.names_shown()?;
+                let there = self.names_shown(name)?;
                 let name = shown(self.alloc, name)?;
                 Err(self.bad_line(Fault::NoColumn { name, there }))
             }

@@ -1,32 +1,51 @@
 //! Files that are read whole.
+use crate::progress::Progress;
 use crate::trouble::Trouble;
 use std::fs;
 use std::io::Read;
-use std::rt::Files;
 
-// All that is left of a reader.
-fn read_all<'a, R: AllocGlobal, F: Read>(
-    rt: &R,
+// How many bytes are read before that is reported.
+const PART: u64 = 1 << 24;
+
+/// Returns what messages call the input of this name.
+pub fn said(name: &str) -> &str {
+    if name == "-" { "standard input" } else { name }
+}
+
+// Reads all that is left of a reader.
+fn read_all<'a, F: Read>(
+    rt: &HostRuntime,
+    progress: &mut Progress,
     file: &'a str,
     reader: &mut F,
 ) -> Result<Vec<u8>, Trouble<'a>> {
     let mut text = Vec::new(rt.alloc());
-    match reader.read_to_end(&mut text) {
-        Ok(_) => Ok(text),
-        Err(error) => Err(Trouble::of_file(file, error)),
+    for _ in 0..u64::MAX {
+        match reader.by_ref().take(PART).read_to_end(&mut text) {
+            Ok(0) => break,
+            Ok(n) => progress.tell(rt, said(file), n),
+            Err(error) => return Err(Trouble::of_file(file, error)),
+        }
     }
+    progress.tell_whole(rt, said(file));
+    Ok(text)
 }
 
-/// Reads a whole file, or standard input, which is named `-`.
-pub fn read_file<'a, R: Files + Input + AllocGlobal>(
-    rt: &R,
+/// Reads a whole file, or standard input, which is named `-`, and reports the progress.
+///
+/// # Errors
+///
+/// `File` if it can't be opened or read, `Memory` if an allocation fails.
+pub fn read_file<'a>(
+    rt: &HostRuntime,
+    progress: &mut Progress,
     file: &'a str,
 ) -> Result<Vec<u8>, Trouble<'a>> {
     if file == "-" {
-        return read_all(rt, file, &mut rt.reader());
+        return read_all(rt, progress, file, &mut rt.reader());
     }
     match fs::open(rt, file) {
-        Ok(mut opened) => read_all(rt, file, &mut opened),
-        Err(error) => Err(Trouble::File { file, error }),
+        Ok(mut opened) => read_all(rt, progress, file, &mut opened),
+        Err(error) => Err(Trouble::of_file(file, error)),
     }
 }

@@ -12,6 +12,7 @@ pub mod output;
 pub mod output_file;
 pub mod pace;
 pub mod program;
+pub mod progress;
 pub mod status;
 pub mod temporary_file;
 pub mod text;

@@ -1,5 +1,6 @@
 //! Options that several programs have.
-use clap::{Arg, ArgMatches, Command};
+use crate::progress::Reports;
+use clap::{Arg, ArgAction, ArgMatches, Command};
 use hashbag_text::encoding::{Encoding, NAMES};
 use std::alloc::{AllocError, Global};
 
@@ -72,6 +73,36 @@ pub fn encoding_arg<'a>(alloc: Global, name: &'a str, help: &'a str) -> Arg<'a> 
 /// Returns the encoding that is given to this argument, and `None` for UTF-8.
 pub fn encoding<'a>(given: &ArgMatches<'a>, name: &str) -> Option<Encoding> {
     Encoding::named(word(given, name, "UTF-8"))
+}
+
+/// Adds `--progress`, and `--quiet` with this help.
+pub fn with_progress<'a>(
+    alloc: Global,
+    command: CommandResult<'a>,
+    help: &'a str,
+) -> CommandResult<'a> {
+    let progress = Arg::new(alloc, "progress")
+        .long("progress")
+        .action(ArgAction::SetTrue)
+        .help("Report on standard error how far it is, also if that is no terminal");
+    let quiet = Arg::new(alloc, "quiet")
+        .short('q')
+        .long("quiet")
+        .action(ArgAction::SetTrue)
+        .help(help)
+        .conflicts_with("progress")?;
+    with(with(command, progress), quiet)
+}
+
+/// Returns when progress is reported, by `--progress` and `--quiet`.
+pub fn reports(given: &ArgMatches<'_>) -> Reports {
+    if given.get_flag("quiet") {
+        return Reports::Never;
+    }
+    if given.get_flag("progress") {
+        return Reports::Always;
+    }
+    Reports::OnTerminal
 }
 
 /// Adds `-o`, with this help.

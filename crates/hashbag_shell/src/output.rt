@@ -2,12 +2,23 @@
 use crate::output_file::OutputFile;
 use crate::trouble::Trouble;
 use std::fs::File;
-use std::io::{self, Write};
+use std::io::{self, Read, Write};
 use std::rt::Files;
 
 /// Writes a whole text to a writer.
 pub fn write_text<'a, W: Write>(output: &mut W, text: &[u8]) -> Result<(), Trouble<'a>> {
     if let Err(error) = output.write_all(text) {
+        return Err(Trouble::Write(error));
+    }
+    match output.flush() {
+        Ok(()) => Ok(()),
+        Err(error) => Err(Trouble::Write(error)),
+    }
+}
+
+// Copies all that there is to read to a writer.
+fn copy_text<'a, W: Write, I: Read>(output: &mut W, from: &mut I) -> Result<(), Trouble<'a>> {
+    if let Err(error) = io::copy(from, output) {
         return Err(Trouble::Write(error));
     }
     match output.flush() {
@@ -53,6 +64,21 @@ impl<'a> Output<'a> {
         match self {
             Output::Standard => write_text(&mut io::writer(rt), text),
             Output::Named(name, file) => match file.write_whole(rt, text) {
+                Ok(()) => Ok(()),
+                Err(error) => Err(Trouble::of_file(name, error)),
+            },
+        }
+    }
+
+    /// Writes all that there is to read.
+    ///
+    /// # Errors
+    ///
+    /// As of [`Output::write`], also if a read fails.
+    pub fn copy<R: Files + Print, I: Read>(self, rt: &R, from: &mut I) -> Result<(), Trouble<'a>> {
+        match self {
+            Output::Standard => copy_text(&mut io::writer(rt), from),
+            Output::Named(name, file) => match file.copy_whole(rt, from) {
                 Ok(()) => Ok(()),
                 Err(error) => Err(Trouble::of_file(name, error)),
             },

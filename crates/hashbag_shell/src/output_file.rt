@@ -39,8 +39,8 @@ fn open_beside<R: Files<File = File> + AllocGlobal>(
     Ok(OutputFile { file, names })
 }
 
-// Gives a new file the owner, the group and the permissions of the one that it replaces. It keeps its own owner, and perhaps its own group,
-// if the system doesn't let this user give it away.
+// Gives a new file the owner, the group and the permissions of the one that it replaces. If the system doesn't let this user change the owner,
+// the new file keeps its own, and perhaps its own group.
 fn keep_owner_and_mode(file: &File, former: &Metadata) -> io::Result<()> {
     let group = Some(former.gid());
     if fchown(file, Some(former.uid()), group).is_err() {
@@ -70,7 +70,7 @@ fn open_existing<R: Files<File = File> + AllocGlobal>(
     }
 }
 
-// Returns the name that a link has in the folder of the link.
+// Returns the path that a link's text means: from the folder of the link, unless it begins with `/`.
 fn target_of(alloc: Global, link: &str, text: &str) -> Result<String, AllocError> {
     match link.rsplit_once('/') {
         Some((folder, _)) if !text.starts_with('/') => format!(in alloc; "{folder}/{text}"),

@@ -1,4 +1,4 @@
-//! The tips of the argument parser, without those that mislead.
+//! Names that are near to a word, and the tips of the argument parser without those that mislead.
 use std::alloc::{AllocError, Global};
 use strsim::osa_distance;
 
@@ -9,8 +9,13 @@ fn quoted(text: &str) -> Option<&str> {
     Some(name)
 }
 
-// Returns whether at most a third of a word has to be changed to make it this name. Two characters in the wrong order are one change.
-fn is_near(alloc: Global, word: &str, name: &str) -> Result<bool, AllocError> {
+/// Returns whether at most a third of a word has to be changed to make it this name. Two characters in the wrong order are one change. Hyphens
+/// before them don't count.
+///
+/// # Errors
+///
+/// An allocation fails.
+pub fn is_near(alloc: Global, word: &str, name: &str) -> Result<bool, AllocError> {
     let (word, name) = (word.trim_start_matches('-'), name.trim_start_matches('-'));
     let changes = osa_distance(alloc, word, name)?;
     Ok(changes.saturating_mul(3) <= word.chars().count())

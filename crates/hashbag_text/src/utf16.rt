@@ -65,11 +65,11 @@ fn lone_char(unit: u16) -> Option<char>
     char::from_u32(u32::from(unit))
 }
 
-/// Returns the first unit of a pair that isn't whole after this unit, and the character that this unit ends.
+/// Returns this unit, if it is the first one of a pair; or the character that it ends.
 ///
 /// # Errors
 ///
-/// `LoneSurrogate` if it isn't the second unit that is wanted, or is one that isn't.
+/// `LoneSurrogate` if a second unit of a pair is wanted and this is none, or if none is wanted and this is one.
 pub fn after_unit(high: Option<High>, unit: u16) -> Result<(Option<High>, Option<char>), Fault>
     ensures character { IfOk result (EndsUnit high unit) }
 
