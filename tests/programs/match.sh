@@ -29,7 +29,7 @@ ends 2 "hashbag_match: stray.csv:3: quote in a field without quotes" a.csv stray
 # Decimals, delimiters, several key columns, and names for each file
 printf 'article,number\nflour,1.5\nflour,0.25\n' > kilos.csv
 printf 'Artikel;Menge\nflour;1,70\n' > menge.csv
-ends 2 'hashbag_match: kilos.csv:2: whole numbers only: `1.5`' kilos.csv a.csv
+ends 2 'hashbag_match: kilos.csv:2: whole numbers only: `1.5`'$'\n''hashbag_match: kilos.csv:3: whole numbers only: `0.25`' kilos.csv a.csv
 ends 2 'hashbag_match: kilos.csv:3: more than 1 decimals: `0.25`' kilos.csv a.csv --scale 1
 ends 2 "$(printf "error: invalid value '10' for '--scale <D>'\n  [possible values: 0, 1, 2, 3, 4, 5, 6, 7, 8, 9]\n\nFor more information, try '--help'.")" kilos.csv a.csv --scale 10
 ends 0 "" kilos.csv kilos.csv --scale 2 --to csv
@@ -102,7 +102,7 @@ ends 0 "" blank.csv blank.csv --blank-is-zero --to csv
 has ../out 'article,ordered,delivered,missing,surplus\nbolt,2,2,0,0\nnut,0,0,0,0\n' "empty numbers"
 ends 0 "" blank.csv blank.csv --blank-is-zero --scale 2 --only missing --to json
 has ../out '[]\n' "empty numbers at a scale"
-ends 2 'hashbag_match: blank.csv:2: no number: ``' blank.csv blank.csv
+ends 2 $'hashbag_match: blank.csv:2: no number: ``\nhashbag_match: blank.csv:3: no number: ``' blank.csv blank.csv
 ends 2 'hashbag_match: space.csv:2: no number: ` `' blank.csv space.csv --blank-is-zero
 
 # Fields that are missing at the end of a record are empty, if that is asked for; more fields than the header has are a bad line
@@ -110,7 +110,7 @@ printf 'article,number,note\nnut,1\nbolt\n' > short.csv
 printf 'article,number,note\nnut,1,x,y\n' > long.csv
 ends 0 "" short.csv short.csv --allow-short --blank-is-zero --to csv
 has ../out 'article,ordered,delivered,missing,surplus\nbolt,0,0,0,0\nnut,1,1,0,0\n' "short records"
-ends 2 'hashbag_match: short.csv:2: 3 fields wanted, 2 found' short.csv short.csv --blank-is-zero
+ends 2 $'hashbag_match: short.csv:2: 3 fields wanted, 2 found\nhashbag_match: short.csv:3: 3 fields wanted, 1 found' short.csv short.csv --blank-is-zero
 ends 2 'hashbag_match: short.csv:3: no number: ``' short.csv short.csv --allow-short
 ends 2 'hashbag_match: long.csv:2: 3 fields wanted, 4 found' short.csv long.csv --allow-short --blank-is-zero
 ends 0 "" short.csv short.csv --allow-short --each-line --key note --to csv
@@ -123,7 +123,7 @@ line4='hashbag_match: bads.csv:4: 2 fields wanted, 1 found'
 line5='hashbag_match: bads.csv:5: 2 fields wanted, 3 found'
 line6='hashbag_match: bads.csv:6: text after a closing quote'
 line7='hashbag_match: bads.csv:7: no number: `-1`'
-ends 2 "$line2" bads.csv bads.csv
+ends 2 "$line2"$'\n'"$line4"$'\n'"$line5"$'\n'"$line6"$'\n'"$line7" bads.csv bads.csv
 ends 2 "$line2" bads.csv bads.csv --max-errors 1
 ends 2 "$line2"$'\n'"$line4" bads.csv bads.csv --max-errors 2
 ends 2 "$line2"$'\n'"$line4"$'\n'"$line5"$'\n'"$line6"$'\n'"$line7" a.csv bads.csv --max-errors 0
@@ -169,9 +169,9 @@ printf 'article;number\nnut;1.000\nbolt;1.00,5\n' > twos.csv
 printf 'article;number\nnut;1 000\nbolt;.100\n' > front.csv
 ends 0 "" grouped.csv ungrouped.csv --delimiter ';' --mark , --scale 2 --group-mark . --to csv
 has ../out 'article;ordered;delivered;missing;surplus\nbolt;1000,00;1000,00;0,00;0,00\nnut;12346678,50;12346678,50;0,00;0,00\n' "numbers in groups"
-ends 2 'hashbag_match: grouped.csv:2: no number: `1.000,5`' grouped.csv ungrouped.csv --delimiter ';' --mark , --scale 2
+ends 2 $'hashbag_match: grouped.csv:2: no number: `1.000,5`\nhashbag_match: grouped.csv:3: no number: `12.345.678`' grouped.csv ungrouped.csv --delimiter ';' --mark , --scale 2
 ends 2 'hashbag_match: twos.csv:3: groups of three digits wanted: `1.00,5`' twos.csv twos.csv --delimiter ';' --mark , --scale 2 --group-mark .
-ends 2 'hashbag_match: front.csv:2: no number: `1 000`' front.csv front.csv --delimiter ';' --mark , --group-mark .
+ends 2 $'hashbag_match: front.csv:2: no number: `1 000`\nhashbag_match: front.csv:3: groups of three digits wanted: `.100`' front.csv front.csv --delimiter ';' --mark , --group-mark .
 ends 2 'hashbag_match: front.csv:3: no number: `.100`' front.csv front.csv --delimiter ';' --mark , --group-mark ' '
 ends 2 'hashbag_match: --group-mark is the mark before decimals' a.csv b.csv --group-mark .
 ends 2 'hashbag_match: --group-mark is the delimiter' a.csv b.csv --group-mark ,
@@ -185,7 +185,7 @@ ends 1 "" spaced.csv plain.csv --key 'article ,lot' --to csv --only missing -q
 has ../out 'article ,lot,ordered,delivered,missing,surplus\n bolt  M4\t,L1,1,0,1,0\nbolt  M4, L1,2,0,2,0\n"nut\n",\t,4,0,4,0\n' "fields as they are"
 ends 0 "" spaced.csv spaced.csv --trim --each-line --key lot --to json
 has ../out '[{"lot":"","ordered":1,"delivered":1,"missing":0,"surplus":0},{"lot":"L1","ordered":2,"delivered":2,"missing":0,"surplus":0}]\n' "a trimmed column"
-ends 2 'hashbag_match: spaced.csv:1: no column `article`; there are: `article `, `lot`, `number`' spaced.csv plain.csv --trim
+ends 2 'hashbag_match: spaced.csv:1: no column `article`; there are: `article `, `lot`, `number`; is it `article `?' spaced.csv plain.csv --trim
 
 # Upper and lower case as one, by full case folding, which makes ss of a sharp s; not in the names of columns
 printf 'Sku,number\nStra\303\237e,1\n STRASSE,2\n\316\243\317\202,1\n' > cased.csv
@@ -196,7 +196,7 @@ ends 1 "" cased.csv lower.csv --key Sku --fold --only surplus --to csv -q
 has ../out 'Sku,ordered,delivered,missing,surplus\nstrasse,1,3,0,2\n' "folded fields that aren't trimmed"
 ends 1 "" cased.csv lower.csv --key Sku --trim --only surplus --to csv -q
 has ../out 'Sku,ordered,delivered,missing,surplus\nstrasse,0,3,0,3\n\317\203\316\243,0,1,0,1\n' "trimmed fields that aren't folded"
-ends 2 'hashbag_match: cased.csv:1: no column `sku`; there are: `Sku`, `number`' cased.csv lower.csv --key sku --fold
+ends 2 'hashbag_match: cased.csv:1: no column `sku`; there are: `Sku`, `number`; is it `Sku`?' cased.csv lower.csv --key sku --fold
 
 # Outputs: whole or not at all, and no input
 printf 'old\n' > kept
@@ -236,17 +236,33 @@ printf 'article,number\nbolt,18446744073709551615\nnut,1\n' > many.csv
 ends 5 "hashbag_match: many.csv:3: total past 18446744073709551615" a.csv many.csv
 for words in "" "a.csv" "- -" "a.csv b.csv --scale 10" "a.csv b.csv --delimiter x" "a.csv b.csv --key article,article" "a.csv b.csv --only some" "a.csv b.csv --none" \
   "a.csv b.csv --each-line --number number" "a.csv b.csv --each-line --delivered-number number" "a.csv b.csv --scale 0 --each-line" "a.csv b.csv --each-line --blank-is-zero" "a.csv b.csv --each-line --group-mark ." "a.csv b.csv --group-mark 0" "a.csv b.csv --group-mark -" \
-  "a.csv b.csv --max-errors x" "a.csv b.csv --max-errors -1"; do
+  "a.csv b.csv --max-errors x" "a.csv b.csv --max-errors -1" "a.csv b.csv --progress --quiet"; do
   # shellcheck disable=SC2086
   "$program" $words > ../out 2> ../err < /dev/null
   [ $? = 2 ] && [ ! -s ../out ] && [ -s ../err ] || fail "bad arguments: $words"
 done
+# No text: a NUL byte, and gzip
+printf 'article,number\nbolt,1\nnut\0,1\n' > nul.csv
+ends 2 'hashbag_match: nul.csv:3: a NUL byte; if it is UTF-16, `--encoding UTF-16LE` reads it' a.csv nul.csv
+gzip -c a.csv > packed.csv
+ends 2 'hashbag_match: packed.csv:1: gzip; `zcat` makes it text' packed.csv a.csv
+
+# Progress: each file that was read is a line, but not with --quiet. Of large files a terminal shows it at once, and it is erased at the end.
+"$program" a.csv b.csv --progress --only missing > ../out 2> ../err
+sed 's/%.*/%/' ../err > lines
+has lines 'a.csv: 0.0 MB of 0.0 MB, 42%%\nb.csv: 0.0 MB of 0.0 MB, 100%%\n' "progress"
+{ printf 'article,number\n' && head -c 68000000 /dev/zero | tr '\0' a && printf ',1\n'; } > large.csv
+shown=$(script -qec "'$program' large.csv large.csv --only missing --to csv" /dev/null < /dev/null | tr '\r\033' '<>')
+[ "$(sed 's/%[^<]*/%/g' <<< "$shown")" = '<>[Klarge.csv: 68.0 MB of 136.0 MB, 50%<>[Klarge.csv: 136.0 MB of 136.0 MB, 100%<>[Karticle,ordered,delivered,missing,surplus<' ] || fail "progress on a terminal: $shown"
+[ "$(script -qec "'$program' large.csv large.csv --quiet --only missing --to csv" /dev/null < /dev/null | tr -d '\r')" = article,ordered,delivered,missing,surplus ] || fail "progress with --quiet"
+rm large.csv
+
 for option in --version -V; do
   ends 0 "" $option
   grep -Eqx 'hashbag_match 0\.1\.13-[0-9]+' ../out || fail "no version"
 done
 ends 0 "" --help
-for name in --key --number --delivered-key --delivered-number --each-line --blank-is-zero --group-mark --allow-short --trim --fold --delimiter --scale --mark --encoding --delivered-encoding --only --to --carry --max-errors --quiet --output; do
+for name in --key --number --delivered-key --delivered-number --each-line --blank-is-zero --group-mark --allow-short --trim --fold --delimiter --scale --mark --encoding --delivered-encoding --only --to --carry --max-errors --progress --quiet --output; do
   grep -q -e "$name" ../out || fail "no $name in the help"
 done
 echo "match: ok"

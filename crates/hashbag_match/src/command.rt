@@ -2,7 +2,7 @@
 use clap::{Arg, ArgAction, Command, value_parser};
 use hashbag_shell::VERSION;
 use hashbag_shell::options::{
-    CommandResult, encoding_arg, with, with_heading, with_output, with_reading,
+    CommandResult, encoding_arg, with, with_heading, with_output, with_progress, with_reading,
 };
 use std::alloc::Global;
 
@@ -114,14 +114,11 @@ fn with_messages<'a>(alloc: Global, command: CommandResult<'a>) -> CommandResult
         .long("max-errors")
         .value_name("N")
         .value_parser(value_parser!(usize))
-        .default_value("1")
+        .default_value("10")
         .help("How many bad lines of a file are named; 0 for all");
-    let quiet = Arg::new(alloc, "quiet")
-        .short('q')
-        .long("quiet")
-        .action(ArgAction::SetTrue)
-        .help("Name no articles that differ only in case, white space or normal form");
-    with(with(command, max_errors), quiet)
+    let help =
+        "Name no articles that differ only in case, white space or normal form, and report no progress";
+    with_progress(alloc, with(command, max_errors), help)
 }
 
 // Adds the encodings of the files.

@@ -9,7 +9,8 @@ use hashbag_match_lib::ask::{Ask, Columns};
 use hashbag_match_lib::keys::names_in;
 use hashbag_match_lib::output::{Form, Only};
 use hashbag_shell::one_file::is_one_file;
-use hashbag_shell::options::{encoding, word};
+use hashbag_shell::options::{encoding, reports, word};
+use hashbag_shell::progress::Reports;
 use hashbag_shell::trouble::Trouble;
 use hashbag_text::encoding::Encoding;
 use std::alloc::{AllocError, Global};
@@ -26,8 +27,8 @@ pub struct Request<'a> {
     pub encodings: (Option<Encoding>, Option<Encoding>),
     /// The file that is written, or standard output.
     pub output: Option<&'a str>,
-    /// How many bad lines of a file are named.
-    pub max_errors: usize,
+    /// When progress is reported.
+    pub reports: Reports,
     /// What is asked for.
     pub ask: Ask<'a>,
 }
@@ -37,7 +38,7 @@ fn max_errors_of(given: &ArgMatches<'_>) -> usize {
     match given.get_one::<usize>("max-errors") {
         Some(0) => usize::MAX,
         Some(number) => number,
-        None => 1,
+        None => 10,
     }
 }
 
@@ -87,6 +88,7 @@ fn ask_of<'a>(alloc: Global, given: &ArgMatches<'a>) -> Result<Ask<'a>, AllocErr
         },
         only: Only::named(word(given, "only", "all")),
         form: Form::named(word(given, "to", "table")),
+        max_errors: max_errors_of(given),
         quiet: given.get_flag("quiet"),
     })
 }
@@ -116,7 +118,7 @@ impl<'a> Request<'a> {
             delivered: given.get_str("DELIVERED.csv").unwrap_or("-"),
             encodings: encodings_of(given),
             output: given.get_str("output"),
-            max_errors: max_errors_of(given),
+            reports: reports(given),
             ask: ask_of(rt.alloc(), given)?,
         };
         request.check(rt)?;

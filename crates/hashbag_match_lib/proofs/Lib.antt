@@ -1,5 +1,6 @@
 pub mod ArticleLemmas
 pub mod ByteLemmas
+pub mod CarriedLemmas
 pub mod LineLemmas
 pub mod RowLemmas
 pub mod SumLemmas

@@ -1,5 +1,5 @@
 -- Lines that are tallied one after the other.
-use Rattle.std.proofs.Common.{◌≡◌, ℕ, Bool, Bor, List, [], ◌∷◌, ◌++◌, length, map, Option, refl, sym, ◌∙◌, ap, append_assoc}
+use Rattle.std.proofs.Common.{◌≡◌, ℕ, Bool, Bor, List, [], ◌∷◌, ◌++◌, map, Option, sym, ◌∙◌, ap, append_assoc}
 use Rattle.std.specs.Prelude.{option_copied, option_map}
 use Rattle.std.proofs.lemmas.List.{append-nil, map-append}
 use Rattle.hashbag_csv.specs.LineColumns.{line_bytes}

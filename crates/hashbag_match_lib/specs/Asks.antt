@@ -1,5 +1,5 @@
 -- What a request names, and the lines of both texts.
-use Rattle.std.specs.Prelude.{ℕ, List, map, Option, option_copied}
+use Rattle.std.specs.Prelude.{ℕ, ◌==◌, if◌then◌else◌, List, [], map, vec_len, Option, option_copied}
 use Rattle.std.specs.Borrow.{Bor}
 use Rattle.hashbag_csv.specs.FirstLines.{Carried, carried_in}
 use Rattle.hashbag_csv.specs.Lines.{lines_in}
@@ -21,13 +21,17 @@ names_of c = map (λ k. k.now) c.keys.items
 abbrev pub lines_of : Reading → LineForm → Columns → List ℕ → Lines
 lines_of reading form c text = lines_in reading form (names_of c) (option_copied c.number) text
 
+-- the lines of a text, read as is asked for
+abbrev pub lines_asked : Ask → Columns → List ℕ → Lines
+lines_asked ask c text = lines_of ask.reading ask.line_form c text
+
 -- the lines of a text of what was ordered
 abbrev pub ordered_in : Ask → List ℕ → Lines
-ordered_in ask text = lines_of ask.reading ask.line_form ask.ordered text
+ordered_in ask text = lines_asked ask ask.ordered text
 
 -- the lines of a text of what was delivered
 abbrev pub delivered_in : Ask → List ℕ → Lines
-delivered_in ask text = lines_of ask.reading ask.line_form ask.delivered text
+delivered_in ask text = lines_asked ask ask.delivered text
 
 -- the lines of a text, by the names of its key columns and of its column of numbers, if there is one
 abbrev pub lines_named : Reading → LineForm → List (Bor (List ℕ)) → Option (Bor (List ℕ)) → List ℕ → Lines
@@ -36,3 +40,7 @@ lines_named reading form keys number text = lines_in reading form (map (λ k. k.
 -- articles with the fields that are carried along, of the lines of a text with these columns
 abbrev pub carried_of : Ask → Columns → List ℕ → List Carried
 carried_of ask c text = carried_in ask.reading.delimiter ask.line_form.key (names_of c) (map (λ k. k.now) ask.carried.items) text
+
+-- the same if columns are named whose fields are carried along, and else none
+abbrev pub carried_along : Ask → Columns → List ℕ → List Carried
+carried_along ask c text = if vec_len ask.carried == 0 then [] else carried_of ask c text

@@ -1,5 +1,5 @@
 -- Articles as the fields of their key columns.
-use Rattle.std.specs.Prelude.{◌≡◌, ℕ, Bool, List, [], ◌∷◌, ◌++◌, ◌↔◌, map, IsTrue, String}
+use Rattle.std.specs.Prelude.{◌≡◌, ℕ, Bool, List, [], ◌∷◌, ◌++◌, map, String}
 use Rattle.std.specs.Borrow.{Bor}
 use Rattle.std.specs.Global.{Global, Vec}
 use Rattle.std.specs.HashMap.{HashMap}
@@ -8,10 +8,9 @@ use Rattle.hashbag.specs.Bag.{Bag}
 use Rattle.hashbag_csv.specs.FirstLines.{Carried, HasFirsts, first_of}
 use Rattle.hashbag_csv.specs.LineColumns.{line_bytes}
 use Rattle.hashbag_csv.specs.Readers.{Record}
-use Rattle.hashbag_match_lib.specs.Asks.{Lines, delivered_in, ordered_in}
+use Rattle.hashbag_match_lib.specs.Asks.{Lines}
 use Rattle.hashbag_match_lib.specs.Matched.{HaveSameQuantities, IsStatusOf}
 use Rattle.hashbag_match_lib.specs.Tallies.{IsTallyOf}
-use Rattle.hashbag_match_lib.specs.declared.ask.Ask.{Ask}
 use Rattle.hashbag_match_lib.specs.declared.matching.Row.{Row}
 use Rattle.hashbag_match_lib.specs.declared.tally.Tally.{Tally}
 
@@ -37,11 +36,6 @@ module _ {A : Type 0} (eq : A → A → Bool) where
   abbrev pub IsStatusOfLines : {S H : Type 0} → (A → Record) → Tally A S H → Tally A S H → ℕ → Type 0
   IsStatusOfLines fields ordered delivered status =
       (L M : Lines) → IsTallyOfLines fields L ordered.counts ordered.zeros → IsTallyOfLines fields M delivered.counts delivered.zeros → IsStatusOf (HaveSameQuantities L M) status
-
-  -- the status is 0 exactly if the text of what was delivered names as many of each article as any text does whose lines were tallied; else it is 1
-  abbrev pub IsStatusOfTexts : {S H : Type 0} → (A → Record) → Ask → Tally A S H → List ℕ → ℕ → Type 0
-  IsStatusOfTexts fields ask ordered text status =
-      (first : List ℕ) → IsTallyOfLines fields (ordered_in ask first) ordered.counts ordered.zeros → IsStatusOf (HaveSameQuantities (ordered_in ask first) (delivered_in ask text)) status
 
 -- each row has the fields that are carried along with its article, whatever lines the map is of
 abbrev pub CarriesFirsts : {A S : Type 0} → (A → A → Bool) → (A → Record) → HashMap A (Vec (String Global)) S → List (Row (Bor A)) → List (Bor (List (String Global))) → Type 0

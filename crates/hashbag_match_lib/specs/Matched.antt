@@ -1,9 +1,10 @@
 -- Two lists, matched by the bytes of their articles.
-use Rattle.std.specs.Prelude.{◌≡◌, ◌↔◌, ◌⊎◌, ℕ}
+use Rattle.std.specs.Prelude.{◌≡◌, ◌↔◌, ◌⊎◌, ℕ, List}
 use Rattle.hashbag_csv.specs.Articles.{same_article}
 use Rattle.hashbag_csv.specs.Quantities.{quantity}
 use Rattle.hashbag_csv.specs.Readers.{Record}
-use Rattle.hashbag_match_lib.specs.Asks.{Lines}
+use Rattle.hashbag_match_lib.specs.Asks.{Lines, delivered_in, ordered_in}
+use Rattle.hashbag_match_lib.specs.declared.ask.Ask.{Ask}
 
 -- each article in the same quantity
 abbrev pub HaveSameQuantities : Lines → Lines → Type 0
@@ -12,3 +13,7 @@ HaveSameQuantities L M = (v : Record) → quantity same_article v L ≡ quantity
 -- the exit status of a comparison: 0 exactly if this holds, else 1
 abbrev pub IsStatusOf : Type 0 → ℕ → Type 0
 IsStatusOf Agrees status = (status ≡ 0 ↔ Agrees) × (status ≡ 0 ⊎ status ≡ 1)
+
+-- the status is 0 exactly if the texts of what was ordered and of what was delivered name as many of each article; else it is 1
+abbrev pub IsStatusOfTexts : Ask → List ℕ → List ℕ → ℕ → Type 0
+IsStatusOfTexts ask ordered delivered status = IsStatusOf (HaveSameQuantities (ordered_in ask ordered) (delivered_in ask delivered)) status

@@ -14,11 +14,11 @@ module _ {T : Type 0} (eq : T → T → Bool) where
   abbrev pub zeros_of : T → List (T × ℕ) → ℕ
   zeros_of v L = sum_by (λ e. if eq v e.0 then (if e.1 == 0 then 1 else 0) else 0) L
 
-  -- one bag has each article as often as the list names in all, and the other has the articles that it names with the number 0. The first
-  -- bag has no lower limit than `usize::MAX`, and its length is the sum of the numbers
-  pub record IsTallyOf {S : Type 0} (L : List (T × ℕ)) (bag none : Bag T S) : Type 0 where
+  -- `bag` has each article as often as the list names in all, and `at_zero` has the articles that the list names with the number 0. The limit of
+  -- `bag` is `usize::MAX`, and its length is the sum of the numbers
+  pub record IsTallyOf {S : Type 0} (L : List (T × ℕ)) (bag at_zero : Bag T S) : Type 0 where
     pub counts : (v : T) → count eq v bag.items ≡ quantity eq v L
-    pub zeros : (v : T) → count eq v none.items ≡ zeros_of v L
+    pub zeros : (v : T) → count eq v at_zero.items ≡ zeros_of v L
     pub len : length bag.items ≡ numbers L
     pub fits : numbers L ≤ greatest_total
     pub limit : bag.most ≡ greatest_total

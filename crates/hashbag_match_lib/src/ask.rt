@@ -46,6 +46,8 @@ pub struct Ask<'a> {
     pub only: Only,
     /// How they are written.
     pub form: Form,
+    /// How many bad lines of a file are named.
+    pub max_errors: usize,
     /// Whether articles that are perhaps one aren't named.
     pub quiet: bool,
 }

@@ -3,6 +3,7 @@
 
 pub mod ask;
 pub mod carrying;
+pub mod files;
 pub mod keys;
 pub mod matching;
 pub mod near;

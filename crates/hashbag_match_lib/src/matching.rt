@@ -84,7 +84,7 @@ fn is_in_neither<T: Eq + Hash + Drop, S: BuildHasher + Drop>(
     ordered.contains(article) == 0 && delivered.contains(article) == 0
 }
 
-// Appends a row without numbers for each article that only lines with the number 0 name.
+// Appends a row of two zeros for each article whose lines all have the number 0.
 fn push_zeros<'a, T: Ord + Hash + Drop, S: BuildHasher + Drop>(
     rows: &mut Vec<Row<&'a T>>,
     ordered: &'a Tally<T, S>,
@@ -104,7 +104,7 @@ fn push_zeros<'a, T: Ord + Hash + Drop, S: BuildHasher + Drop>(
     Ok(())
 }
 
-/// Returns the rows of two tallies: each article that is named in one row, with its quantity in both, articles in ascending order. The sums of the
+/// Returns the rows of two tallies: one for each article that either names, with its quantity in both, articles in ascending order. The sums of the
 /// rows are at most the totals of the tallies.
 ///
 /// # Errors
@@ -113,7 +113,7 @@ fn push_zeros<'a, T: Ord + Hash + Drop, S: BuildHasher + Drop>(
 ///
 /// # Complexity
 ///
-/// Allocates the rows. Looks each article up in the other bag, and an article that a line names with the number 0 in three bags more.
+/// Allocates the rows. Looks each article up in the other bag, and an article that a line names with the number 0 in the other bag of zeros and in both bags of counts.
 /// Sorts the rows.
 pub fn rows_of_tallies<'a, T: Ord + Hash + Drop, S: BuildHasher + Drop>(
     alloc: Global,
@@ -149,7 +149,7 @@ pub fn match_tallies<'a, T: Ord + Hash + Drop, S: BuildHasher + Drop>(
     ensures table { IfOk result (λ matched. AreRowsOfTallies T.eq T.cmp ordered.now delivered.now (lent_rows matched.rows.items)) }
     ensures totals { IfOk result (λ matched. AreTotals matched.rows.items matched.totals) }
 
-    // It is true exactly if both name as many of each article.
+    // `agree` is true exactly if both name as many of each article.
     ensures agree { IfOk result (λ matched. SaysWhetherTalliesAgree T.eq ordered.now delivered.now matched.agree) }
 {
     let rows = rows_of_tallies(alloc, ordered, delivered)?;

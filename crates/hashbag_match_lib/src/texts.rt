@@ -1,8 +1,8 @@
-//! Two CSV texts, matched: from their bytes to the bytes that are written.
+//! Two lists: read from their CSV texts, matched, and written.
 ghost use Rattle.std.specs.Prelude.{IfOk, IsTrue, OnOk};
 ghost use Rattle.hashbag_csv.specs.FirstLines.{AddsFirsts};
-ghost use Rattle.hashbag_match_lib.specs.Asks.{carried_of, delivered_in, ordered_in};
-ghost use Rattle.hashbag_match_lib.specs.Fields.{IsStatusOfLines, IsStatusOfTexts, TalliesLines};
+ghost use Rattle.hashbag_match_lib.specs.Asks.{carried_along, lines_asked};
+ghost use Rattle.hashbag_match_lib.specs.Fields.{IsStatusOfLines, TalliesLines};
 ghost use Rattle.hashbag_match_lib.specs.Matched.{IsStatusOf};
 
 use crate::ask::{Ask, Columns};
@@ -20,8 +20,8 @@ use std::alloc::{AllocError, Global};
 use std::collections::HashMap;
 use std::hash::BuildHasher;
 
-/// Adds the lines of a text with these columns: of each article that isn't there yet the fields that are carried along. If `may_lack`, the
-/// header may lack such a column, whose fields are empty then.
+/// Adds the lines of a text with these columns: of each article that isn't there yet the fields that are carried along, if some are. If
+/// `may_lack`, the header may lack such a column, whose fields are empty then.
 ///
 /// # Errors
 ///
@@ -29,7 +29,7 @@ use std::hash::BuildHasher;
 ///
 /// # Complexity
 ///
-/// Same as [`add_first_lines`].
+/// Same as [`add_first_lines`]. Does nothing if no fields are carried along.
 pub fn carry_lines<A: Article + Drop, S: BuildHasher + Drop>(
     alloc: Global,
     text: &[u8],
@@ -38,8 +38,11 @@ pub fn carry_lines<A: Article + Drop, S: BuildHasher + Drop>(
     ask: &Ask<'_>,
     firsts: &mut HashMap<A, Vec<String>, S>,
 ) -> Result<(), SheetError>
-    ensures { OnOk result (AddsFirsts A.eq A.fields (carried_of ask.now columns.now text.now) firsts.old firsts.new) }
+    ensures { OnOk result (AddsFirsts A.eq A.fields (carried_along ask.now columns.now text.now) firsts.old firsts.new) }
 {
+    if ask.carried.is_empty() {
+        return Ok(());
+    }
     let names = Names {
         keys: &columns.keys,
         carried: &ask.carried,
@@ -57,7 +60,7 @@ pub fn carry_lines<A: Article + Drop, S: BuildHasher + Drop>(
     Ok(())
 }
 
-/// Reads what was ordered. Its text isn't needed any more after that.
+/// Returns the tally of the lines of a text with these columns.
 ///
 /// # Errors
 ///
@@ -66,15 +69,15 @@ pub fn carry_lines<A: Article + Drop, S: BuildHasher + Drop>(
 /// # Complexity
 ///
 /// Same as [`read_tally`].
-pub fn read_ordered<A: Article + Drop, S: BuildHasher + Copy + Drop>(
+pub fn tally_of<A: Article + Drop, S: BuildHasher + Copy + Drop>(
     alloc: Global,
     state: S,
     text: &[u8],
+    columns: &Columns<'_>,
     ask: &Ask<'_>,
 ) -> Result<Tally<A, S>, SheetError>
-    ensures { IfOk result (λ tally. TalliesLines A.eq A.fields (ordered_in ask.now text.now) tally) }
+    ensures { IfOk result (λ tally. TalliesLines A.eq A.fields (lines_asked ask.now columns.now text.now) tally) }
 {
-    let columns = &ask.ordered;
     read_tally(
         alloc,
         state,
@@ -86,25 +89,15 @@ pub fn read_ordered<A: Article + Drop, S: BuildHasher + Copy + Drop>(
     )
 }
 
-// Reads what was delivered.
-fn read_delivered<A: Article + Drop, S: BuildHasher + Copy + Drop>(
-    alloc: Global,
-    state: S,
-    text: &[u8],
-    ask: &Ask<'_>,
-) -> Result<Tally<A, S>, SheetError>
-    ensures { IfOk result (λ tally. TalliesLines A.eq A.fields (delivered_in ask.now text.now) tally) }
-{
-    let columns = &ask.delivered;
-    read_tally(
-        alloc,
-        state,
-        text,
-        &columns.keys,
-        columns.number,
-        ask.reading,
-        ask.line_form,
-    )
+/// Both lists, as they were read.
+#[derive(Drop)]
+pub struct Lists<A: Article + Drop, S: BuildHasher + Drop> {
+    /// What was ordered.
+    pub ordered: Tally<A, S>,
+    /// What was delivered.
+    pub delivered: Tally<A, S>,
+    /// The fields that are carried along with each article, if some are.
+    pub firsts: HashMap<A, Vec<String>, S>,
 }
 
 /// What two lists say of each other, besides the text that is written.
@@ -123,22 +116,28 @@ fn status_of(agree: bool) -> u8
     if agree { DONE } else { DENIED }
 }
 
-// Returns what is written of two tallies, with what is carried along, and the exit status.
-fn written<A: Article + Drop, S: BuildHasher + Copy + Drop>(
+/// Matches two lists. Returns what is written, and the exit status: 0 if as many of each article were delivered as ordered, else 1.
+///
+/// # Errors
+///
+/// An allocation fails.
+///
+/// # Complexity
+///
+/// Same as [`match_tallies`].
+pub fn match_lists<A: Article + Drop, S: BuildHasher + Copy + Drop>(
     alloc: Global,
     state: S,
-    ordered: &Tally<A, S>,
-    delivered: &Tally<A, S>,
-    firsts: &HashMap<A, Vec<String>, S>,
+    lists: &Lists<A, S>,
     ask: &Ask<'_>,
 ) -> Result<(Vec<u8>, Findings), AllocError>
-    ensures status { IfOk result (λ made. IsStatusOfLines A.eq A.fields ordered.now delivered.now made.1.status) }
+    ensures status { IfOk result (λ made. IsStatusOfLines A.eq A.fields lists.now.ordered lists.now.delivered made.1.status) }
 {
-    let matched = match_tallies(alloc, ordered, delivered)?;
+    let matched = match_tallies(alloc, &lists.ordered, &lists.delivered)?;
     let carried = if ask.carried.is_empty() {
         Vec::new(alloc)
     } else {
-        carried_rows(alloc, &matched.rows, firsts)?
+        carried_rows(alloc, &matched.rows, &lists.firsts)?
     };
     let layout = Layout {
         keys: &ask.ordered.keys,
@@ -155,32 +154,4 @@ fn written<A: Article + Drop, S: BuildHasher + Copy + Drop>(
     };
     let status = status_of(matched.agree);
     Ok((text, Findings { status, near }))
-}
-
-/// Reads what was delivered, and matches it with what was ordered. `firsts` has what is carried along from the lines that were ordered; what
-/// was delivered is added. Returns what is written, and the exit status: 0 if as many of each article were delivered as ordered, else 1.
-///
-/// # Errors
-///
-/// `Line` for the first bad line, and what is wrong with it. `Memory` if an allocation fails.
-///
-/// # Complexity
-///
-/// Same as [`read_tally`] and [`match_tallies`] together.
-pub fn match_delivered<A: Article + Drop, S: BuildHasher + Copy + Drop>(
-    alloc: Global,
-    state: S,
-    ordered: &Tally<A, S>,
-    firsts: &mut HashMap<A, Vec<String>, S>,
-    text: &[u8],
-    ask: &Ask<'_>,
-) -> Result<(Vec<u8>, Findings), SheetError>
-    // It is 0 exactly if the text names as many of each article as any text with the lines that were tallied as ordered; else 1.
-    ensures status { IfOk result (λ made. IsStatusOfTexts A.eq A.fields ask.now ordered.now text.now made.1.status) }
-{
-    let delivered = read_delivered(alloc, state, text, ask)?;
-    if !ask.carried.is_empty() {
-        carry_lines(alloc, text, &ask.delivered, true, ask, firsts)?;
-    }
-    Ok(written(alloc, state, ordered, &delivered, firsts, ask)?)
 }

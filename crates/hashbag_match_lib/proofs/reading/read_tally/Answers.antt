@@ -1,4 +1,4 @@
-use Rattle.std.proofs.Common.{◌≡◌, [], ◌∷◌, ◌++◌, ◌∙◌, All, refl, sym, ap, map, subst, true, ℕ}
+use Rattle.std.proofs.Common.{◌≡◌, [], ◌∙◌, All, refl, sym, subst, true, ℕ}
 use Rattle.hashbag_csv.specs.LineColumns.{form_of, key_places, number_place}
 use Rattle.hashbag_csv.specs.Readers.{Record}
 use Rattle.hashbag_csv.specs.Sheets.{FitHeader, fits_header, left, read_last, width_of}

@@ -1,5 +1,5 @@
 use Rattle.hashbag_match_lib.proofs.ByteLemmas.{agree_by_bytes, status_by}
-use Rattle.hashbag_match_lib.proofs.texts.written.Goals as goal
+use Rattle.hashbag_match_lib.proofs.texts.match_lists.Goals as goal
 
 -- the lists agree on articles if they do on the bytes of their fields
 pub returns : goal.returns

@@ -1,0 +1,227 @@
+//! Two lists in two files: read one after the other, and matched. What is read of which file is decided here, whatever has the files.
+ghost use Rattle.std.specs.Prelude.{◌≡◌, ℕ, List, IfErr, IfOk, IfSome};
+ghost use Rattle.hashbag_match_lib.specs.Asks.{lines_asked};
+ghost use Rattle.hashbag_match_lib.specs.Fields.{TalliesLines};
+ghost use Rattle.hashbag_match_lib.specs.Files.{AreErrorsIn, AreListsOf, IsListOf, IsStatusOfFiles, NamesLines, NamesLinesIn, NamesLinesOf};
+
+use crate::ask::{Ask, Columns};
+use crate::tally::Tally;
+use crate::texts::{Findings, Lists, carry_lines, match_lists, tally_of};
+use hashbag_csv::article::Article;
+use hashbag_csv::bad_lines::bad_lines;
+use hashbag_csv::fault::{SheetError, in_file};
+use hashbag_shell::trouble::Trouble;
+use std::alloc::{AllocError, Global};
+use std::collections::HashMap;
+use std::hash::BuildHasher;
+
+/// The texts of files, each in an encoding.
+pub trait Texts<E> {
+    /// Holds of the name of a file, its encoding and its text.
+    ghost gives: { Self → List ℕ → E → List ℕ → Type 0 };
+
+    /// Returns the text of a file.
+    ///
+    /// # Errors
+    ///
+    /// Why it can't be read.
+    fn text<'a>(&self, file: &'a str, encoding: E) -> Result<Vec<u8>, Trouble<'a>>
+        ensures { IfOk result (λ text. gives self.now file.now encoding text.items) };
+}
+
+/// Why two files aren't matched.
+#[derive(Debug, Drop)]
+pub enum Unmatched<'a> {
+    /// A file can't be read, one of its lines is bad, or an allocation failed.
+    Trouble(Trouble<'a>),
+    /// Several lines of a file are bad.
+    BadLines {
+        /// The name of the file.
+        file: &'a str,
+        /// What is wrong with each of them, in their order: as many as are to be named.
+        errors: Vec<SheetError>,
+    },
+}
+
+impl<'a> From<Trouble<'a>> for Unmatched<'a> {
+    ghost use Rattle.hashbag_match_lib.specs.declared.files.Unmatched.{Unmatched};
+
+    ghost from_gives = { λ trouble why. why ≡ Unmatched.Trouble trouble };
+
+    fn from(trouble: Trouble<'a>) -> Unmatched<'a> {
+        Unmatched::Trouble(trouble)
+    }
+}
+
+impl From<AllocError> for Unmatched<'_> {
+    ghost use Rattle.hashbag_match_lib.specs.declared.files.Unmatched.{Unmatched};
+    ghost use Rattle.hashbag_shell.specs.declared.trouble.Trouble.{Trouble};
+
+    ghost from_gives = { λ _ why. why ≡ Unmatched.Trouble Trouble.Memory };
+
+    fn from(_e: AllocError) -> Self {
+        Unmatched::Trouble(Trouble::Memory)
+    }
+}
+
+// A list in a file.
+#[derive(Clone, Copy)]
+struct Source<'a, 'k, E> {
+    // The name of the file.
+    file: &'a str,
+    // Its encoding.
+    encoding: E,
+    // The columns of the list.
+    columns: &'k Columns<'k>,
+    // Whether its header may lack a column that is carried along, whose fields are empty then.
+    may_lack: bool,
+}
+
+// Returns the errors of the bad lines of a text, as many as are to be named, if there are several.
+fn several<A: Article + Drop>(
+    alloc: Global,
+    text: &[u8],
+    columns: &Columns<'_>,
+    ask: &Ask<'_>,
+) -> Option<Vec<SheetError>>
+    ensures { IfSome result (λ errors. AreErrorsIn ask.now columns.now text.now errors.items) }
+{
+    let errors = bad_lines::<A>(
+        alloc,
+        text,
+        &columns.keys,
+        columns.number,
+        ask.reading,
+        ask.line_form,
+        ask.max_errors,
+    )
+    .ok()?;
+    if errors.len() > 1 { Some(errors) } else { None }
+}
+
+// Returns the tally of the text of a file. If a line is bad, reads the text again for as many bad lines as are to be named.
+fn tally_in<'a, A: Article + Drop, S: BuildHasher + Copy + Drop>(
+    alloc: Global,
+    state: S,
+    file: &'a str,
+    text: &[u8],
+    columns: &Columns<'_>,
+    ask: &Ask<'_>,
+) -> Result<Tally<A, S>, Unmatched<'a>>
+    ensures tally { IfOk result (λ tally. TalliesLines A.eq A.fields (lines_asked ask.now columns.now text.now) tally) }
+    ensures bad_lines { IfErr result (NamesLines ask.now columns.now file.now text.now) }
+{
+    let read = tally_of(alloc, state, text, columns, ask);
+    if let Err(error) = &read
+        && ask.max_errors > 1
+        && !error.is_total()
+        && let Some(errors) = several::<A>(alloc, text, columns, ask)
+    {
+        return Err(Unmatched::BadLines { file, errors });
+    }
+    Ok(in_file(alloc, file, read)?)
+}
+
+// Reads the list in a file, whose text is dropped then. Adds what is carried along.
+fn read_list<'a, A: Article + Drop, S: BuildHasher + Copy + Drop, E: Copy, T: Texts<E>>(
+    alloc: Global,
+    state: S,
+    texts: &T,
+    source: Source<'a, '_, E>,
+    ask: &Ask<'_>,
+    firsts: &mut HashMap<A, Vec<String>, S>,
+) -> Result<Tally<A, S>, Unmatched<'a>>
+    ensures list { IfOk result (IsListOf A.eq A.fields (T.gives texts.now) ask.now source.entry firsts.old firsts.new) }
+    ensures bad_lines { IfErr result (NamesLinesOf (T.gives texts.now) ask.now source.entry) }
+{
+    let file = source.file;
+    let text = texts.text(file, source.encoding)?;
+    let tally = tally_in(alloc, state, file, &text, source.columns, ask)?;
+    let carried = carry_lines(alloc, &text, source.columns, source.may_lack, ask, firsts);
+    in_file(alloc, file, carried)?;
+    Ok(tally)
+}
+
+// Reads both lists, that of what was ordered first.
+fn read_lists<'a, A: Article + Drop, S: BuildHasher + Copy + Drop, E: Copy, T: Texts<E>>(
+    alloc: Global,
+    state: S,
+    texts: &T,
+    ask: &Ask<'_>,
+    ordered: &'a str,
+    delivered: &'a str,
+    encodings: (E, E),
+) -> Result<Lists<A, S>, Unmatched<'a>>
+    ensures lists { IfOk result (AreListsOf A.eq A.fields (T.gives texts.now) encodings ask.now ordered.now delivered.now) }
+    ensures bad_lines { IfErr result (NamesLinesIn (T.gives texts.now) encodings ask.now ordered.now delivered.now) }
+{
+    let first = Source {
+        file: ordered,
+        encoding: encodings.0,
+        columns: &ask.ordered,
+        may_lack: false,
+    };
+    let second = Source {
+        file: delivered,
+        encoding: encodings.1,
+        columns: &ask.delivered,
+        may_lack: true,
+    };
+    let mut firsts = HashMap::with_hasher(alloc, state);
+    let ordered = read_list(alloc, state, texts, first, ask, &mut firsts)?;
+    let delivered = read_list(alloc, state, texts, second, ask, &mut firsts)?;
+    Ok(Lists {
+        ordered,
+        delivered,
+        firsts,
+    })
+}
+
+// Matches two files, whose articles are kept as this type.
+fn match_as<'a, A: Article + Drop, S: BuildHasher + Copy + Drop, E: Copy, T: Texts<E>>(
+    alloc: Global,
+    state: S,
+    texts: &T,
+    ask: &Ask<'_>,
+    ordered: &'a str,
+    delivered: &'a str,
+    encodings: (E, E),
+) -> Result<(Vec<u8>, Findings), Unmatched<'a>>
+    ensures status { IfOk result (λ made. IsStatusOfFiles (T.gives texts.now) encodings ask.now ordered.now delivered.now made.1.status) }
+    ensures bad_lines { IfErr result (NamesLinesIn (T.gives texts.now) encodings ask.now ordered.now delivered.now) }
+{
+    let lists = read_lists::<A, S, E, T>(alloc, state, texts, ask, ordered, delivered, encodings)?;
+    Ok(match_lists(alloc, state, &lists, ask)?)
+}
+
+/// Matches what was ordered with what was delivered: the lists of two files. Only one file's text is in memory at a time. Returns what is
+/// written, and the exit status: 0 if as many of each article were delivered as ordered, else 1.
+///
+/// # Errors
+///
+/// What is wrong with the first file that is bad, that of what was ordered first. `Memory` if an allocation fails.
+///
+/// # Complexity
+///
+/// Reads each file once, and its text once, or twice if fields are carried along, or several bad lines are to be named. Else same as
+/// [`match_lists`].
+pub fn match_files<'a, S: BuildHasher + Copy + Drop, E: Copy, T: Texts<E>>(
+    alloc: Global,
+    state: S,
+    texts: &T,
+    ask: &Ask<'_>,
+    ordered: &'a str,
+    delivered: &'a str,
+    encodings: (E, E),
+) -> Result<(Vec<u8>, Findings), Unmatched<'a>>
+    // The two files have texts, and it is 0 exactly if these name as many of each article; else 1.
+    ensures status { IfOk result (λ made. IsStatusOfFiles (T.gives texts.now) encodings ask.now ordered.now delivered.now made.1.status) }
+
+    // Several bad lines are those of the text of the file that is named.
+    ensures bad_lines { IfErr result (NamesLinesIn (T.gives texts.now) encodings ask.now ordered.now delivered.now) }
+{
+    if ask.ordered.keys.len() == 1 {
+        return match_as::<String, S, E, T>(alloc, state, texts, ask, ordered, delivered, encodings);
+    }
+    match_as::<Vec<String>, S, E, T>(alloc, state, texts, ask, ordered, delivered, encodings)
+}
