@@ -9,6 +9,9 @@ is() {
   cmp -s "$1" "$2" || { diff "$1" "$2" | head -n 5; fail "$3"; }
 }
 
+# What is said of a line that isn't UTF-8
+not_utf8='not UTF-8; if it is Windows-1252, `iconv -f CP1252` converts it'
+
 # ends STATUS TEXT WORD..: the program ends with this status on these words, and says this on standard error
 ends() {
   local status=$1 text=$2
@@ -100,7 +103,7 @@ for byte in 81 8D 8F 90 9D; do
   iconv -f CP1252 -t UTF-8 bytes > found 2> err && fail "iconv reads $byte"
   for how in "" "--skip-bad"; do ends 2 "hashbag_words: bytes:2: not Windows-1252: byte 0x$byte" $how --encoding Windows-1252 bytes; done
 done
-printf 'a\nb \377\n' > bytes && ends 2 "hashbag_words: bytes:2: not UTF-8" --encoding UTF-8 bytes && ends 2 "hashbag_words: bytes:2: not UTF-8" --encoding UTF-8 text bytes
+printf 'a\nb \377\n' > bytes && ends 2 "hashbag_words: bytes:2: $not_utf8" --encoding UTF-8 bytes && ends 2 "hashbag_words: bytes:2: $not_utf8" --encoding UTF-8 text bytes
 printf 'a\tb\0\n' > bytes && ends 0 "hashbag_words: bytes: it has NUL bytes; if it is UTF-16, \`--encoding UTF-16LE\`" --encoding Latin-1 bytes
 shows whole "a text in UTF-8 by name" --encoding UTF-8 text
 iconv -t UTF-16LE text > wide && shows whole "UTF-16 in a bound of memory" --encoding UTF-16LE --memory 1K wide
@@ -201,7 +204,7 @@ printf 'a \377\n' > bad.txt
 printf 'a\t18446744073709551615\na\t1\n' > many.tsv
 ends 2 "hashbag_words: bad.tsv:2: no tab" merge bad.tsv
 ends 0 "hashbag_words: bad.tsv: 1 bad line skipped" merge --skip-bad bad.tsv
-ends 2 "hashbag_words: bad.txt:1: not UTF-8" bad.txt
+ends 2 "hashbag_words: bad.txt:1: $not_utf8" bad.txt
 
 # folders: all files in them, in the order of their paths, but no hidden ones and no links
 mkdir -p tree/b/c tree/.hidden tree/b-c tree/empty && cp parts/aa tree/b/c/one && cp parts/ab tree/b-c/two && cp parts/ac tree/three && cp parts/ad 'tree/b/ four'
@@ -216,9 +219,9 @@ printf 'tree/b\ntree/three\ntree/b-c\n' > list && shows wanted "folders from a l
 shows wanted "a folder of counts" merge -r counts && shows wanted "a folder of counts, sorted" merge --sorted -r counts
 shows /dev/null "an empty folder" -r tree/empty
 cp bad.txt tree/b/c/zz && cp bad.txt tree/b-c/bad && cp bad.txt tree/bad
-ends 2 "hashbag_words: tree/b-c/bad:1: not UTF-8" -r tree && rm tree/b-c/bad
-ends 2 "hashbag_words: tree/b/c/zz:1: not UTF-8" -r tree && rm tree/b/c/zz
-ends 2 "hashbag_words: tree/bad:1: not UTF-8" -r tree && rm tree/bad
+ends 2 "hashbag_words: tree/b-c/bad:1: $not_utf8" -r tree && rm tree/b-c/bad
+ends 2 "hashbag_words: tree/b/c/zz:1: $not_utf8" -r tree && rm tree/b/c/zz
+ends 2 "hashbag_words: tree/bad:1: $not_utf8" -r tree && rm tree/bad
 cp parts/ad kept && cp -r tree trees && ends 2 "hashbag_words: trees/three: the output is one of the inputs" -r trees -o trees/three
 ends 2 "hashbag_words: --except: trees/three: it is one of the inputs" -r trees --except trees/three
 printf 'text\ntree\n' > list
@@ -346,7 +349,7 @@ ends 1 "" --memory 1K --fail-empty --least 50000 big
 printf 'a\t18446744073709551614\nb\t1\nc\t1\n' > most.tsv && ends 5 "hashbag_words: most.tsv:3: total past 2^64-1" merge --memory 1 most.tsv
 (seq 20 | awk '{ print "a" $1 "\t1" }' && printf 'a\t18446744073709551595\nb\t1\n') > most.tsv
 ends 5 "hashbag_words: most.tsv:22: total past 2^64-1" merge --memory 1 most.tsv
-(seq 100 && printf 'a \377\n') > bad.txt && cp old kept && ends 2 "hashbag_words: bad.txt:101: not UTF-8" --memory 1 bad.txt -o kept && is kept old "an output after a bad line and some runs"
+(seq 100 && printf 'a \377\n') > bad.txt && cp old kept && ends 2 "hashbag_words: bad.txt:101: $not_utf8" --memory 1 bad.txt -o kept && is kept old "an output after a bad line and some runs"
 for size in x 1.5M -1 K 99999999999999999999 99999999T 18014398509481984K 17592186044416M 17179869184G 16777216T; do ends 2 "hashbag_words: --memory: $size: no size" "--memory=$size" big; done
 # the greatest number of each unit: a unit is 2^10, 2^20, 2^30 or 2^40, and a size less than 2^64
 for size in 18446744073709551615 18014398509481983k 17592186044415m 17179869183g 16777215t; do ends 0 "" "--memory=$size" --tmp none bad.tsv; done
@@ -632,7 +635,7 @@ ends 2 "hashbag_words: --except: stop: it is one of the inputs" less --except st
 for how in "--except - -" "--except - --files-from -" "common --except - - whole"; do ends 2 "hashbag_words: standard input is named twice" $how; done
 printf 'a\nb\377\n' > bad.txt
 for how in "" "--lossy" "--skip-bad" "merge" "merge --sorted"; do
-  ends 2 "hashbag_words: bad.txt:2: not UTF-8" $how --except bad.txt none -o kept && is kept old "an output after a bad line of --except"
+  ends 2 "hashbag_words: bad.txt:2: $not_utf8" $how --except bad.txt none -o kept && is kept old "an output after a bad line of --except"
 done
 ends 2 "hashbag_words: packed.gz: gzip; \`zcat\` makes it text" --except packed.gz none
 "$program" --except no_such_file none > out 2> err

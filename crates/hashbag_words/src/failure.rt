@@ -3,6 +3,7 @@ use crate::input::plural;
 use hashbag::{BagError, JsonError};
 use hashbag_csv::fault::SheetError;
 use hashbag_shell::status::{BAD_INPUT, IO_FAILED, NO_MEMORY, TOTAL_TOO_LARGE};
+use hashbag_shell::trouble::Trouble;
 use hashbag_text::fault::{DecodeError, Fault};
 use hashbag_words_lib::errors::{BadLine, InputFault};
 use std::alloc::AllocError;
@@ -214,6 +215,16 @@ impl<'a> Failure<'a> {
             let _ = eprintln!(rt; "hashbag_words: {self}");
         }
         self.status()
+    }
+}
+
+impl<'a> From<Trouble<'a>> for Failure<'a> {
+    fn from(trouble: Trouble<'a>) -> Failure<'a> {
+        match trouble {
+            Trouble::File { file, error } => Failure::File { name: file, error },
+            Trouble::Write(error) => Failure::of_file("standard output", error),
+            _ => Failure::NoMemoryLeft,
+        }
     }
 }
 

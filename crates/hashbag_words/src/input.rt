@@ -51,11 +51,6 @@ pub fn read_block(input: &mut Input, block: &mut [u8]) -> io::Result<usize>
     Err(io::Error::from(io::ErrorKind::Interrupted))
 }
 
-/// Returns what messages call the input of that name.
-pub fn said(name: &str) -> &str {
-    if name == "-" { "standard input" } else { name }
-}
-
 /// Returns how a word ends in messages behind this number.
 pub fn plural(n: &u64) -> &'static str {
     if *n == 1 { "" } else { "s" }

@@ -1,10 +1,12 @@
 //! The inputs: files by their names, and `-` for standard input.
 use crate::bag::{Bag, Counter};
 use crate::failure::Failure;
-use crate::input::{Input, plural, read_block, said};
-use crate::progress::Progress;
+use crate::input::{Input, plural, read_block};
 use crate::runs::Runs;
 use hashbag_csv::delimiter::Delimiter;
+use hashbag_shell::input::{read_file, said};
+use hashbag_shell::progress::Progress;
+use hashbag_shell::trouble::Trouble;
 use hashbag_text::decoder::Decoder;
 use hashbag_text::encoding::Encoding;
 use hashbag_text::whole::decode;
@@ -19,7 +21,6 @@ use hashbag_words_lib::rows::RowForm;
 use memchr::memchr;
 use regex::Regex;
 use std::hash::RandomState;
-use std::io::Read;
 use std::{io, mem};
 
 // How many bytes of an input are read at once.
@@ -71,19 +72,6 @@ fn read_whole<'a>(rt: &HostRuntime, name: &'a str) -> Result<String, Failure<'a>
         Err(error) => Err(error),
     };
     read.map_err(|error| Failure::of_file(said(name), error))
-}
-
-// Reads all bytes of the input of this name.
-fn read_bytes<'a>(rt: &HostRuntime, name: &'a str) -> Result<Vec<u8>, Failure<'a>> {
-    let mut bytes = Vec::new(rt.alloc());
-    let read = match Input::open(rt, name) {
-        Ok(mut input) => input.read_to_end(&mut bytes),
-        Err(error) => Err(error),
-    };
-    match read {
-        Ok(_) => Ok(bytes),
-        Err(error) => Err(Failure::of_file(said(name), error)),
-    }
 }
 
 impl<'s, 'a, 'm> Inputs<'s, 'a, 'm> {
@@ -276,8 +264,11 @@ impl<'s, 'a, 'm> Inputs<'s, 'a, 'm> {
 
     // Returns the text of the input of this name, as UTF-8 if its encoding was named.
     fn whole_text(&mut self, name: &'a str) -> Result<Vec<u8>, Failure<'a>> {
-        let bytes = read_bytes(self.rt, name)?;
-        self.progress.tell(self.rt, said(name), bytes.len());
+        let bytes = match read_file(self.rt, &mut self.progress, name) {
+            Ok(bytes) => bytes,
+            Err(Trouble::File { error, .. }) => return Err(Failure::of_file(said(name), error)),
+            Err(trouble) => return Err(Failure::from(trouble)),
+        };
         let Some(encoding) = self.encoding else {
             return match self.other_kind(said(name), &bytes) {
                 Some(failure) => Err(failure),

@@ -3,18 +3,20 @@ use crate::bag::{Bag, empty};
 use crate::failure::Failure;
 use crate::inputs::{Bound, Inputs};
 use crate::names::check;
-use crate::output::{Output, Rendered, rows_of};
-use crate::progress::Progress;
+use crate::output::{Rendered, rows_of, write};
 use crate::runs::Runs;
 use crate::shown::{show, show_sorted};
 use hashbag::HashBag;
 use hashbag_ops::{keep_common, take_away};
+use hashbag_shell::output::Output;
+use hashbag_shell::progress::Progress;
 use hashbag_shell::status::{DENIED, DONE};
 use hashbag_words_args::settings::{Ask, By, Pair, Settings, Tokens};
-use hashbag_words_lib::choice::{Choice, keep_shown};
+use hashbag_words_lib::choice::Choice;
 use hashbag_words_lib::counter::TextCounter;
 use hashbag_words_lib::gauge::Gauge;
 use hashbag_words_lib::lines::BadLines;
+use hashbag_words_lib::row_source::SourceKind;
 use hashbag_words_lib::rule::{Pieces, Rule};
 use hashbag_words_lib::runs::run_of;
 use regex::Regex;
@@ -110,11 +112,15 @@ fn take_pair<'a>(
 fn bound_of<'s, 'a>(
     rt: &'s HostRuntime,
     settings: &Settings<'a, '_>,
+    names: &'s [&'a str],
     folder: &'a str,
-) -> Option<Bound<'s, 'a>> {
-    let gauge = Gauge::new(settings.ask.many()?.memory?);
-    let runs = Runs::new(rt, folder);
-    Some(Bound { gauge, runs })
+) -> Result<Option<Bound<'s, 'a>>, Failure<'a>> {
+    let Some(memory) = settings.ask.many().and_then(|many| many.memory) else {
+        return Ok(None);
+    };
+    let gauge = Gauge::new(memory);
+    let runs = Runs::new(rt, folder, &names[..0], SourceKind::Run)?;
+    Ok(Some(Bound { gauge, runs }))
 }
 
 // Reads the inputs of a job. Returns `Some` with the output if files were merged line by line. Else the counts are in the bag and the runs.
@@ -142,11 +148,10 @@ fn take_in<'a>(
     Ok(None)
 }
 
-// Returns what is to be written of runs and of the bag, or `None` if there are no runs. Temporary files are in this folder.
+// Returns what is to be written of runs and of the bag, or `None` if there are no runs.
 fn merged<'a>(
     rt: &HostRuntime,
     settings: &Settings<'a, '_>,
-    folder: &'a str,
     mut runs: Runs<'_, 'a>,
     bag: &Bag,
 ) -> Result<Option<Rendered<'static>>, Failure<'a>> {
@@ -156,7 +161,7 @@ fn merged<'a>(
     if !bag.is_empty() {
         runs.write(run_of(rt.alloc(), bag))?;
     }
-    let made = show(rt, settings, folder, runs.into_batch()?)?;
+    let made = show(rt, settings, runs)?;
     Ok(Some(made))
 }
 
@@ -170,8 +175,8 @@ fn read<'s, 'a>(
     folder: &'a str,
     bag: &mut Bag,
 ) -> Result<Option<Rendered<'static>>, Failure<'a>> {
-    let bound = bound_of(rt, settings, folder);
-    let progress = Progress::new(rt, settings, names);
+    let bound = bound_of(rt, settings, names, folder)?;
+    let progress = Progress::new(rt, settings.reports, names);
     let mut inputs = Inputs {
         rt,
         settings,
@@ -187,7 +192,7 @@ fn read<'s, 'a>(
         return Ok(Some(made));
     }
     if let Some(bound) = inputs.bound {
-        if let Some(made) = merged(rt, settings, folder, bound.runs, bag)? {
+        if let Some(made) = merged(rt, settings, bound.runs, bag)? {
             return Ok(Some(made));
         }
     }
@@ -201,7 +206,7 @@ fn write_made<'a>(
     made: Rendered<'_>,
 ) -> Result<bool, Failure<'a>> {
     let is_empty = made.is_empty();
-    output.write(rt, made)?;
+    write(rt, output, made)?;
     Ok(is_empty)
 }
 
@@ -212,8 +217,7 @@ fn write_bag<'a>(
     output: Output<'a>,
     bag: &mut Bag,
 ) -> Result<bool, Failure<'a>> {
-    let total = keep_shown(bag, settings.choice);
-    match rows_of(rt, settings, bag, total) {
+    match rows_of(rt, settings, bag) {
         Ok(rows) => write_made(rt, output, rows),
         Err(failure) => {
             output.abandon(rt);
@@ -231,7 +235,7 @@ fn read_and_write<'a>(
     folder: &'a str,
     bag: &mut Bag,
 ) -> Result<bool, Failure<'a>> {
-    let output = Output::open(rt, settings)?;
+    let output = Output::open(rt, settings.output)?;
     match read(rt, settings, pattern, names, folder, bag) {
         Ok(Some(made)) => write_made(rt, output, made),
         Ok(None) => write_bag(rt, settings, output, bag),

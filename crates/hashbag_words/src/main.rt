@@ -7,17 +7,16 @@ mod folders;
 mod input;
 mod inputs;
 mod jobs;
-mod merge_inputs;
 mod names;
 mod output;
-mod progress;
 mod runs;
 mod shown;
 
 use failure::Failure;
 use hashbag_shell::VERSION;
-use hashbag_shell::program::{printed, words_of as given_words};
+use hashbag_shell::program::{given_to, status_of, words_of};
 use hashbag_shell::status::BAD_INPUT;
+use hashbag_shell::trouble::Trouble;
 use hashbag_words_args::command::{command, is_job};
 use hashbag_words_args::settings::Settings;
 use regex::Regex;
@@ -25,19 +24,18 @@ use std::alloc::{AllocError, Global};
 use std::process::ExitCode;
 use unicode_segmentation::UNICODE_VERSION;
 
-// Returns the arguments, with the name of the program first. If they name no job it is `count`, so `hashbag_words FILE` counts.
-fn words_of(alloc: Global, given: &Vec<String>) -> Result<Vec<&str>, AllocError> {
-    let mut words = Vec::new(alloc);
-    words.push("hashbag_words")?;
-    let first = given.get(1).map_or("", |word| word.as_str());
+// Returns the words, with `count` behind the name of the program if they name no job: so `hashbag_words FILE` counts.
+fn with_job(alloc: Global, given: Vec<String>) -> Result<Vec<String>, AllocError> {
+    let mut words = given;
+    let first = words.get(1).map_or("", |word| word.as_str());
     if !is_job(first) {
-        words.push("count")?;
-    }
-    for word in given.iter().skip(1) {
-        words.push(word.as_str())?;
+        words.insert(words.len().min(1), String::from_str(alloc, "count")?)?;
     }
     Ok(words)
 }
+
+// The name of the program. Its messages on standard error begin with it.
+const PROGRAM: &str = "hashbag_words";
 
 // Does a job on the inputs of these names, and returns the exit status.
 fn do_named(
@@ -125,31 +123,31 @@ fn version(alloc: Global) -> Result<String, AllocError> {
     format!(in alloc; "{VERSION} (Unicode {major}.{minor}.{patch})")
 }
 
-// Parses the arguments, does the job, and returns the exit status.
-fn obey(rt: &HostRuntime, words: &Vec<&str>) -> Result<u8, clap::Error> {
-    let version = version(rt.alloc())?;
-    let command = command(rt.alloc(), version.as_str())?;
-    let matches = command.try_get_matches_from(words.as_slice())?;
-    let Some((job, given)) = matches.subcommand() else {
+// Does the job that the words name, and returns the exit status.
+fn answer<'a>(rt: &HostRuntime, version: &'a str, words: &'a [String]) -> Result<u8, Trouble<'a>> {
+    let given = given_to(rt, command(rt.alloc(), version), words)?;
+    let Some((job, given)) = given.subcommand() else {
         return Ok(BAD_INPUT);
     };
-    match Settings::of(rt.alloc(), job, given) {
-        Ok(settings) => Ok(do_settings(rt, &settings)),
-        Err(trouble) => Ok(trouble.report(rt, "hashbag_words")),
-    }
+    let settings = Settings::of(rt.alloc(), job, given)?;
+    Ok(do_settings(rt, &settings))
+}
+
+// Returns the words of the command line, which name a job.
+fn words<'a>(rt: &HostRuntime) -> Result<Vec<String>, Trouble<'a>> {
+    Ok(with_job(rt.alloc(), words_of(rt)?)?)
 }
 
 fn run(rt: &HostRuntime) -> u8 {
-    let given = match given_words(rt) {
-        Ok(given) => given,
-        Err(trouble) => return trouble.report(rt, "hashbag_words"),
-    };
-    let Ok(words) = words_of(rt.alloc(), &given) else {
+    let Ok(version) = version(rt.alloc()) else {
         return Failure::NoMemoryLeft.report(rt);
     };
-    match obey(rt, &words) {
-        Ok(status) => status,
-        Err(error) => printed(rt, &error).report(rt, "hashbag_words"),
+    match words(rt) {
+        Ok(words) => {
+            let ended = answer(rt, version.as_str(), words.as_slice());
+            status_of(rt, PROGRAM, ended)
+        }
+        Err(trouble) => trouble.report(rt, PROGRAM),
     }
 }
 

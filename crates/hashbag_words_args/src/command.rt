@@ -1,6 +1,6 @@
 //! The arguments and their help.
 use clap::{Arg, Command, arg, value_parser};
-use hashbag_shell::options::{encoding_arg, with_heading};
+use hashbag_shell::options::{encoding_arg, with_heading, with_progress};
 use std::alloc::{AllocError, Global};
 
 const ABOUT: &str =
@@ -33,7 +33,7 @@ const INPUTS: &str = "Inputs";
 // A command, or why it can't be made.
 type CommandResult<'a> = Result<Command<'a>, AllocError>;
 
-// Adds an argument, if both were made.
+// Adds an argument, if both were made: a builder call that allocates returns a `Result`.
 fn with<'a>(command: CommandResult<'a>, arg: Result<Arg<'a>, AllocError>) -> CommandResult<'a> {
     command?.arg(arg?)
 }
@@ -46,14 +46,8 @@ fn with_job<'a>(command: CommandResult<'a>, job: CommandResult<'a>) -> CommandRe
 // Adds how inputs are read: options of every job.
 fn with_input<'a>(alloc: Global, command: CommandResult<'a>) -> CommandResult<'a> {
     let skip_bad = arg!(in alloc; --"skip-bad" "Skip bad lines, and say how many there were");
-    let progress =
-        arg!(in alloc; --progress "Report on standard error, each second, how far it is, also if that is no terminal");
-    let quiet =
-        arg!(in alloc; -q --quiet "Report no progress, on a terminal either").conflicts_with(
-            "progress",
-        );
-    let command = with_heading(command, INPUTS);
-    with(with(with(command, Ok(skip_bad)), Ok(progress)), quiet)
+    let command = with(with_heading(command, INPUTS), Ok(skip_bad));
+    with_progress(alloc, command, "Report no progress, on a terminal either")
 }
 
 // Adds which counts are shown, and in which order.

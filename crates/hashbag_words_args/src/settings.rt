@@ -2,7 +2,8 @@
 use crate::size::bytes_of;
 use clap::ArgMatches;
 use hashbag_csv::delimiter::Delimiter;
-use hashbag_shell::options::encoding;
+use hashbag_shell::options::{encoding, reports};
+use hashbag_shell::progress::Reports;
 use hashbag_shell::trouble::Trouble;
 use hashbag_text::encoding::Encoding;
 use hashbag_words_lib::choice::{Choice, Order};
@@ -131,10 +132,8 @@ pub struct Settings<'a, 'm> {
     pub ask: Ask<'a, 'm>,
     /// Whether a bad line is an error or is skipped.
     pub bad_lines: BadLines,
-    /// Whether progress is reported also if standard error is no terminal.
-    pub progress: bool,
-    /// Whether no progress is reported.
-    pub quiet: bool,
+    /// When progress is reported.
+    pub reports: Reports,
     /// Which counts are shown, and in what order. The tokens of `except` aren't in it before that file is read.
     pub choice: Choice<'m>,
     /// The file that has the tokens that aren't shown, if there is one.
@@ -375,8 +374,7 @@ impl<'a, 'm> Settings<'a, 'm> {
         Ok(Settings {
             ask: ask_of(alloc, name, given)?,
             bad_lines,
-            progress: given.get_flag("progress"),
-            quiet: given.get_flag("quiet"),
+            reports: reports(given),
             choice: choice_of(alloc, given)?,
             except: given.get_str("except"),
             format: format_of(given),

@@ -1,13 +1,16 @@
 pub mod AddedLemmas
 pub mod ColumnLemmas
+pub mod BatchLemmas
 pub mod CountLemmas
 pub mod CountedLemmas
 pub mod DepthLemmas
 pub mod FieldLemmas
 pub mod GroupLemmas
+pub mod KeptRunsLemmas
 pub mod LineLemmas
 pub mod MatchLemmas
 pub mod MergedLemmas
+pub mod MergedTextLemmas
 pub mod MergeLemmas
 pub mod PrefixLemmas
 pub mod ReadLemmas
@@ -20,5 +23,6 @@ pub mod ShownLemmas
 pub mod SortedLemmas
 pub mod SortedMergeLemmas
 pub mod TextLemmas
+pub mod TopLemmas
 pub mod UniqLemmas
 pub mod WordLemmas

@@ -16,6 +16,7 @@ use Rattle.hashbag_words_lib.specs.Runs.{IsRunOf}
 use Rattle.hashbag_words_lib.specs.Shards.{is_shown}
 use Rattle.hashbag_words_lib.specs.Shares.{hundredths_of, two_decimals}
 use Rattle.hashbag_words_lib.specs.Sorted.{times_in}
+use Rattle.hashbag_words_lib.specs.Top.{most_common}
 use Rattle.hashbag_words_lib.specs.declared.choice.Choice.{Choice}
 use Rattle.hashbag_words_lib.specs.declared.rule.Separator.TheVariants.{Blanks, Char}
 
@@ -89,3 +90,7 @@ bars_are_rounded_half_up = (refl, refl, refl)
 counts_are_at_the_right : (right_in 3 7 ≡ 32 ∷ 32 ∷ 55 ∷ []) × (right_in 3 120 ≡ 49 ∷ 50 ∷ 48 ∷ [])
 unfolding digits
 counts_are_at_the_right = (refl, refl)
+
+-- `c` three times, `b` and `a` twice
+two_most_common : most_common 2 ((97 ∷ [], 2) ∷ (98 ∷ [], 2) ∷ (99 ∷ [], 3) ∷ []) ≡ (99 ∷ [], 3) ∷ (97 ∷ [], 2) ∷ []
+two_most_common = refl

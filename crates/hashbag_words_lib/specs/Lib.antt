@@ -1,5 +1,6 @@
 pub mod Added
 pub mod Bars
+pub mod Batches
 pub mod Choice
 pub mod Columns
 pub mod Counted
@@ -7,8 +8,10 @@ pub mod Counts
 pub mod Examples
 pub mod Faults
 pub mod Fields
+pub mod KeptRuns
 pub mod Levels
 pub mod Merged
+pub mod MergedTexts
 pub mod Merging
 pub mod Prefix
 pub mod LineEnds
@@ -22,4 +25,5 @@ pub mod Shown
 pub mod Sorted
 pub mod Sources
 pub mod Tokens
+pub mod Top
 pub mod Writing

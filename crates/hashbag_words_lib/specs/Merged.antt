@@ -96,6 +96,10 @@ pub record AreBegun (given : List (SourceKind × List ℕ)) (sources : List Sour
   pub many : length given ≡ length sources
   pub each : (i : ℕ) → i < length given → (text : SourceKind × List ℕ) → (source : Source) → let part = slice_index_or given i text in HoldsAll part.0 part.1 (slice_index_or sources i source)
 
+-- no row was taken from the sources of the merger
+abbrev pub IsUnused : Merger → Type 0
+IsUnused merger = (merger.held ≡ None) × (merger.total ≡ 0)
+
 -- these texts were given so far, and these rows came out: whatever comes next, the merge of the whole has come as far as `SoFar` says
 pub record IsSoFar (given : List (SourceKind × List ℕ)) (sources : List Source) (held : Option (String Global × ℕ)) (total : ℕ) (out : List (List ℕ × ℕ)) : Type 0 where
   pub many : length given ≡ length sources

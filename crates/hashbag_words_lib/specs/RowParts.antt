@@ -25,3 +25,7 @@ TakesPart old new = (rows : List (List ℕ × ℕ)) → (taken : List ℕ) → H
 -- with the last part the text is whole
 abbrev pub EndsRows : RowParts → RowParts → Type 0
 EndsRows old new = (rows : List (List ℕ × ℕ)) → (taken : List ℕ) → HasBuilt old rows taken → taken ++ new.part.items ≡ text_of old.format rows
+
+-- all of these rows are in the text, and no others, and it is whole
+abbrev pub BuildsAll : RowParts → RowParts → List (List ℕ × ℕ) → Type 0
+BuildsAll old new rows = (taken : List ℕ) → HasBuilt old [] taken → taken ++ new.part.items ≡ text_of old.format rows

@@ -1,5 +1,5 @@
 -- What is shown of texts that were counted, and the bytes that are written of it.
-use Rattle.std.specs.Prelude.{◌≡◌, ℕ, List, take, String}
+use Rattle.std.specs.Prelude.{◌≡◌, ℕ, List, [], length, take, String}
 use Rattle.std.specs.Global.{Global}
 use Rattle.std.specs.List.{IsDistinct}
 use Rattle.std.specs.List.Sorted.{IsStrictlySortedBy}
@@ -10,12 +10,19 @@ use Rattle.hashbag.specs.Occurrences.{count}
 use Rattle.hashbag_ops.specs.Order.{rank}
 use Rattle.hashbag_words_lib.specs.Bars.{bars_text}
 use Rattle.hashbag_words_lib.specs.Choice.{shown_count, AreKept}
+use Rattle.hashbag_words_lib.specs.Counted.{HaveTogether}
+use Rattle.hashbag_words_lib.specs.RowText.{bytes_left}
 use Rattle.hashbag_words_lib.specs.Sorted.{text_cmp, times_in, Rises}
 use Rattle.hashbag_words_lib.specs.Writing.{text_of}
 use Rattle.hashbag_words_lib.specs.declared.choice.Choice.{Choice}
 use Rattle.hashbag_words_lib.specs.declared.choice.Order.{Order}
 use Rattle.hashbag_words_lib.specs.declared.choice.Order.TheVariants.{Rising, Open, MostCommon}
+use Rattle.hashbag_words_lib.specs.declared.shown_text.Look.{Look}
+use Rattle.hashbag_words_lib.specs.declared.shown_text.Look.TheVariants.{Rows as InRows, Shares as WithShares, Bars as WithBars}
+use Rattle.hashbag_words_lib.specs.declared.shown_text.Shown.{Shown}
+use Rattle.hashbag_words_lib.specs.declared.shown_text.Shown.TheVariants.{Rows, Bars}
 use Rattle.hashbag_words_lib.specs.declared.writing.Format.{Format}
+use Rattle.hashbag_words_lib.specs.declared.writing.Format.TheVariants.{Shares}
 
 -- the rows have each of these texts that is shown once, with its count in the list, and nothing else
 pub record HasShown (choice : Choice) (texts : List (List ℕ)) (rows : List (List ℕ × ℕ)) : Type 0 where
@@ -49,3 +56,18 @@ pub record IsShownBars (choice : Choice) (width : ℕ) (texts : List (List ℕ))
 -- whatever texts the bag was made of, if it has what is shown of them, the bytes are what is written of them with bars
 abbrev pub AreBarsOfKept : {S : Type 0} → Choice → ℕ → Bag (String Global) S → List ℕ → Type 0
 AreBarsOfKept choice width bag bytes = (texts : List (List ℕ)) → AreKept choice texts bag → IsShownBars choice width texts bytes
+
+-- the bytes are what is written of these texts in this look. A share is of all of them, shown or not
+abbrev pub IsWritten : Choice → Look → List (List ℕ) → List ℕ → Type 0
+IsWritten choice (InRows format) texts bytes = IsShownText choice format texts bytes
+IsWritten choice WithShares texts bytes = IsShownText choice (Shares (length texts)) texts bytes
+IsWritten choice (WithBars width) texts bytes = IsShownBars choice width texts bytes
+
+-- whatever texts the bag was made of, the bytes are what is written of them
+abbrev pub ShowsCounted : {S : Type 0} → Choice → Look → Bag (String Global) S → List ℕ → Type 0
+ShowsCounted choice look bag bytes = (texts : List (List ℕ)) → HaveTogether [] bag texts → IsWritten choice look texts bytes
+
+-- all bytes of a text
+abbrev pub bytes_of : Shown → List ℕ
+bytes_of (Rows text) = bytes_left text
+bytes_of (Bars text) = text.items

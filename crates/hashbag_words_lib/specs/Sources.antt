@@ -9,7 +9,7 @@ use Rattle.hashbag_words_lib.specs.declared.row_source.Next.{Next}
 use Rattle.hashbag_words_lib.specs.declared.row_source.Next.TheVariants.{Row, Wants, End}
 use Rattle.hashbag_words_lib.specs.declared.row_source.RowSource.{RowSource}
 
--- the rows of a whole text of this kind, if they are known
+-- the rows of a whole text of this kind; `None` for a file that isn't `tsv`, or whose bad lines are skipped
 abbrev pub rows_of : SourceKind → List ℕ → Option (List (List ℕ × ℕ))
 rows_of Run text = Some (rows_in text)
 rows_of (File form bad_lines) text = rows_left form bad_lines true text

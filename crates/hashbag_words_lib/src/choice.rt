@@ -70,12 +70,12 @@ fn is_excepted(except: Option<&HashBag<String, RandomState>>, token: &str) -> bo
     }
 }
 
-/// Removes all tokens that aren't shown. Returns how many occurrences there were, of those that are shown and of the others.
-///
-/// # Complexity
-///
-/// Reads each token once, and allocates nothing.
-pub fn keep_shown<S: BuildHasher + Drop>(bag: &mut HashBag<String, S>, choice: Choice<'_>) -> usize
+// Removes all tokens that aren't shown. Returns how many occurrences there were, of those that are shown and of the others. Reads each token
+// once, and allocates nothing.
+pub(crate) fn keep_shown<S: BuildHasher + Drop>(
+    bag: &mut HashBag<String, S>,
+    choice: Choice<'_>,
+) -> usize
     // `texts` lists what the bag had. Each of them that is shown has its count, and nothing else is left.
     ensures kept { (texts : List (List ℕ)) → HaveTogether [] bag.old texts → AreKept choice.entry texts bag.new }
     ensures total { (texts : List (List ℕ)) → HaveTogether [] bag.old texts → result ≡ length texts }

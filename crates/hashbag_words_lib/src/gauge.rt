@@ -28,6 +28,7 @@ pub struct Gauge {
 fn bytes_of<S: BuildHasher + Drop>(bag: &HashBag<String, S>, texts: usize) -> usize {
     let slots = bag.slots().saturating_add(bag.waiting());
     let next = if bag.room() < LITTLE_ROOM {
+        // While values are carried, there are the old slots and up to twice as many new ones.
         slots.saturating_mul(3)
     } else {
         slots
@@ -70,7 +71,7 @@ impl Gauge {
     /// Returns whether the bag is full after `read` more bytes of the input.
     ///
     /// Every byte read is taken as text until the estimate reaches `most`. Then all texts of the bag are measured, and the bag is full if it
-    /// takes seven eighths of `most`. So the texts aren't measured often.
+    /// takes seven eighths of `most`. If it doesn't, the estimate has to grow by an eighth of `most` before the next measure.
     pub fn is_full<S: BuildHasher + Drop>(
         &mut self,
         bag: &HashBag<String, S>,

@@ -45,6 +45,14 @@ impl<R: Drop> Levels<R> {
         self.runs.push(run).map_err(AllocError::from)
     }
 
+    /// Returns the level of the last run, or 0 if there is none.
+    pub fn last_level(&self) -> u32 {
+        match self.levels.last() {
+            Some(level) => *level,
+            None => 0,
+        }
+    }
+
     // Returns whether the last `FAN` runs are of one level.
     fn is_full(&self) -> bool
         ensures { result ≡ is_full (levels_in self.now) }

@@ -10,6 +10,7 @@
 #![tactic(auto)]
 
 pub mod bars;
+pub mod batch;
 pub mod choice;
 pub mod columns;
 pub mod counter;
@@ -18,8 +19,10 @@ pub mod errors;
 pub mod fields;
 pub mod gauge;
 pub mod head;
+pub mod kept_runs;
 pub mod levels;
 pub mod lines;
+pub mod merged_text;
 pub mod merging;
 pub mod row_counter;
 pub mod row_parts;

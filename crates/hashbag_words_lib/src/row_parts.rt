@@ -1,7 +1,7 @@
 //! The text of rows that come one by one, in parts.
 //!
 //! Nothing is written here: the caller takes what was built, and writes it. So the clauses hold wherever it is written.
-ghost use Rattle.std.specs.Prelude.{◌≡◌, [], IfOk, OnOk};
+ghost use Rattle.std.specs.Prelude.{◌≡◌, ◌++◌, [], IfOk, OnOk};
 ghost use Rattle.hashbag_words_lib.specs.RowParts.{BuildsRow, EndsRows, HasBuilt, TakesPart};
 
 use crate::writing::{Format, push_in};
@@ -50,6 +50,19 @@ impl RowParts {
         Ok(())
     }
 
+    /// Appends a text that isn't one of rows to the part.
+    ///
+    /// # Errors
+    ///
+    /// An allocation fails.
+    pub(crate) fn push_text(&mut self, text: &[u8]) -> Result<(), AllocError>
+        ensures part { OnOk result (self.new.part.items ≡ self.old.part.items ++ text.now) }
+        ensures format { self.new.format ≡ self.old.format }
+    {
+        self.is_empty = self.is_empty && text.is_empty();
+        self.part.extend_from_slice(text)
+    }
+
     /// Returns whether no row has come.
     pub fn is_empty(&self) -> bool
         ensures { result ≡ self.now.is_empty }
@@ -67,6 +80,7 @@ impl RowParts {
     /// Takes the part: the next one begins.
     pub fn take(&mut self)
         ensures built { TakesPart self.old self.new }
+        ensures emptied { self.new.part.items ≡ [] }
         ensures format { self.new.format ≡ self.old.format }
     {
         self.part.clear();
@@ -78,7 +92,8 @@ impl RowParts {
     ///
     /// An allocation fails.
     pub fn end(&mut self) -> Result<(), AllocError>
-        ensures { OnOk result (EndsRows self.old self.new) }
+        ensures text { OnOk result (EndsRows self.old self.new) }
+        ensures format { self.new.format ≡ self.old.format }
     {
         self.part.extend_from_slice(self.format.end())
     }

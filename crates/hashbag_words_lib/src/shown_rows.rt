@@ -1,6 +1,7 @@
 //! What is shown of rows that come one by one.
-ghost use Rattle.std.specs.Prelude.{◌≡◌, vec_len};
+ghost use Rattle.std.specs.Prelude.{◌≡◌, ℕ, [], List, map, vec_len};
 ghost use Rattle.std.specs.BinaryHeap.{heap_len};
+ghost use Rattle.hashbag_words_lib.specs.Top.{kept_row, most_common, KeepsTop};
 
 use crate::choice::Choice;
 use crate::errors::InputFault;
@@ -63,6 +64,7 @@ impl TopRows {
     pub fn new(alloc: Global, most: usize) -> TopRows
         ensures empty { heap_len result.kept ≡ 0 }
         ensures bound { result.most ≡ most }
+        ensures begins { KeepsTop result [] }
     {
         TopRows {
             kept: BinaryHeap::new(alloc),
@@ -72,7 +74,10 @@ impl TopRows {
 
     /// The rows that are kept, the most common first.
     pub fn into_rows(self) -> Vec<(Reverse<usize>, String)>
-        ensures { vec_len result ≡ heap_len self.kept }
+        ensures len { vec_len result ≡ heap_len self.kept }
+
+        // They are the first of all rows that came.
+        ensures first { (rows : List (List ℕ × ℕ)) → KeepsTop self rows → map kept_row result.items ≡ most_common self.most rows }
     {
         self.kept.into_sorted_vec()
     }
@@ -81,9 +86,11 @@ impl TopRows {
 impl Sink for TopRows {
     ghost use Rattle.std.specs.Prelude.{◌≡◌, ◌≤◌};
     ghost use Rattle.std.specs.BinaryHeap.{heap_len};
+    ghost use Rattle.hashbag_words_lib.specs.Top.{PutsTop};
 
-    // No more rows are kept than the most.
-    ghost put_gives = { λ old _ new. (new.most ≡ old.most) × (heap_len old.kept ≤ old.most → heap_len new.kept ≤ new.most) };
+    // The first rows are kept of all that came, and no more than the most.
+    ghost put_gives = { λ old row new. (new.most ≡ old.most) × (heap_len old.kept ≤ old.most → heap_len new.kept ≤ new.most)
+        × PutsTop old row new };
 
     fn put(&mut self, token: String, count: usize) -> Result<(), InputFault> {
         self.kept

@@ -1,26 +1,38 @@
 //! The text of what is shown of a bag.
 ghost use Rattle.std.specs.Prelude.{IfOk};
 ghost use Rattle.hashbag_words_lib.specs.RowText.{bytes_left};
-ghost use Rattle.hashbag_words_lib.specs.Shown.{AreBarsOfKept, IsTextOfKept};
+ghost use Rattle.hashbag_words_lib.specs.Shown.{bytes_of, AreBarsOfKept, IsTextOfKept, ShowsCounted};
 
 use crate::bars::bars_of;
-use crate::choice::{Choice, chosen};
+use crate::choice::{Choice, chosen, keep_shown};
 use crate::row_text::RowText;
 use crate::writing::Format;
 use hashbag::{BagError, HashBag};
 use std::alloc::Global;
 use std::hash::BuildHasher;
 
-/// Returns the text of what is shown of a bag, of which [`keep_shown`](crate::choice::keep_shown) has removed all else.
-///
-/// # Errors
-///
-/// `Memory` if an allocation fails.
-///
-/// # Complexity
-///
-/// Same as [`chosen`] and [`RowText::new`] together.
-pub fn shown_text<'b, S: BuildHasher + Drop>(
+/// How counts are written.
+#[derive(Clone, Copy, Debug, PartialEq, Eq)]
+pub enum Look {
+    /// In this format.
+    Rows(Format),
+    /// In lines, with the percent of all that was counted, shown or not.
+    Shares,
+    /// With bars, for a terminal of that many columns.
+    Bars(usize),
+}
+
+/// The text of what is shown of a bag.
+#[derive(Drop)]
+pub enum Shown<'b> {
+    /// It is read in parts.
+    Rows(RowText<'b>),
+    /// It is in memory.
+    Bars(Vec<u8>),
+}
+
+// Returns the text of what is shown of a bag, of which `keep_shown` has removed all else.
+fn shown_text<'b, S: BuildHasher + Drop>(
     alloc: Global,
     bag: &'b HashBag<String, S>,
     choice: Choice<'_>,
@@ -34,17 +46,8 @@ pub fn shown_text<'b, S: BuildHasher + Drop>(
     Ok(text)
 }
 
-/// Returns the text with bars of what is shown of a bag, for a terminal of that many columns. [`keep_shown`](crate::choice::keep_shown) has removed all
-/// else from the bag.
-///
-/// # Errors
-///
-/// `Memory` if an allocation fails.
-///
-/// # Complexity
-///
-/// Same as [`chosen`] and [`bars_of`] together.
-pub fn shown_bars<S: BuildHasher + Drop>(
+// Returns the text with bars of what is shown of a bag, for a terminal of that many columns. `keep_shown` has removed all else from the bag.
+fn shown_bars<S: BuildHasher + Drop>(
     alloc: Global,
     bag: &HashBag<String, S>,
     choice: Choice<'_>,
@@ -57,4 +60,33 @@ pub fn shown_bars<S: BuildHasher + Drop>(
     let rows = chosen(alloc, bag, order)?;
     let text = bars_of(alloc, width, &rows)?;
     Ok(text)
+}
+
+/// Returns the text of what is shown of a bag, and removes all else from the bag.
+///
+/// # Errors
+///
+/// `Memory` if an allocation fails.
+///
+/// # Complexity
+///
+/// Reads each token of the bag once, and then does the same as [`chosen`] and [`RowText::new`] or [`bars_of`] together.
+pub fn shown_of<'b, S: BuildHasher + Drop>(
+    alloc: Global,
+    bag: &'b mut HashBag<String, S>,
+    choice: Choice<'_>,
+    look: Look,
+) -> Result<Shown<'b>, BagError>
+    // Whatever the bag was made of, the text is what is written of that: what isn't shown is left out, and a share is of all of it.
+    ensures { IfOk result (λ shown. ShowsCounted choice.entry look bag.old (bytes_of shown)) }
+{
+    let total = keep_shown(bag, choice);
+    match look {
+        Look::Rows(format) => Ok(Shown::Rows(shown_text(alloc, bag, choice, format)?)),
+        Look::Shares => {
+            let format = Format::Shares(total);
+            Ok(Shown::Rows(shown_text(alloc, bag, choice, format)?))
+        }
+        Look::Bars(width) => Ok(Shown::Bars(shown_bars(alloc, bag, choice, width)?)),
+    }
 }

@@ -3,8 +3,8 @@
 //!
 //! A [`Merger`] is given bytes, so its clauses hold whatever they come from. In them `given` is what each source was given so far, and `out`
 //! are the rows that were returned.
-ghost use Rattle.std.specs.Prelude.{◌≡◌, ℕ, ◌+◌, ◌<◌, ◌^◌, [], None, true, false, List, length, All, slice_index_or, string_bytes, IfOk, IfSome, OnOk};
-ghost use Rattle.hashbag_words_lib.specs.Merged.{count_of, AreBegun, FollowsWhatCameOut, HasMerged, HasMergedItsRuns, IsEnded, IsOpen, LengthensText, MayComeTo, TakesRowWhateverComes};
+ghost use Rattle.std.specs.Prelude.{◌≡◌, ℕ, ◌+◌, ◌++◌, ◌<◌, ◌^◌, [], ◌∷◌, None, true, false, List, length, All, slice_index_or, string_bytes, IfOk, IfSome, OnOk};
+ghost use Rattle.hashbag_words_lib.specs.Merged.{count_of, AreBegun, FollowsWhatCameOut, HasMerged, HasMergedItsRuns, IsEnded, IsOpen, IsUnused, LengthensText, MayComeTo, TakesRowWhateverComes};
 ghost use Rattle.hashbag_words_lib.specs.Sorted.{count_held, one_of, shown_of, IsNoLater, Joins};
 
 use crate::errors::InputFault;
@@ -42,6 +42,8 @@ pub enum Stop {
     Source(usize, InputFault),
     /// The counts of one token add up to more than `usize::MAX`.
     TooMany,
+    /// An allocation failed that no source needed.
+    Memory,
 }
 
 // Whether the next row of one source comes before that of another.
@@ -162,12 +164,25 @@ impl Merger {
     pub fn new(sources: Vec<Source>) -> Merger
         // No row was returned so far.
         ensures begins { (given : _) → AreBegun given sources.items → HasMerged given result [] }
+        ensures unused { (result.sources.items ≡ sources.items) × IsUnused result }
     {
         Merger {
             sources,
             held: None,
             total: 0,
         }
+    }
+
+    /// Adds a source, before the first row is taken.
+    ///
+    /// # Errors
+    ///
+    /// An allocation fails.
+    pub(crate) fn push(&mut self, source: Source) -> Result<(), AllocError>
+        ensures added { OnOk result (self.new.sources.items ≡ self.old.sources.items ++ source ∷ []) }
+        ensures unused { IsUnused self.old → IsUnused self.new }
+    {
+        self.sources.push(source).map_err(AllocError::from)
     }
 
     /// The sources. A source that failed has read the line that it was found in.
@@ -201,6 +216,7 @@ impl Merger {
         // What was given to the source of place i is longer by the block.
         ensures given { OnOk result (IsOpen self.old.sources.items i → LengthensText self.old self.new i block.now) }
         ensures wants { IsOpen self.old.sources.items i → IsOpen self.new.sources.items i }
+        ensures many { length self.new.sources.items ≡ length self.old.sources.items }
     {
         if i < self.sources.len() {
             self.sources[i].rows.give(block)?;

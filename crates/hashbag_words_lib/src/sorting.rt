@@ -86,7 +86,7 @@ fn sort_by_words(rows: &mut [(u64, (&String, usize))], from: usize)
     rows.sort_unstable_by_key(|row| row.0);
 }
 
-// Sorts rows whose tokens agree before this place. What number is before a row doesn't matter.
+// Sorts rows whose tokens agree before this place. The number beside each row is overwritten.
 #[cycle(sorts)]
 fn sort_from(rows: &mut [(u64, (&String, usize))], from: usize, steps: usize)
     requires { from + 8 * steps < 2 ^ 63 }
@@ -116,6 +116,7 @@ fn sort_runs(rows: &mut [(u64, (&String, usize))], from: usize, steps: usize)
         return;
     }
     let middle = rows[n / 2].0;
+    // If all numbers of the first half are equal, their rows are split off. So neither part is empty.
     let least = if first < middle {
         middle
     } else {

@@ -57,7 +57,8 @@ impl Source {
     /// The fault of [`RowSource::next_row`], and the rows, of which no clause says what is left.
     pub fn open(mut rows: RowSource) -> Result<Opened, (InputFault, RowSource)>
         // The first row is known, and no row is lost; or it isn't known before more bytes are given.
-        ensures { IfOk result (λ opened. (kind : _) → (text : List ℕ) → Holds kind text rows → OpensWith kind text opened) }
+        ensures opened { IfOk result (λ opened. (kind : _) → (text : List ℕ) → Holds kind text rows → OpensWith kind text opened) }
+        ensures wants { IfOk result (λ opened. (wanting : _) → opened ≡ Opened.Wants wanting → wanting.is_ended ≡ false) }
     {
         match rows.next_row() {
             Ok(Next::Row(row)) => {

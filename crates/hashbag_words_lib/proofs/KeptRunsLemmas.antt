@@ -1,0 +1,156 @@
+-- Numbered texts that are taken to be merged, and what is written of them.
+use Rattle.std.proofs.Common.{◌≡◌, ◌⊎◌, inl, inr, ℕ, ◌+◌, ◌<◌, List, [], ◌∷◌, ◌++◌, length, get_or, map, sum_by, All, Option, None, Some, refl, sym, ◌∙◌, ap, subst, arith, append_assoc, length-append}
+use Rattle.std.proofs.lemmas.Bool.{cases_eq}
+use Rattle.std.proofs.lemmas.List.{append-nil, get_or_append_left, get_or-append-add}
+use Rattle.std.proofs.lemmas.List.Elements.{All-nil, All-append, All-cons, All-from_get_or, All-head, All-tail}
+use Rattle.std.proofs.lemmas.List.Sums.{sum_by-append, sum_by-cons, sum_by_push}
+use Rattle.std.proofs.Math.Seq.{get_or-append_seam}
+use Rattle.std.specs.Global.{Vec}
+use Rattle.std.specs.Prelude.{IsSomeAnd, MatchOption}
+use Rattle.hashbag_words_lib.specs.KeptRuns.{times_of, AreKept, IsWritten}
+use Rattle.hashbag_words_lib.specs.Sorted.{times_in, IsMergeOf}
+use Rattle.hashbag_words_lib.specs.declared.merged_text.MergedText.{MergedText}
+
+-- ---- what all of a list have
+
+All-left : (P : ℕ → Type 0) (xs ys : List ℕ) → All P (xs ++ ys) → All P xs
+All-left P xs ys all i d lt = subst P (get_or_append_left xs ys d i lt) (all i d (omega (arith, length-append xs ys)))
+
+All-right : (P : ℕ → Type 0) (xs ys : List ℕ) → All P (xs ++ ys) → All P ys
+All-right P xs ys all i d lt = subst P (get_or-append-add xs ys i d) (all (length xs + i) d (omega (arith, length-append xs ys)))
+
+All-later : (made next : ℕ) (xs : List ℕ) → next ≡ made + 1 → All (λ n. n < made) xs → All (λ n. n < next) xs
+All-later made next xs is all i d lt = let below : get_or xs i d < made = all i d lt in omega arith
+
+-- ---- the numbers below one
+
+pub below_push : (xs : List ℕ) (n : ℕ) → length xs ≡ n → ((i : ℕ) → i < n → (d : ℕ) → get_or xs i d ≡ i) → (i : ℕ) → i < n + 1 → (d : ℕ) → get_or (xs ++ n ∷ []) i d ≡ i
+below_push xs n long each i lt d = at (cases_eq i (length xs))
+  where
+    at : (i ≡ length xs) ⊎ (i ≡ length xs → ⊥) → get_or (xs ++ n ∷ []) i d ≡ i
+    at (inl is) = ap (λ (j : ℕ). get_or (xs ++ n ∷ []) j d) is ∙ get_or-append_seam xs n [] d ∙ sym long ∙ sym is
+    at (inr other) =
+        let below : i < length xs = omega (arith, long) in
+        get_or_append_left xs (n ∷ []) d i below ∙ each i (omega (arith, long)) d
+
+-- ---- what their rows count
+
+times_mapped : (text : List ℕ) (rows : ℕ → List (List ℕ × ℕ)) (xs : List ℕ) → sum_by (times_in text) (map rows xs) ≡ times_of rows text xs
+times_mapped text rows [] = refl
+times_mapped text rows (x ∷ xs) =
+    sum_by-cons (times_in text) (rows x) (map rows xs)
+    ∙ ap (λ (n : ℕ). times_in text (rows x) + n) (times_mapped text rows xs)
+    ∙ sym (sum_by-cons (λ (n : ℕ). times_in text (rows n)) x xs)
+
+times_same : (text : List ℕ) (made : ℕ) (old new : ℕ → List (List ℕ × ℕ)) → ((k : ℕ) → k < made → new k ≡ old k) → (xs : List ℕ) → All (λ n. n < made) xs → times_of new text xs ≡ times_of old text xs
+times_same text made old new same [] below = refl
+times_same text made old new same (x ∷ xs) below =
+    let here : times_in text (new x) ≡ times_in text (old x) = ap (times_in text) (same x (All-head (λ n. n < made) x xs below)) in
+    let rest : times_of new text xs ≡ times_of old text xs = times_same text made old new same xs (All-tail (λ n. n < made) x xs below) in
+    let one : times_of new text (x ∷ xs) ≡ times_in text (new x) + times_of new text xs = sum_by-cons (λ (n : ℕ). times_in text (new n)) x xs in
+    let two : times_of old text (x ∷ xs) ≡ times_in text (old x) + times_of old text xs = sum_by-cons (λ (n : ℕ). times_in text (old n)) x xs in
+    omega arith
+
+-- ---- texts that are kept
+
+pub only_runs : (files runs : List ℕ) → (files ≡ []) ⊎ (runs ≡ []) → (runs ≡ [] → ⊥) → files ≡ []
+only_runs files runs (inl none) some = none
+only_runs files runs (inr none) some = absurd (some none)
+
+-- only files are
+pub kept_begins : (files : List ℕ) (many : ℕ) (rows : ℕ → List (List ℕ × ℕ)) → length files ≡ many → ((i : ℕ) → i < many → (d : ℕ) → get_or files i d ≡ i) → AreKept [] (files ++ []) many rows (map rows files)
+kept_begins files many rows long each = record {
+  counts = λ text.
+      let one : times_of rows text (files ++ []) ≡ times_of rows text files = ap (times_of rows text) (append-nil files) in
+      let two : sum_by (times_in text) (map rows files) ≡ times_of rows text files = times_mapped text rows files in
+      omega arith;
+  left_below = subst (All (λ n. n < many)) (sym (append-nil files))
+      (All-from_get_or (λ n. n < many) files 0 (λ i lt. let at : get_or files i 0 ≡ i = each i (omega arith) 0 in omega arith));
+  taken_below = All-nil (λ n. n < many);
+}
+
+module _ (files runs : List ℕ) (made next : ℕ) (rows later : ℕ → List (List ℕ × ℕ)) (fed : List (List (List ℕ × ℕ))) (run : List (List ℕ × ℕ)) (is : next ≡ made + 1) (written : IsWritten made run rows later) where
+  abbrev pub grown : List ℕ
+  grown = files ++ (runs ++ made ∷ [])
+
+  same : grown ≡ (files ++ runs) ++ made ∷ []
+  same = sym (append_assoc files runs (made ∷ []))
+
+  grown_times : (text : List ℕ) → All (λ n. n < made) (files ++ runs) → times_of later text grown ≡ times_of rows text (files ++ runs) + times_in text run
+  grown_times text below =
+      let all : times_of later text grown ≡ times_of later text ((files ++ runs) ++ made ∷ []) = ap (times_of later text) same in
+      let push : times_of later text ((files ++ runs) ++ made ∷ []) ≡ times_of later text (files ++ runs) + times_in text (later made) = sum_by_push (λ (n : ℕ). times_in text (later n)) (files ++ runs) made in
+      let old : times_of later text (files ++ runs) ≡ times_of rows text (files ++ runs) = times_same text made rows later written.1 (files ++ runs) below in
+      let here : times_in text (later made) ≡ times_in text run = ap (times_in text) written.0 in
+      omega arith
+
+  grown_below : All (λ n. n < made) (files ++ runs) → All (λ n. n < next) grown
+  grown_below below = subst (All (λ n. n < next)) (sym same)
+      (All-append (λ n. n < next) (files ++ runs) (made ∷ []) (All-later made next (files ++ runs) is below) (All-cons (λ n. n < next) made [] (omega arith) (All-nil (λ n. n < next))))
+
+  -- a run was fed
+  pub kept_fed : AreKept [] (files ++ runs) made rows fed → AreKept [] grown next later (fed ++ run ∷ [])
+  kept_fed kept = record {
+    counts = λ text.
+        let push : sum_by (times_in text) (fed ++ run ∷ []) ≡ sum_by (times_in text) fed + times_in text run = sum_by_push (times_in text) fed run in
+        let grows : times_of later text grown ≡ times_of rows text (files ++ runs) + times_in text run = grown_times text kept.left_below in
+        let before = kept.counts text in
+        omega arith;
+    left_below = grown_below kept.left_below;
+    taken_below = All-nil (λ n. n < next);
+  }
+
+  -- the merge of those that were taken was written
+  pub kept_merged : (taken : List ℕ) → AreKept taken (files ++ runs) made rows fed → IsMergeOf (map rows taken) run → AreKept [] grown next later fed
+  kept_merged taken kept merge = record {
+    counts = λ text.
+        let sums : times_in text run ≡ sum_by (times_in text) (map rows taken) = merge.sums text in
+        let of : sum_by (times_in text) (map rows taken) ≡ times_of rows text taken = times_mapped text rows taken in
+        let grows : times_of later text grown ≡ times_of rows text (files ++ runs) + times_in text run = grown_times text kept.left_below in
+        let before = kept.counts text in
+        omega arith;
+    left_below = grown_below kept.left_below;
+    taken_below = All-nil (λ n. n < next);
+  }
+
+module _ (made : ℕ) (rows : ℕ → List (List ℕ × ℕ)) (fed : List (List (List ℕ × ℕ))) where
+  -- those at the end are taken
+  pub kept_last : (front taken : List ℕ) → AreKept [] (front ++ taken) made rows fed → AreKept taken front made rows fed
+  kept_last front taken kept = record {
+    counts = λ text.
+        let both : times_of rows text (front ++ taken) ≡ times_of rows text front + times_of rows text taken = sum_by-append (λ (n : ℕ). times_in text (rows n)) front taken in
+        let before = kept.counts text in
+        omega arith;
+    left_below = All-left (λ n. n < made) front taken kept.left_below;
+    taken_below = All-right (λ n. n < made) front taken kept.left_below;
+  }
+
+  -- those at the beginning are
+  pub kept_first : (taken rest : List ℕ) → AreKept [] (taken ++ rest) made rows fed → AreKept taken rest made rows fed
+  kept_first taken rest kept = record {
+    counts = λ text.
+        let both : times_of rows text (taken ++ rest) ≡ times_of rows text taken + times_of rows text rest = sum_by-append (λ (n : ℕ). times_in text (rows n)) taken rest in
+        let before = kept.counts text in
+        omega arith;
+    left_below = All-right (λ n. n < made) taken rest kept.left_below;
+    taken_below = All-left (λ n. n < made) taken rest kept.left_below;
+  }
+
+  -- what the merge of all counts
+  pub all_counted : (taken left : List ℕ) (merged : List (List ℕ × ℕ)) → left ≡ [] → AreKept taken left made rows fed → IsMergeOf (map rows taken) merged → (v : List ℕ) → times_in v merged ≡ sum_by (times_in v) fed
+  all_counted taken left merged none kept merge v =
+      let empty : times_of rows v left ≡ 0 = ap (times_of rows v) none in
+      let of : sum_by (times_in v) (map rows taken) ≡ times_of rows v taken = times_mapped v rows taken in
+      let sums = merge.sums v in
+      let before = kept.counts v in
+      omega arith
+
+  -- the same, where all that are left are taken
+  pub all_of : (numbers left : List ℕ) (merged : List (List ℕ × ℕ)) → left ≡ numbers → AreKept [] left made rows fed → IsMergeOf (map rows numbers) merged → (v : List ℕ) → times_in v merged ≡ sum_by (times_in v) fed
+  all_of numbers left merged is kept merge v = all_counted numbers [] merged refl (kept_last [] numbers (subst (λ (l : List ℕ). AreKept [] l made rows fed) is kept)) merge v
+
+  -- what is merged next has those that were taken
+  pub taken_numbers : (numbers : Vec ℕ) (left : List ℕ) (full : Option MergedText) → IsSomeAnd full (λ text. text.batch.numbers ≡ numbers) → AreKept numbers.items left made rows fed
+      → MatchOption full (AreKept [] left made rows fed) (λ text. AreKept text.batch.numbers.items left made rows fed)
+  taken_numbers numbers left None is kept = absurd is
+  taken_numbers numbers left (Some text) is kept = subst (λ (v : Vec ℕ). AreKept v.items left made rows fed) (sym is) kept

@@ -1,0 +1,26 @@
+use Rattle.std.proofs.Common.{◌≡◌, ℕ, List, [], ◌++◌, take, drop, sym, ◌∙◌, ap, subst, append_assoc}
+use Rattle.std.proofs.lemmas.List.{take-append-drop}
+use Rattle.std.proofs.lemmas.Result.{IfOk-weaker}
+use Rattle.hashbag_words_lib.specs.KeptRuns.{AreKept}
+use Rattle.hashbag_words_lib.specs.Levels.{runs_in}
+use Rattle.hashbag_words_lib.proofs.KeptRunsLemmas.{kept_first, taken_numbers}
+use Rattle.hashbag_words_lib.proofs.kept_runs.KeptRuns.take_files.Goals as goal
+
+-- the first ones are taken
+pub returns-clause-taken : goal.returns-clause-taken
+returns-clause-taken c =
+    IfOk-weaker c.run_of.result _ _
+    (λ full is rows fed kept.
+    let self = c.args.self.now in
+    let runs = runs_in self.kept in
+    let numbers = c.replace-numbers.result in
+    let later = c.replace-numbers.new.dest.items in
+    let first : numbers.items ≡ take c.min.result self.files.items = ap (λ v. v.items) c.replace-numbers.ensures.value ∙ c.in_ok-later.ensures.items in
+    let files : self.files.items ≡ numbers.items ++ later =
+    sym (take-append-drop c.min.result self.files.items)
+    ∙ ap (λ (l : List ℕ). l ++ drop c.min.result self.files.items) (sym first)
+    ∙ ap (λ (l : List ℕ). numbers.items ++ l) (sym (ap (λ v. v.items) c.replace-numbers.ensures.after ∙ c.in_ok-later.ensures.tail)) in
+    let all : self.files.items ++ runs ≡ numbers.items ++ (later ++ runs) = ap (λ (l : List ℕ). l ++ runs) files ∙ append_assoc numbers.items later runs in
+    taken_numbers self.made rows fed numbers (later ++ runs) full is
+    (kept_first self.made rows fed numbers.items (later ++ runs) (subst (λ (l : List ℕ). AreKept [] l self.made rows fed) all kept)))
+    c.run_of.ensures.numbers

@@ -1,0 +1,160 @@
+//! Which numbered texts are merged with which.
+//!
+//! A [`KeptRuns`] holds no file: each file of counts and each run has a number, and it says the numbers of those that are merged. So no clause
+//! depends on where they are. In the clauses `rows` has the rows of the text of each number, and `fed` are the rows of all files and runs that were
+//! added.
+ghost use Rattle.std.specs.Prelude.{◌≡◌, ◌≢◌, ◌↔◌, true, ℕ, ◌<◌, [], List, length, map, slice_index_or, IfOk, IfSome, IsSomeAnd, OnOk, None};
+ghost use Rattle.hashbag_words_lib.specs.KeptRuns.{AddsMerged, AddsRun, AreAlike, HasKept, MergesAll, TakesTexts, TakesThese};
+ghost use Rattle.hashbag_words_lib.specs.Levels.{runs_in};
+ghost use Rattle.hashbag_words_lib.specs.MergedTexts.{BeginsOf};
+
+use crate::levels::{FAN, Levels};
+use crate::merged_text::{MergedText, RowLayout, run_layout};
+use crate::row_source::SourceKind;
+use std::alloc::{AllocError, Global};
+use std::mem;
+
+/// The numbers of the files and runs that are to be merged. First come the numbers of the files, from 0.
+#[derive(Drop)]
+pub struct KeptRuns {
+    alloc: Global,
+    // What each file is, and the numbers of those that weren't taken.
+    kind: SourceKind,
+    files: Vec<usize>,
+    // The numbers of the runs that weren't taken.
+    kept: Levels<usize>,
+    // The number of the next run, and its level.
+    made: usize,
+    level: u32,
+}
+
+// Returns the numbers below this one.
+fn numbers_below(alloc: Global, many: usize) -> Result<Vec<usize>, AllocError>
+    ensures many { IfOk result (λ numbers. length numbers.items ≡ many) }
+    ensures each { IfOk result (λ numbers. (i : ℕ) → i < many → (d : ℕ) → slice_index_or numbers.items i d ≡ i) }
+{
+    let mut numbers = Vec::new(alloc);
+    'numbers: for number in 0..many {
+        numbers.push(number)?;
+    }
+    Ok(numbers)
+}
+
+impl KeptRuns {
+    /// Returns that many files of this kind, and no run.
+    ///
+    /// # Errors
+    ///
+    /// An allocation fails.
+    pub fn new(alloc: Global, kind: SourceKind, files: usize) -> Result<KeptRuns, AllocError>
+        // Each number below `files` is that of a file.
+        ensures many { IfOk result (λ kept. length kept.files.items ≡ files) }
+        ensures each { IfOk result (λ kept. (i : ℕ) → i < files → (d : ℕ) → slice_index_or kept.files.items i d ≡ i) }
+        ensures kept { IfOk result (λ kept. (rows : ℕ → List (List ℕ × ℕ)) → HasKept kept rows (map rows kept.files.items)) }
+    {
+        Ok(KeptRuns {
+            alloc,
+            kind,
+            files: numbers_below(alloc, files)?,
+            kept: Levels::new(alloc),
+            made: files,
+            level: 0,
+        })
+    }
+
+    /// Returns whether no run is kept.
+    pub fn is_empty(&self) -> bool
+        ensures { (result ≡ true) ↔ (runs_in self.now.kept ≡ []) }
+    {
+        self.kept.is_empty()
+    }
+
+    /// Adds a run, whose text has the next number. Numbers are given in order, from 0: to the files, and then to each run that is added.
+    ///
+    /// # Errors
+    ///
+    /// An allocation fails.
+    pub fn add(&mut self) -> Result<(), AllocError>
+        // A run was fed; or it is the merge of the texts that were taken, and nothing more was fed.
+        ensures fed { OnOk result (AddsRun self.old self.new) }
+        ensures merged { OnOk result (AddsMerged self.old self.new) }
+    {
+        let Some(next) = self.made.checked_add(1) else {
+            return Err(AllocError);
+        };
+        self.kept.push(self.made, self.level)?;
+        self.level = 0;
+        self.made = next;
+        Ok(())
+    }
+
+    // Returns the merge of those texts into a run. It is always `Some`: the callers return it.
+    fn run_of(
+        &self,
+        kind: SourceKind,
+        numbers: Vec<usize>,
+    ) -> Result<Option<MergedText<'static>>, AllocError>
+        ensures numbers { IfOk result (λ full. IsSomeAnd full (λ text. text.batch.numbers ≡ numbers)) }
+        ensures begins { IfOk result (λ full. IfSome full (BeginsOf kind)) }
+    {
+        let text = MergedText::new(self.alloc, kind, numbers, run_layout())?;
+        Ok(Some(text))
+    }
+
+    /// Takes sixteen runs of one level, if there are as many. The caller merges them, and adds the merged run: it is of the next level.
+    pub fn take_full(&mut self) -> Result<Option<MergedText<'static>>, AllocError>
+        // What is taken is no longer kept, and nothing else is taken.
+        ensures taken { IfOk result (λ full. TakesTexts full self.old self.new) }
+        ensures begins { IfOk result (λ full. IfSome full (BeginsOf SourceKind.Run)) }
+        ensures made { self.new.made ≡ self.old.made }
+    {
+        let level = self.kept.last_level().saturating_add(1);
+        match self.kept.take_full()? {
+            Some(numbers) => {
+                self.level = level;
+                self.run_of(SourceKind::Run, numbers)
+            }
+            None => Ok(None),
+        }
+    }
+
+    /// Takes the next sixteen files, or all that are left. The caller merges them, and adds the merged run. None are taken if at most sixteen are
+    /// left and there is no run.
+    pub fn take_files(&mut self) -> Result<Option<MergedText<'static>>, AllocError>
+        // What is taken is no longer kept, and nothing else is taken. At the end there are files or runs, and not both.
+        ensures taken { IfOk result (λ full. TakesTexts full self.old self.new) }
+        ensures begins { IfOk result (λ full. IfSome full (BeginsOf self.old.kind)) }
+        ensures end { IfOk result (λ full. full ≡ None → AreAlike self.new) }
+        ensures made { self.new.made ≡ self.old.made }
+    {
+        let many = self.files.len();
+        if many == 0 || (many <= FAN && self.kept.is_empty()) {
+            return Ok(None);
+        }
+        let later = self.files.split_off(many.min(FAN))?;
+        let numbers = mem::replace(&mut self.files, later);
+        self.run_of(self.kind, numbers)
+    }
+
+    /// Takes all.
+    pub fn take_all<'e>(&mut self, layout: RowLayout<'e>) -> Result<MergedText<'e>, AllocError>
+        // If there are no files or no runs, all are taken, and their merge counts each text as all that was fed does.
+        ensures taken { IfOk result (λ text. AreAlike self.old → TakesThese text.batch.numbers.items self.old self.new) }
+        ensures all { IfOk result (λ text. AreAlike self.old → MergesAll text.batch.numbers.items self.old) }
+        ensures layout { IfOk result (λ text. (text.rows.choice ≡ layout.entry.choice) × (text.rows.sink.format ≡ layout.entry.format)) }
+
+        // Nothing was given of them. They are runs, if there are any, and else files.
+        ensures files { runs_in self.old.kept ≡ [] → IfOk result (BeginsOf self.old.kind) }
+        ensures runs { runs_in self.old.kept ≢ [] → IfOk result (BeginsOf SourceKind.Run) }
+        ensures made { self.new.made ≡ self.old.made }
+    {
+        if self.kept.is_empty() {
+            let none = Vec::new(self.alloc);
+            let files = mem::replace(&mut self.files, none);
+            return MergedText::new(self.alloc, self.kind, files, layout);
+        }
+        let none = Levels::new(self.alloc);
+        let runs = mem::replace(&mut self.kept, none).into_runs();
+        MergedText::new(self.alloc, SourceKind::Run, runs, layout)
+    }
+}

@@ -1,0 +1,328 @@
+//! The text of the merge of numbered texts, in parts.
+//!
+//! A [`MergedText`] reads and writes nothing: it says what it wants, and the caller reads and writes. So the clauses hold wherever the texts are. In
+//! them `given` is what it was given of each text so far, in the order of their numbers, and `taken` are the parts that were taken.
+ghost use Rattle.std.specs.Prelude.{◌≡◌, ◌⊎◌, ℕ, ◌++◌, ◌≤◌, [], List, length, true, false, map, string_bytes, IfOk, OnOk};
+ghost use Rattle.hashbag.specs.Walks.{seen};
+ghost use Rattle.hashbag_words_lib.specs.Bars.{bars_text};
+ghost use Rattle.hashbag_words_lib.specs.Batches.{EndsWanted, IsWanted};
+ghost use Rattle.hashbag_words_lib.specs.Choice.{shows};
+ghost use Rattle.hashbag_words_lib.specs.MergedTexts.{AreAll, BuildsEnd, EndsText, GivesText, HasPut, IsSameBut, IsTopOf, KeepsPut, PutsNext, PutsRow, TakesPart};
+ghost use Rattle.hashbag_words_lib.specs.RowParts.{BuildsAll};
+ghost use Rattle.hashbag_words_lib.specs.Sorted.{row_of};
+ghost use Rattle.hashbag_words_lib.specs.Top.{kept_row};
+
+use crate::bars::bars_of;
+use crate::batch::Batch;
+use crate::choice::{Choice, Order};
+use crate::lines::LinesRead;
+use crate::row_parts::RowParts;
+use crate::row_source::SourceKind;
+use crate::shown_rows::{ShownRows, TopRows};
+use crate::sorted_merge::{Merged, Sink, Stop};
+use crate::writing::Format;
+use std::alloc::{AllocError, Global};
+use std::cmp::Reverse;
+
+// How long a part is, at least, but for the last one.
+const PART: usize = 1 << 16;
+
+/// What a merge wants next of its caller.
+#[derive(Clone, Copy, Debug, PartialEq, Eq)]
+pub enum Wants {
+    /// The next bytes of the text of that number, or to hear that it has ended.
+    Block(usize),
+    /// That the part is written behind the parts before it, and then taken.
+    Part,
+    /// Nothing: the text is written whole.
+    End,
+}
+
+/// Which merged rows are written, and how.
+#[derive(Clone, Copy)]
+pub struct RowLayout<'e> {
+    /// How they are written.
+    pub format: Format,
+    /// Which are.
+    pub choice: Choice<'e>,
+    /// How many columns there are for the bars of the most common rows, if they have bars. Then the format isn't used.
+    pub bars: Option<usize>,
+}
+
+/// Returns how the rows of a run are written: all of them, as `tsv`.
+pub fn run_layout() -> RowLayout<'static>
+    ensures all { (row : List ℕ × ℕ) → shows result.choice row ≡ true }
+    ensures format { result.format ≡ Format.Tsv }
+    ensures order { AreAll result.choice.order }
+{
+    let choice = Choice {
+        order: Order::Rising,
+        least: 0,
+        shortest: 0,
+        shard: None,
+        except: None,
+    };
+    RowLayout {
+        format: Format::Tsv,
+        choice,
+        bars: None,
+    }
+}
+
+/// The text of the merge of numbered texts, of which the part that wasn't taken is kept.
+#[derive(Drop)]
+pub struct MergedText<'e> {
+    batch: Batch,
+    rows: ShownRows<'e, RowParts>,
+    // The most common rows, if only these are written. They are after the last row is merged.
+    top: Option<ShownRows<'e, TopRows>>,
+    // How many columns there are for their bars, if they have bars.
+    bars: Option<usize>,
+    // Whether the last row and the end of the text are built.
+    is_over: bool,
+}
+
+// Returns where the most common rows are kept, if only these are written.
+fn top_of<'e>(alloc: Global, choice: Choice<'e>) -> Option<ShownRows<'e, TopRows>>
+    ensures { IsTopOf choice.entry result }
+{
+    match choice.order {
+        Order::MostCommon(most) => Some(ShownRows {
+            sink: TopRows::new(alloc, most),
+            choice,
+        }),
+        _ => None,
+    }
+}
+
+// Returns rows as those of a bag are.
+fn lent(rows: &Vec<(Reverse<usize>, String)>) -> Result<Vec<(&String, usize)>, AllocError>
+    ensures { IfOk result (λ pairs. map row_of (map seen pairs.items) ≡ map kept_row rows.now.items) }
+{
+    let mut pairs = Vec::new(*rows.allocator());
+    for (count, token) in rows {
+        pairs.push((token, count.0))?;
+    }
+    Ok(pairs)
+}
+
+// Appends rows with bars to the part.
+fn push_bars(
+    parts: &mut RowParts,
+    rows: &Vec<(Reverse<usize>, String)>,
+    width: usize,
+) -> Result<(), AllocError>
+    ensures part { OnOk result (parts.new.part.items ≡ parts.old.part.items ++ bars_text width (map kept_row rows.now.items)) }
+    ensures format { parts.new.format ≡ parts.old.format }
+{
+    let text = bars_of(*rows.allocator(), width, &lent(rows)?)?;
+    parts.push_text(&text)
+}
+
+// Appends the text of all these rows to the part, of which there are no others.
+fn push_all(parts: &mut RowParts, rows: &Vec<(Reverse<usize>, String)>) -> Result<(), AllocError>
+    ensures text { OnOk result (BuildsAll parts.old parts.new (map kept_row rows.now.items)) }
+    ensures format { parts.new.format ≡ parts.old.format }
+{
+    for (count, token) in rows {
+        if parts.push(token.as_str(), count.0).is_err() {
+            return Err(AllocError);
+        }
+    }
+    parts.end()
+}
+
+// Appends to the part what the text has after it: the most common rows, if only these are written, and the end.
+fn push_rest(
+    parts: &mut RowParts,
+    top: Option<ShownRows<'_, TopRows>>,
+    bars: Option<usize>,
+) -> Result<(), AllocError>
+    ensures text { OnOk result (EndsText parts.old top.entry bars parts.new) }
+    ensures format { parts.new.format ≡ parts.old.format }
+{
+    let Some(top) = top else {
+        return parts.end();
+    };
+    let rows = top.sink.into_rows();
+    match bars {
+        Some(width) => push_bars(parts, &rows, width),
+        None => push_all(parts, &rows),
+    }
+}
+
+impl<'e> MergedText<'e> {
+    /// Returns the text of the merge of the texts of these numbers. Nothing was given of them.
+    ///
+    /// # Errors
+    ///
+    /// An allocation fails.
+    pub fn new(
+        alloc: Global,
+        kind: SourceKind,
+        numbers: Vec<usize>,
+        layout: RowLayout<'e>,
+    ) -> Result<MergedText<'e>, AllocError>
+        ensures begins { IfOk result (λ text. HasPut (map (λ n. (kind, [])) text.batch.numbers.items) text []) }
+        ensures layout { IfOk result (λ text. (text.rows.choice ≡ layout.entry.choice) × (text.rows.sink.format ≡ layout.entry.format)) }
+        ensures bars { IfOk result (λ text. text.bars ≡ layout.entry.bars) }
+        ensures numbers { IfOk result (λ text. text.batch.numbers ≡ numbers) }
+    {
+        let parts = RowParts::begin(alloc, layout.format)?;
+        Ok(MergedText {
+            batch: Batch::new(alloc, kind, numbers),
+            rows: ShownRows {
+                sink: parts,
+                choice: layout.choice,
+            },
+            top: top_of(alloc, layout.choice),
+            bars: layout.bars,
+            is_over: false,
+        })
+    }
+
+    /// Returns the numbers of the texts.
+    pub fn numbers(&self) -> &[usize]
+        ensures { result.now ≡ self.now.batch.numbers.items }
+    {
+        self.batch.numbers()
+    }
+
+    /// Returns how the lines of the text of that place among the numbers were read.
+    pub fn reading(&self, i: usize) -> LinesRead {
+        self.batch.reading(i)
+    }
+
+    /// Returns what the counts of all merged rows add up to, of rows that are written and of others.
+    pub fn total(&self) -> usize
+        ensures { result ≡ self.now.batch.merger.total }
+    {
+        self.batch.total()
+    }
+
+    /// Returns whether no row was written.
+    pub fn is_empty(&self) -> bool
+        ensures { result ≡ self.now.rows.sink.is_empty }
+    {
+        self.rows.sink.is_empty()
+    }
+
+    /// Returns how many bytes of the wanted text it keeps: those that were given and haven't been read.
+    pub fn kept(&self) -> usize {
+        self.batch.kept()
+    }
+
+    /// Gives the next bytes of the wanted text.
+    ///
+    /// # Errors
+    ///
+    /// An allocation fails.
+    pub fn give(&mut self, block: &[u8]) -> Result<(), AllocError>
+        // What was given of the wanted text is longer by the block, and of no other one.
+        ensures given { OnOk result (GivesText block.now self.old self.new) }
+        ensures wants { OnOk result (IsWanted self.old.batch → IsWanted self.new.batch) }
+        ensures same { (self.new.batch.wanted ≡ self.old.batch.wanted) × (self.new.is_over ≡ self.old.is_over) }
+    {
+        self.batch.give(block)
+    }
+
+    /// Says that no more bytes of the wanted text come.
+    pub fn end(&mut self)
+        // What was given is unchanged.
+        ensures given { KeepsPut self.old self.new }
+
+        // The wanted text has ended.
+        ensures merged { EndsWanted self.old.batch self.new.batch }
+        ensures opening { length self.old.batch.merger.sources.items ≤ self.old.batch.wanted → self.new.batch.rows.is_ended ≡ true }
+    {
+        self.batch.end();
+    }
+
+    /// Returns the part: what was built and not taken.
+    pub fn part(&self) -> &[u8]
+        ensures { result.now ≡ self.now.rows.sink.part.items }
+    {
+        self.rows.sink.part()
+    }
+
+    /// Takes the part: the next one begins.
+    #[tactic(auto, using(crate::proofs::MergedTextLemmas::take_put))]
+    pub fn take(&mut self)
+        ensures { TakesPart self.old self.new }
+    {
+        self.rows.sink.take();
+    }
+
+    // Puts a row, if it is shown.
+    fn put(&mut self, token: String, count: usize) -> Result<(), Stop>
+        ensures put { OnOk result (PutsRow (string_bytes token, count) self.old self.new) }
+        ensures elsewhere { OnOk result (IsSameBut self.old self.new) }
+        ensures over { OnOk result (self.new.is_over ≡ self.old.is_over) }
+    {
+        if let Some(top) = &mut self.top {
+            return match top.put(token, count) {
+                Ok(()) => Ok(()),
+                Err(_) => Err(Stop::Memory),
+            };
+        }
+        match self.rows.put(token, count) {
+            Ok(()) => Ok(()),
+            Err(_) => Err(Stop::Memory),
+        }
+    }
+
+    // Builds the end of the text.
+    fn build_end(&mut self) -> Result<(), Stop>
+        ensures built { OnOk result (BuildsEnd self.old self.new) }
+        ensures elsewhere { OnOk result (IsSameBut self.old self.new) }
+        ensures over { OnOk result (self.new.is_over ≡ true) }
+    {
+        let top = self.top.take();
+        if push_rest(&mut self.rows.sink, top, self.bars).is_err() {
+            return Err(Stop::Memory);
+        }
+        self.is_over = true;
+        Ok(())
+    }
+
+    // Returns what is wanted after the end of the text was built.
+    fn after_end(&self) -> Wants
+        ensures part { result ≡ Wants.End → self.now.rows.sink.part.items ≡ [] }
+        ensures wants { result ≡ Wants.Part ⊎ result ≡ Wants.End }
+    {
+        if self.rows.sink.part().is_empty() {
+            return Wants::End;
+        }
+        Wants::Part
+    }
+
+    /// Returns what is wanted next. If bytes are wanted, it may be called again once they were given, or the text was ended.
+    ///
+    /// # Errors
+    ///
+    /// Same as [`Merger::next_row`]; `Stop::Memory` if an allocation fails. Then the merge is of no use.
+    pub fn next(&mut self) -> Result<Wants, Stop>
+        // A text wants bytes, a part is built, or the parts that were taken are the text of the merge of all texts.
+        ensures { IfOk result (λ wants. (given : _) → (taken : List ℕ) → HasPut given self.old taken → PutsNext given taken wants self.new) }
+    {
+        if self.is_over {
+            return Ok(self.after_end());
+        }
+        'rows: for _row in 0..u64::MAX {
+            match self.batch.next_row()? {
+                Merged::Row((token, count)) => {
+                    self.put(token, count)?;
+                    if self.rows.sink.part().len() >= PART {
+                        return Ok(Wants::Part);
+                    }
+                }
+                Merged::Wants(number) => return Ok(Wants::Block(number)),
+                Merged::End => {
+                    self.build_end()?;
+                    return Ok(self.after_end());
+                }
+            }
+        }
+        Err(Stop::TooMany)
+    }
+}
