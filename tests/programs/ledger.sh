@@ -153,7 +153,9 @@ ends 0 "" --start start.csv --start-encoding Windows-1252 --encoding UTF-16 wide
 has ../out 'article,number\nGröße,10\n' "a stock in Windows-1252"
 ends 2 'hashbag_ledger: wide.csv:1: UTF-16; `--encoding UTF-16` reads it' wide.csv
 ends 2 "hashbag_ledger: start.csv:1: not UTF-16: no byte order mark; UTF-16LE and UTF-16BE need none" --encoding UTF-16 start.csv
-ends 2 'hashbag_ledger: start.csv:2: column `article` is not UTF-8; if it is Windows-1252, `--encoding Windows-1252`' --start start.csv --encoding UTF-16 wide.csv
+ends 2 'hashbag_ledger: start.csv:2: column `article` is not UTF-8; if it is Windows-1252, `--start-encoding Windows-1252`' --start start.csv --encoding UTF-16 wide.csv
+ends 2 'hashbag_ledger: start.csv:2: column `article` is not UTF-8; if it is Windows-1252, `--encoding Windows-1252`' --columns article,number start.csv
+ends 2 'hashbag_ledger: wide.csv:1: UTF-16; `--start-encoding UTF-16` reads it' --start wide.csv --encoding UTF-16 wide.csv
 
 # A quote that is never closed: the line is that of the quote
 printf 'article,change,note\nbolt,5,\nnut,7,"12 inch\nbolt,-2,\n' > open.csv

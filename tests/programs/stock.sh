@@ -81,6 +81,20 @@ has ../out 'article,number\nGröße,10\n' "files in three encodings"
 sums=($(sha256sum start.csv wide.csv moves.utf8 | cut -d ' ' -f 1))
 is e.db 'select sha256 from batch order by batch' "${sums[0]}\n${sums[1]}\n${sums[2]}" "the sums of files in three encodings"
 ends 0 '' take --quiet --db e.db Größe 1
+ends 2 "$p: start.csv:2: column \`article\` is not UTF-8; if it is Windows-1252, \`--start-encoding Windows-1252\`" enter --quiet --db none.db --from start.csv
+ends 2 "$p: wide.csv:1: UTF-16; \`--start-encoding UTF-16\` reads it" enter --quiet --db none.db --from wide.csv moves.utf8
+ends 2 "$p: wide.csv:1: UTF-16; \`--encoding UTF-16\` reads it" enter --quiet --db none.db wide.csv
+
+# What was counted, in another encoding
+printf 'article,number\nGröße,7\n' > counted.utf8 && iconv -f UTF-8 -t UTF-16 counted.utf8 > counted.wide
+ends 2 "$p: counted.wide:1: UTF-16; \`--encoding UTF-16\` reads it" count --db e.db counted.wide
+ends 2 "$p: start.csv:2: column \`article\` is not UTF-8; if it is Windows-1252, \`--encoding Windows-1252\`" count --db e.db --again start.csv
+ends 0 'counted.wide: batch 5, 1 movement' count --db e.db --encoding UTF-16 counted.wide
+has ../out 'article,there,counted,change\nGröße,9,7,-2\n' "a count in UTF-16"
+is e.db 'select sha256 from batch where batch = 5' "$(sha256sum < counted.wide | cut -d ' ' -f 1)" "the sum of a count in UTF-16"
+ends 0 'start.csv: batch 6, 1 movement' count --db e.db --again --encoding Windows-1252 start.csv
+has ../out 'article,there,counted,change\nGröße,7,4,-3\n' "a count in Windows-1252"
+ends 2 "$p: counted.utf8:1: not UTF-16: no byte order mark; UTF-16LE and UTF-16BE need none" count --db e.db --encoding UTF-16 counted.utf8
 ends 0 '' verify --db e.db
 
 # Once: a file whose bytes were entered before is rejected, under another name too, and nothing else is entered
@@ -168,7 +182,8 @@ ends 1 'b.csv:2: refused: out 3 of "bolt", 2 there' enter --db said.db --strict 
 ends 0 "$p: said.db: none of \"blot\"; is it \"bolt\"?" balance --db said.db nut blot
 has ../out 'article,number\nblot,0\nnut,2\n' "the balance of an article that isn't there"
 ends 0 "$p: said.db: none of \"washer\"" balance --db said.db washer
-ends 0 "$p: said.db: no movement of \"blot\"" history --db said.db blot
+ends 0 "$p: said.db: no movement of \"blot\"; is it \"bolt\"?" history --db said.db blot
+ends 0 "$p: said.db: no movement of \"washer\"" history --db said.db washer
 
 # Files without movements, and standard input, may be entered again
 cp sunday.csv monday2.csv

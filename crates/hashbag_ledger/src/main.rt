@@ -5,75 +5,31 @@ mod inputs;
 mod outputs;
 mod stock;
 
-use crate::inputs::{enter_files, start_of};
-use crate::outputs::{Outputs, Report, conflict};
+use crate::inputs::HostInputs;
+use crate::outputs::{Outputs, conflict};
 use hashbag_ledger_args::arguments::{Request, parse};
 use hashbag_ledger_args::command::PROGRAM;
 use hashbag_ledger_args::jobs::has_job;
-use hashbag_ledger_lib::ledger::{Entered, Ledger, end};
-use hashbag_ledger_lib::output::{balance_text, refusals_table, refusals_text};
+use hashbag_ledger_db::unkept::{Report, enter_unkept};
 use hashbag_shell::program::{status_of, words_of};
-use hashbag_shell::status::{DENIED, DONE};
+use hashbag_shell::progress::Progress;
 use hashbag_shell::trouble::Trouble;
+use std::cell::Cell;
 use std::hash::RandomState;
 use std::process::ExitCode;
 
-// Returns the ledger of the stock at the beginning.
-fn ledger_of<'a>(
-    rt: &HostRuntime,
-    request: &Request<'a>,
-) -> Result<Ledger<String, RandomState>, Trouble<'a>> {
-    let start = start_of(rt, request)?;
+// Enters the files, and returns what is to be written.
+fn report_of<'a>(rt: &HostRuntime, request: &Request<'a>) -> Result<Report, Trouble<'a>> {
     // The keys are random, so nobody can choose articles whose hashes collide.
     let state = match RandomState::new(rt) {
         Ok(state) => state,
         Err(error) => return Err(Trouble::Random(error)),
     };
-    match Ledger::begin(rt.alloc(), state, usize::MAX, start) {
-        Ok(ledger) => Ok(ledger),
-        // The stock at the beginning isn't too large: that was checked when it was read.
-        Err(_) => Err(Trouble::Memory),
-    }
-}
-
-// Enters the movements of all files into the stock at the beginning.
-fn entered_of<'a>(rt: &HostRuntime, request: &Request<'a>) -> Result<Entered<String>, Trouble<'a>> {
-    let mut ledger = ledger_of(rt, request)?;
-    enter_files(rt, request, &mut ledger)?;
-    Ok(end(rt.alloc(), ledger)?)
-}
-
-// Returns what is to be written.
-fn report_of<'a>(rt: &HostRuntime, request: &Request<'a>) -> Result<Report, Trouble<'a>> {
-    let alloc = rt.alloc();
-    let entered = entered_of(rt, request)?;
-    let all = entered.refusals.as_slice();
-    let named = if request.strict {
-        &all[..all.len().min(1)]
-    } else {
-        all
-    };
-    let refusals = match request.refused {
-        Some(_) => refusals_table(alloc, &request.files, request.reading, named)?,
-        None => {
-            refusals_text(alloc, &request.files, request.reading.scale, named)?.into_bytes()
-        },
-    };
-    let balance = if request.strict && !all.is_empty() {
-        None
-    } else {
-        Some(balance_text(
-            alloc,
-            request.start_columns,
-            request.reading,
-            &entered.balance,
-        )?)
-    };
-    Ok(Report {
-        refusals,
-        balance,
-        status: if all.is_empty() { DONE } else { DENIED },
-    })
+    let progress = Cell::new(Progress::new(rt, request.reports, &request.files));
+    let inputs = HostInputs { rt, progress };
+    let report = enter_unkept(rt.alloc(), state, &inputs, request);
+    inputs.progress.into_inner().erase(rt);
+    report
 }
 
 // Does what the arguments ask for, and returns the exit status.

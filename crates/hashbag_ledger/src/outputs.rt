@@ -1,19 +1,9 @@
 //! The outputs: the refusals and the balance.
 use hashbag_ledger_args::arguments::Request;
+use hashbag_ledger_db::unkept::Report;
 use hashbag_shell::one_file::is_one_file;
 use hashbag_shell::output::{Output, write_text};
 use hashbag_shell::trouble::Trouble;
-
-/// What is to be written.
-#[derive(Drop)]
-pub struct Report {
-    /// The refusals.
-    pub refusals: Vec<u8>,
-    /// The balance; `None` if none is written.
-    pub balance: Option<Vec<u8>>,
-    /// The status with which the program ends.
-    pub status: u8,
-}
 
 /// The outputs that were opened.
 #[derive(Drop)]

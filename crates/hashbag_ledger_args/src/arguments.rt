@@ -5,8 +5,9 @@ use crate::listing::with_listed;
 use clap::ArgMatches;
 use hashbag_csv::counts::Reading;
 use hashbag_ledger_lib::reading::Columns;
-use hashbag_shell::options::{encoding, word};
+use hashbag_shell::options::{encoding, reports, word};
 use hashbag_shell::program::given_to;
+use hashbag_shell::progress::Reports;
 use hashbag_shell::trouble::Trouble;
 use hashbag_text::encoding::Encoding;
 use std::alloc::{AllocError, Global};
@@ -34,6 +35,8 @@ pub struct Request<'a> {
     pub refused: Option<&'a str>,
     /// Whether, after a refusal, only the first refusal is written.
     pub strict: bool,
+    /// When the progress of reading is reported.
+    pub reports: Reports,
 }
 
 // Returns the delimiter, and how numbers are written.
@@ -70,6 +73,7 @@ fn request_of<'a>(
         output: matches.get_str("output"),
         refused: matches.get_str("refused"),
         strict: matches.get_flag("strict"),
+        reports: reports(matches),
     })
 }
 

@@ -1,7 +1,9 @@
 //! The arguments and their help.
 use clap::{Arg, ArgAction, Command};
 use hashbag_shell::VERSION;
-use hashbag_shell::options::{CommandResult, encoding_arg, with, with_output, with_reading};
+use hashbag_shell::options::{
+    CommandResult, encoding_arg, with, with_output, with_progress, with_reading,
+};
 use std::alloc::Global;
 
 /// The name of the program. Its messages on standard error begin with it.
@@ -74,7 +76,8 @@ fn with_outputs<'a>(alloc: Global, command: CommandResult<'a>) -> CommandResult<
         .long("strict")
         .action(ArgAction::SetTrue)
         .help("Ends at the first refusal, without a balance");
-    with(with(with_output(alloc, command, help), refused), strict)
+    let command = with(with(with_output(alloc, command, help), refused), strict);
+    with_progress(alloc, command, "Report no progress")
 }
 
 /// Returns the command with its arguments.

@@ -13,7 +13,8 @@ use hashbag_ledger_lib::balance_forms::Form;
 use hashbag_ledger_lib::numbers::MOST;
 use hashbag_ledger_lib::reading::Columns;
 use hashbag_ledger_lib::style::Style;
-use hashbag_shell::options::{encoding, word};
+use hashbag_shell::options::{encoding, reports, word};
+use hashbag_shell::progress::Reports;
 use hashbag_shell::trouble::Trouble;
 use hashbag_text::encoding::Encoding;
 use std::alloc::{AllocError, Global};
@@ -33,7 +34,7 @@ pub struct Job<'a> {
     pub start_columns: (&'a str, &'a str),
     /// Its encoding, `None` for UTF-8.
     pub start_encoding: Option<Encoding>,
-    /// The encoding of movements, `None` for UTF-8.
+    /// The encoding of movements, or of what was counted, `None` for UTF-8.
     pub encoding: Option<Encoding>,
     /// The columns of movements, if they are named.
     pub columns: Option<Columns<&'a str>>,
@@ -67,6 +68,8 @@ pub struct Job<'a> {
     pub last: bool,
     /// Whether nothing is said of what was done.
     pub quiet: bool,
+    /// When the progress of reading is reported.
+    pub reports: Reports,
     /// The new database.
     pub into: &'a str,
 }
@@ -150,6 +153,7 @@ impl<'a> Job<'a> {
             batch: given.get_str("BATCH"),
             last: given.get_flag("last"),
             quiet: given.get_flag("quiet"),
+            reports: reports(given),
             into: given.get_str("into").unwrap_or(""),
         })
     }

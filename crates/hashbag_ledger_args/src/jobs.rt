@@ -2,7 +2,9 @@
 use crate::command::{PROGRAM, START_COLUMNS, with_encodings};
 use clap::{Arg, ArgAction, Command, value_parser};
 use hashbag_shell::VERSION;
-use hashbag_shell::options::{self, CommandResult, DELIMITERS, MARKS, SCALES, with};
+use hashbag_shell::options::{
+    self, CommandResult, DELIMITERS, MARKS, SCALES, encoding_arg, with, with_progress,
+};
 use std::alloc::Global;
 
 const ABOUT: &str = "Keeps a stock in a database.";
@@ -187,8 +189,8 @@ fn with_flags<'a>(alloc: Global, command: CommandResult<'a>) -> CommandResult<'a
         .long("strict")
         .action(ArgAction::SetTrue)
         .help("Enters nothing if a movement is refused");
-    let help = "Doesn't say which batches were entered";
-    with_quiet(alloc, with_again(alloc, with(command, strict)), help)
+    let help = "Doesn't say which batches were entered, nor how far it is";
+    with_progress(alloc, with_again(alloc, with(command, strict)), help)
 }
 
 fn enter<'a>(alloc: Global) -> CommandResult<'a> {
@@ -236,8 +238,14 @@ fn count<'a>(alloc: Global) -> CommandResult<'a> {
         command,
         "The columns of articles and counted numbers",
     );
-    let help = "Doesn't say which batch was entered";
-    with_output(alloc, with_quiet(alloc, with_again(alloc, command), help))
+    let help = "The encoding of what was counted; what is written is UTF-8";
+    let encoding = encoding_arg(alloc, "encoding", help).default_value("UTF-8");
+    let command = with(command, encoding);
+    let help = "Doesn't say which batch was entered, nor how far it is";
+    with_output(
+        alloc,
+        with_progress(alloc, with_again(alloc, command), help),
+    )
 }
 
 fn balance<'a>(alloc: Global) -> CommandResult<'a> {

@@ -7,3 +7,4 @@ pub mod command;
 pub mod job;
 pub mod jobs;
 mod listing;
+pub mod start;

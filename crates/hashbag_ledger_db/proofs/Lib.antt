@@ -2,3 +2,5 @@ pub mod CountedLemmas
 pub mod FiledLemmas
 pub mod FormLemmas
 pub mod InputLemmas
+pub mod StartLemmas
+pub mod UnkeptLemmas

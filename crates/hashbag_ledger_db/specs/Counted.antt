@@ -1,5 +1,5 @@
 -- What a count does to the balance that is kept.
-use Rattle.std.specs.Prelude.{◌≡◌, ℕ, ◌++◌, if◌then◌else◌, List, [], map, String}
+use Rattle.std.specs.Prelude.{◌≡◌, ℕ, ◌++◌, if◌then◌else◌, List, [], map, Some, String}
 use Rattle.std.specs.Global.{Global}
 use Rattle.hashbag_csv.specs.declared.counts.Reading.{Reading}
 use Rattle.hashbag_ledger_args.specs.Readings.{IsReadingOf}
@@ -11,6 +11,7 @@ use Rattle.hashbag_ledger_lib.specs.declared.filing.Filed.{Filed}
 use Rattle.hashbag_ledger_lib.specs.declared.movements.Change.{Change}
 use Rattle.hashbag_ledger_lib.specs.declared.movements.Movement.{Movement}
 use Rattle.hashbag_ledger_lib.specs.declared.style.Style.{Style}
+use Rattle.hashbag_text.specs.Encodings.{text_in}
 
 -- what was counted: the records of the text and, with `--all`, none of each article of the balance
 abbrev pub counted_by : Job → Reading → List (String Global × ℕ) → List ℕ → List (List ℕ × Change)
@@ -23,3 +24,9 @@ pub record IsCountedAs (job : Job) (style : Style) (kept : List (String Global �
   pub records : List (Movement (String Global))
   pub read : map said records ≡ counted_by job reading kept text
   pub counted : IsCounted kept records filed
+
+-- the balance was counted: these bytes are the text of what was counted, in the encoding of the job
+pub record IsCountedIn (job : Job) (style : Style) (kept : List (String Global × ℕ)) (bytes : List ℕ) (filed : Filed) : Type 0 where
+  pub text : List ℕ
+  pub decoded : text_in job.encoding bytes ≡ Some text
+  pub all : IsCountedAs job style kept text filed

@@ -1,3 +1,5 @@
 pub mod Counted
 pub mod Filed
 pub mod Inputs
+pub mod Starts
+pub mod Unkept

@@ -1,16 +1,17 @@
 //! A stock that is counted, in an open database.
 ghost use Rattle.std.specs.Prelude.{◌≡◌, true, map, IfOk};
-ghost use Rattle.hashbag_ledger_db.specs.Counted.{counted_by, IsCountedAs};
+ghost use Rattle.hashbag_ledger_db.specs.Counted.{counted_by, IsCountedAs, IsCountedIn};
 ghost use Rattle.hashbag_ledger_lib.specs.Changes.{Rises};
 ghost use Rattle.hashbag_ledger_lib.specs.Movements.{said};
 
 use crate::before::entered_twice;
 use crate::entering::{start_too_many, too_large};
 use crate::failure::Failure;
-use crate::movements::{Input, input_of, movements_of};
+use crate::movements::{Input, input_of, read};
 use crate::putting::{in_database, put};
 use crate::said::{entered_text, movements_in};
 use hashbag_csv::counts::Reading;
+use hashbag_csv::fault::in_file;
 use hashbag_ledger_args::columns::plain_columns;
 use hashbag_ledger_args::job::Job;
 use hashbag_ledger_lib::counting::{count_stock, name_all};
@@ -52,7 +53,8 @@ fn records_of<'a>(
     ensures { input.now.is_start ≡ true
         → IfOk result (λ records. map said records.items ≡ counted_by request.now reading kept.now input.now.text.items) }
 {
-    let mut records = movements_of(alloc, request, input, 0, plain_columns(), reading)?;
+    let read = read(alloc, request, input, 0, plain_columns(), reading);
+    let mut records = in_file(alloc, input.file, read)?;
     if request.all {
         name_all(&mut records, kept)?;
     }
@@ -127,11 +129,11 @@ pub fn count_in<'a, D: Alter, S: BuildHasher + Copy + Drop>(
     request: &Job<'a>,
     shape: Shape,
     conn: &mut Connection<D>,
-    text: Vec<u8>,
+    bytes: Vec<u8>,
 ) -> Result<Counted, Failure<'a>>
     // The balance that was read is counted.
     ensures counted { IfOk result (λ counted.
-        IsCountedAs request.now shape.style counted.kept.items text.items counted.filed) }
+        IsCountedIn request.now shape.style counted.kept.items bytes.items counted.filed) }
     ensures rising { IfOk result (λ counted. Rises counted.kept.items) }
 {
     let db = request.db;
@@ -139,7 +141,7 @@ pub fn count_in<'a, D: Alter, S: BuildHasher + Copy + Drop>(
         let version = shape.version;
         return Err(Failure::NoCounts { db, version });
     }
-    let input = input_of(alloc, request.counted, text, None, true)?;
+    let input = input_of(alloc, request.counted, bytes, request.encoding, true)?;
     let batches = in_database(db, batches_of(alloc, conn, shape))?;
     if !request.again {
         entered_twice(slice::from_ref(&input), &batches)?;

@@ -271,7 +271,7 @@ fn status_of(filed: &Filed) -> u8
     if is_refused(filed) { DENIED } else { DONE }
 }
 
-/// Returns what the inputs do to an empty stock: what is wrong with one is found before the file of the database is made.
+/// Returns what the inputs do to an empty stock. So a bad input is found before the file of the database is made.
 ///
 /// # Errors
 ///
@@ -328,7 +328,7 @@ fn filed_in<'a, S: BuildHasher + Drop>(
 }
 
 // Returns what the inputs do to the stock of an open database. `anew` is what they do to an empty stock. It is `None` if the file wasn't
-// new; if the file has no tables, that is then found out here. If another process made a stock meanwhile, `anew` isn't used.
+// new; if it has no tables all the same, that is computed here. If another process made a stock meanwhile, `anew` isn't used.
 fn ready_in<'a, D: Alter, S: BuildHasher + Drop>(
     alloc: Global,
     state: S,
@@ -365,7 +365,7 @@ pub fn report_in<'a, D: Alter, S: BuildHasher + Drop>(
     ensures filed { IsAnewIfThere request.now inputs.now anew
         → IfOk result (λ r. IsThereAsFiled request.now form inputs.now r.ready) }
 
-    // It is 1 exactly if a movement is refused.
+    // The status is 1 exactly if a movement is refused.
     ensures status { IfOk result (λ report. IsSomeAnd report.ready (λ ready.
         report.status ≡ status_after ready.filed)) }
 {

@@ -1,5 +1,5 @@
-//! What the subcommands of `hashbag_ledger` do in a database, in any store: bytes of files and rows in, rows and texts out. It opens no file but by
-//! [`files::Files`].
+//! What the subcommands of `hashbag_ledger` do in a database, in any store, and what a call without one does: bytes of files and rows in, rows and
+//! texts out. It opens no file but by [`files::Files`] and [`unkept::Inputs`].
 #![tactic(auto)]
 
 pub mod before;
@@ -11,5 +11,7 @@ pub mod movements;
 pub mod putting;
 pub mod said;
 pub mod showing;
+pub mod starting;
 pub mod undoing;
+pub mod unkept;
 pub mod verifying;

@@ -8,6 +8,7 @@ use crate::failure::Failure;
 use hashbag_csv::counts::{Reading, read_counts_as};
 use hashbag_csv::fault::{SheetError, in_file};
 use hashbag_ledger_args::job::Job;
+use hashbag_ledger_args::start::in_start;
 use hashbag_ledger_lib::movements::Movement;
 use hashbag_ledger_lib::numbers::plain_change;
 use hashbag_ledger_lib::reading::{ChangeColumns, Columns, read_movements};
@@ -97,8 +98,12 @@ fn plain_movements(
     Ok(all)
 }
 
-// Reads the movements of an input.
-fn read<'a>(
+/// Reads the movements of an input, whose columns have these names.
+///
+/// # Errors
+///
+/// What is wrong with its first bad line, or a failed allocation.
+pub(crate) fn read<'a>(
     alloc: Global,
     request: &Job<'a>,
     input: &Input<'a>,
@@ -140,5 +145,8 @@ pub fn movements_of<'a>(
         ≡ rows_in request.now reading (columns_by (λ n. n.now) columns.entry) input.now) }
 {
     let read = read(alloc, request, input, at, columns, reading);
+    if input.is_start {
+        return Ok(in_start(alloc, input.file, read)?);
+    }
     Ok(in_file(alloc, input.file, read)?)
 }

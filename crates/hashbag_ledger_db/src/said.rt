@@ -84,6 +84,40 @@ fn near_to<'b>(
     Ok(near)
 }
 
+// Appends an article of the balance whose name is near to this one, if there is one, and ends the line.
+fn end_with_near(
+    alloc: Global,
+    text: &mut String,
+    balance: &[(String, usize)],
+    article: &str,
+) -> Result<(), AllocError> {
+    match near_to(alloc, balance, article)? {
+        Some(near) => writeln!(text, "; is it \"{}\"?", Escaped(near)),
+        None => text.push('\n'),
+    }
+}
+
+/// Returns what is said of an article without movements, with one of the balance whose name is near.
+///
+/// # Errors
+///
+/// An allocation fails.
+pub fn unmoved_text(
+    alloc: Global,
+    db: &str,
+    balance: &[(String, usize)],
+    article: &str,
+) -> Result<String, AllocError> {
+    let mut text = String::new(alloc);
+    write!(
+        text,
+        "{PROGRAM}: {db}: no movement of \"{}\"",
+        Escaped(article)
+    )?;
+    end_with_near(alloc, &mut text, balance, article)?;
+    Ok(text)
+}
+
 /// Returns a line for each of these articles that isn't in the balance, with one whose name is near.
 ///
 /// # Errors
@@ -99,10 +133,7 @@ pub fn absent_text(
     for article in articles {
         if balance.iter().all(|entry| entry.0.as_str() != *article) {
             write!(text, "{PROGRAM}: {db}: none of \"{}\"", Escaped(article))?;
-            if let Some(near) = near_to(alloc, balance, article)? {
-                write!(text, "; is it \"{}\"?", Escaped(near))?;
-            }
-            text.push('\n')?;
+            end_with_near(alloc, &mut text, balance, article)?;
         }
     }
     Ok(text)

@@ -4,10 +4,8 @@ ghost use Rattle.std.specs.Prelude.{◌≡◌, Ok, IfOk};
 use crate::entering::start_too_many;
 use crate::failure::Failure;
 use crate::putting::in_database;
-use crate::said::absent_text;
+use crate::said::{absent_text, unmoved_text};
 use crate::undoing::wanted_of;
-use hashbag_csv::escaped::Escaped;
-use hashbag_ledger_args::command::PROGRAM;
 use hashbag_ledger_args::job::Job;
 use hashbag_ledger_lib::balance_forms::formed_text;
 use hashbag_ledger_lib::entering::LedgerError;
@@ -78,14 +76,6 @@ pub fn balance_in<'a, D: Alter>(
     Ok(Shown { table, said })
 }
 
-// Returns what is said if an article has no movement.
-fn none_of(alloc: Global, db: &str, article: &str) -> Result<String, AllocError> {
-    format!(in alloc;
-        "{PROGRAM}: {db}: no movement of \"{}\"\n",
-        Escaped(article)
-    )
-}
-
 // Returns what became of movements of a database.
 fn recalled_in<'a>(
     db: &'a str,
@@ -139,7 +129,8 @@ pub fn history_in<'a, D: Alter, S: BuildHasher + Drop>(
     let article = request.articles.first().copied().unwrap_or("");
     let (batches, movements) = in_database(request.db, history_of(alloc, conn, shape, article))?;
     let said = if movements.is_empty() {
-        none_of(alloc, request.db, article)?
+        let balance = in_database(request.db, balance_of(alloc, conn))?;
+        unmoved_text(alloc, request.db, &balance, article)?
     } else {
         String::new(alloc)
     };

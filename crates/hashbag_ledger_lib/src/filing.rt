@@ -136,6 +136,7 @@ pub(crate) fn copy_of(
     alloc: Global,
     balance: &[(String, usize)],
 ) -> Result<Vec<(String, usize)>, AllocError>
+    // A row is the bytes of the article and the number.
     ensures { IfOk result (λ copy. rows_of copy.items ≡ rows_of balance.now) }
 {
     let mut copy = Vec::new(alloc);

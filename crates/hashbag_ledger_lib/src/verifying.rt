@@ -94,7 +94,7 @@ fn first_of<'a>(kept: &'a (String, usize), counted: &'a (String, usize)) -> Wron
     }
 }
 
-// Returns what is wrong of two rows, if there is one.
+// Returns the article of two rows that differ, with its numbers; `None` if neither is there.
 fn wrong_of<'a>(
     kept: Option<&'a (String, usize)>,
     counted: Option<&'a (String, usize)>,

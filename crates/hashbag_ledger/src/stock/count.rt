@@ -7,6 +7,7 @@ use hashbag_ledger_db::counting::{Counted, count_in};
 use hashbag_ledger_db::failure::Failure;
 use hashbag_shell::input::read_file;
 use hashbag_shell::output::Output;
+use hashbag_shell::progress::Progress;
 use hashbag_shell::status::DONE;
 
 // Returns a file that is named for two things.
@@ -24,10 +25,13 @@ fn conflict<'a>(rt: &HostRuntime, request: &Job<'a>) -> Result<Option<&'a str>, 
 
 // Enters the differences between the stock and what was counted.
 fn counted<'a>(rt: &HostRuntime, request: &Job<'a>) -> Result<Counted, Failure<'a>> {
-    let text = read_file(rt, request.counted)?;
+    let mut progress = Progress::new(rt, request.reports, &[request.counted]);
+    let bytes = read_file(rt, &mut progress, request.counted);
+    progress.erase(rt);
+    let bytes = bytes?;
     let state = random_state(rt)?;
     let (mut conn, shape) = open(rt, request)?;
-    let done = count_in(rt.alloc(), state, request, shape, &mut conn, text);
+    let done = count_in(rt.alloc(), state, request, shape, &mut conn, bytes);
     ended(conn, done)
 }
 

@@ -7,9 +7,11 @@ use hashbag_ledger_db::failure::Failure;
 use hashbag_ledger_db::files::Files;
 use hashbag_ledger_db::putting::{failure_of, in_database};
 use hashbag_shell::input::read_file;
+use hashbag_shell::progress::Progress;
 use hashbag_stock::error::StockError;
 use hashbag_stock::tables::{Contents, Shape, form_of};
 use sqlite::{Connection, Error, ErrorCode, File, FileStore};
+use std::cell::Cell;
 use std::io::ErrorKind;
 use std::time::Duration;
 use std::{fs, thread};
@@ -144,6 +146,8 @@ pub struct HostFiles<'s> {
     pub rt: &'s HostRuntime,
     /// What is read in place of each file, if it is typed.
     pub typed: Option<Vec<u8>>,
+    /// The reports of progress.
+    pub progress: Cell<Progress>,
 }
 
 impl Files<Db> for HostFiles<'_> {
@@ -155,7 +159,12 @@ impl Files<Db> for HostFiles<'_> {
     fn read<'a>(&self, file: &'a str) -> Result<Vec<u8>, Failure<'a>> {
         match &self.typed {
             Some(text) => Ok(text.clone()?),
-            None => Ok(read_file(self.rt, file)?),
+            None => {
+                let mut progress = self.progress.get();
+                let text = read_file(self.rt, &mut progress, file);
+                self.progress.set(progress);
+                Ok(text?)
+            }
         }
     }
 

@@ -9,8 +9,10 @@ use hashbag_ledger_db::failure::Failure;
 use hashbag_ledger_db::files::enter_named;
 use hashbag_ledger_lib::output::typed_text;
 use hashbag_shell::output::Output;
+use hashbag_shell::progress::Progress;
 use hashbag_shell::status::DONE;
 use hashbag_stock::tables::Contents;
+use std::cell::Cell;
 
 // Returns a file that is named for two things.
 fn conflict<'a>(rt: &HostRuntime, request: &Job<'a>) -> Result<Option<&'a str>, Failure<'a>> {
@@ -55,8 +57,15 @@ fn enter_from<'a>(
     }
     let state = random_state(rt)?;
     let output = Output::open(rt, request.refused)?;
-    let files = HostFiles { rt, typed };
-    match enter_named(rt.alloc(), state, &files, request) {
+    let progress = Cell::new(Progress::new(rt, request.reports, &request.files));
+    let files = HostFiles {
+        rt,
+        typed,
+        progress,
+    };
+    let entered = enter_named(rt.alloc(), state, &files, request);
+    files.progress.into_inner().erase(rt);
+    match entered {
         Ok(report) => {
             write_refusals(rt, output, report.refusals.as_slice())?;
             say(rt, request.quiet, report.said.as_str());

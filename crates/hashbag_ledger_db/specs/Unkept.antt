@@ -1,0 +1,81 @@
+-- What a call without a database does: the movements of its files come to the stock at the beginning.
+use Rattle.std.specs.Prelude.{◌≡◌, ℕ, ◌+◌, nat_lt, if◌then◌else◌, Bool, List, [], ◌∷◌, ◌++◌, length, map, All, String, string_cmp, Option, Some, MatchOption}
+use Rattle.std.specs.Borrow.{Bor}
+use Rattle.std.specs.Global.{Global}
+use Rattle.std.specs.String.{string_eq}
+use Rattle.hashbag_csv.specs.Quantities.{IsBalance}
+use Rattle.hashbag_ledger_args.specs.declared.arguments.Request.{Request}
+use Rattle.hashbag_ledger_db.specs.Starts.{start_line, starts_in}
+use Rattle.hashbag_ledger_lib.specs.Ledger.{in_the_end, refused_of, Leaves}
+use Rattle.hashbag_ledger_lib.specs.Movements.{movements_named, said}
+use Rattle.hashbag_ledger_lib.specs.Settled.{listed, IsLedgerOf}
+use Rattle.hashbag_ledger_lib.specs.declared.ledger.Entered.{Entered}
+use Rattle.hashbag_ledger_lib.specs.declared.ledger.Ledger.{Ledger}
+use Rattle.hashbag_ledger_lib.specs.declared.movements.Movement.{Movement}
+use Rattle.hashbag_text.specs.Encodings.{text_in}
+use Rattle.hashbag_text.specs.declared.encoding.Encoding.{Encoding}
+
+-- a file was read, and its bytes are this text in the encoding
+pub record IsTextRead (gives : List ℕ → List ℕ → Type 0) (encoding : Option Encoding) (file text : List ℕ) : Type 0 where
+  pub bytes : List ℕ
+  pub given : gives file bytes
+  pub decoded : text_in encoding bytes ≡ Some text
+
+-- these movements came to the old ledger, behind those that it had, and left the new one
+abbrev pub Comes : {S H : Type 0} → List (Movement (String Global)) → Ledger (String Global) S H → Ledger (String Global) S H → Type 0
+Comes ms old new =
+    (L : List (String Global × ℕ)) (before : List (Movement (String Global))) → IsLedgerOf string_eq L before old.refusals.items old.stock → IsLedgerOf string_eq L (before ++ ms) new.refusals.items new.stock
+
+module _ (gives : List ℕ → List ℕ → Type 0) (request : Request) where
+  -- a list has the lines of the file of the stock at the beginning
+  pub record IsStartIn (start : List (String Global × ℕ)) (file : Bor (List ℕ)) : Type 0 where
+    pub text : List ℕ
+    pub read : IsTextRead gives request.start_encoding file.now text
+    pub lines : map start_line start ≡ starts_in request.reading request.start_columns.0.now request.start_columns.1.now text
+
+  -- a list is the stock at the beginning: empty if no file is named
+  abbrev pub IsStartOf : List (String Global × ℕ) → Type 0
+  IsStartOf start = MatchOption request.start (start ≡ []) (IsStartIn start)
+
+  -- these are the movements of the file of this number, in turn
+  pub record AreMovementsIn (n : ℕ) (file : List ℕ) (ms : List (Movement (String Global))) : Type 0 where
+    pub text : List ℕ
+    pub read : IsTextRead gives request.encoding file text
+    pub all : map said ms ≡ movements_named request.reading request.columns text
+    pub places : All (λ m. m.place.file ≡ n) ms
+
+  -- these are the movements of files, in turn, of which the first has the number n
+  abbrev pub AreMovementsFrom : ℕ → List (Bor (List ℕ)) → List (Movement (String Global)) → Type 0
+  AreMovementsFrom n [] ms = ms ≡ []
+  AreMovementsFrom n (file ∷ files) ms =
+      (first : List (Movement (String Global))) × (later : List (Movement (String Global))) × AreMovementsIn n file.now first × AreMovementsFrom (n + 1) files later × (ms ≡ first ++ later)
+
+  -- a ledger is that of the stock at the beginning, to which nothing has come
+  abbrev pub IsBegunFrom : {S H : Type 0} → Ledger (String Global) S H → Type 0
+  IsBegunFrom ledger = (start : List (String Global × ℕ)) × IsStartOf start × IsLedgerOf string_eq start [] ledger.refusals.items ledger.stock
+
+  -- the movements of the file of this number came to a ledger
+  abbrev pub EntersFileOf : {S H : Type 0} → ℕ → List ℕ → Ledger (String Global) S H → Ledger (String Global) S H → Type 0
+  EntersFileOf n file old new = (ms : List (Movement (String Global))) × AreMovementsIn n file ms × Comes ms old new
+
+  -- the movements of these files, of which the first has the number 0, came to a ledger in turn
+  abbrev pub EntersFiles : {S H : Type 0} → List (Bor (List ℕ)) → Ledger (String Global) S H → Ledger (String Global) S H → Type 0
+  EntersFiles files old new = (ms : List (Movement (String Global))) × AreMovementsFrom 0 files ms × Comes ms old new
+
+  -- all movements of all files that are named came, in turn, to the stock at the beginning: what they left, and which of them were refused
+  pub record IsEnteredOf (entered : Entered (String Global)) : Type 0 where
+    pub start : List (String Global × ℕ)
+    pub begun : IsStartOf start
+    pub movements : List (Movement (String Global))
+    pub named : AreMovementsFrom 0 request.files.items movements
+    pub rows : IsBalance string_eq string_cmp (in_the_end string_eq (listed string_eq start) movements) entered.balance.items
+    pub leaves : Leaves string_eq (listed string_eq start) movements (listed string_eq entered.balance.items)
+    pub refused : entered.refusals.items ≡ refused_of string_eq (listed string_eq start) movements
+
+-- whether a movement was refused
+abbrev pub has_refusal : Entered (String Global) → Bool
+has_refusal entered = nat_lt 0 (length entered.refusals.items)
+
+-- the status of a call: 1 after a refusal, else 0
+abbrev pub status_with : Entered (String Global) → ℕ
+status_with entered = if has_refusal entered then 1 else 0

@@ -1,0 +1,218 @@
+//! A stock that isn't kept: a call without a database. Which files are read and entered is decided here, so its clauses hold whatever they have.
+ghost use Rattle.std.specs.Prelude.{◌≡◌, ◌↔◌, ℕ, List, None, true, IfOk, OnOk};
+ghost use Rattle.hashbag_ledger_db.specs.Unkept.{EntersFileOf, EntersFiles, IsBegunFrom, IsEnteredOf, IsStartOf, IsTextRead, has_refusal, status_with};
+
+use crate::starting::read_start;
+use hashbag_csv::fault::in_file;
+use hashbag_ledger_args::arguments::Request;
+use hashbag_ledger_args::start::in_start;
+use hashbag_ledger_lib::ledger::{Entered, Ledger, end};
+use hashbag_ledger_lib::movements::Refusal;
+use hashbag_ledger_lib::output::{balance_text, refusals_table, refusals_text};
+use hashbag_ledger_lib::reading::enter_movements;
+use hashbag_shell::status::{DENIED, DONE};
+use hashbag_shell::text::text_of;
+use hashbag_shell::trouble::Trouble;
+use hashbag_text::encoding::Encoding;
+use std::alloc::{AllocError, Global};
+use std::hash::BuildHasher;
+
+/// The inputs that a program has.
+pub trait Inputs {
+    /// Holds of the name of a file and its bytes.
+    ghost gives: { Self → List ℕ → List ℕ → Type 0 };
+
+    /// Returns the bytes of a file.
+    ///
+    /// # Errors
+    ///
+    /// Why it can't be read.
+    fn read<'a>(&self, file: &'a str) -> Result<Vec<u8>, Trouble<'a>>
+        ensures { IfOk result (λ bytes. gives self.now file.now bytes.items) };
+}
+
+/// What a call writes.
+#[derive(Drop)]
+pub struct Report {
+    /// The refusals.
+    pub refusals: Vec<u8>,
+    /// The balance; `None` if none is written.
+    pub balance: Option<Vec<u8>>,
+    /// The status with which the program ends.
+    pub status: u8,
+    /// The balance and all refusals, of which the above is written.
+    pub entered: Entered<String>,
+}
+
+// Reads the text of a file.
+fn read_text<'a, I: Inputs>(
+    alloc: Global,
+    inputs: &I,
+    file: &'a str,
+    encoding: Option<Encoding>,
+) -> Result<Vec<u8>, Trouble<'a>>
+    ensures { IfOk result (λ text. IsTextRead (I.gives inputs.now) encoding file.now text.items) }
+{
+    let bytes = inputs.read(file)?;
+    let text = text_of(alloc, file, encoding, bytes)?;
+    Ok(text)
+}
+
+// Reads the stock at the beginning, which is empty if no file is named.
+fn start_of<'a, I: Inputs>(
+    alloc: Global,
+    inputs: &I,
+    request: &Request<'a>,
+) -> Result<Vec<(String, usize)>, Trouble<'a>>
+    ensures { IfOk result (λ start. IsStartOf (I.gives inputs.now) request.now start.items) }
+{
+    let Some(file) = request.start else {
+        return Ok(Vec::new(alloc));
+    };
+    let text = read_text(alloc, inputs, file, request.start_encoding)?;
+    let (article, number) = request.start_columns;
+    let start = read_start(alloc, text.as_slice(), article, number, request.reading);
+    Ok(in_start(alloc, file, start)?)
+}
+
+// Returns the ledger of the stock at the beginning.
+fn ledger_of<'a, I: Inputs, S: BuildHasher + Drop>(
+    alloc: Global,
+    state: S,
+    inputs: &I,
+    request: &Request<'a>,
+) -> Result<Ledger<String, S>, Trouble<'a>>
+    ensures { IfOk result (IsBegunFrom (I.gives inputs.now) request.now) }
+{
+    let start = start_of(alloc, inputs, request)?;
+    match Ledger::begin(alloc, state, usize::MAX, start) {
+        Ok(ledger) => Ok(ledger),
+        // The stock at the beginning isn't too large: that was checked when it was read.
+        Err(_) => Err(Trouble::Memory),
+    }
+}
+
+// Enters the movements of the file of this number.
+fn enter_file<'a, I: Inputs, S: BuildHasher + Drop>(
+    alloc: Global,
+    inputs: &I,
+    request: &Request<'a>,
+    at: usize,
+    file: &'a str,
+    ledger: &mut Ledger<String, S>,
+) -> Result<(), Trouble<'a>>
+    ensures { OnOk result (EntersFileOf (I.gives inputs.now) request.now at file.now ledger.old ledger.new) }
+{
+    let text = read_text(alloc, inputs, file, request.encoding)?;
+    let bytes = text.as_slice();
+    let entered = enter_movements(alloc, ledger, bytes, at, request.columns, request.reading);
+    Ok(in_file(alloc, file, entered)?)
+}
+
+// Enters the movements of all files, in their order.
+fn enter_files<'a, I: Inputs, S: BuildHasher + Drop>(
+    alloc: Global,
+    inputs: &I,
+    request: &Request<'a>,
+    ledger: &mut Ledger<String, S>,
+) -> Result<(), Trouble<'a>>
+    ensures { OnOk result (EntersFiles (I.gives inputs.now) request.now request.now.files.items ledger.old ledger.new) }
+{
+    for i in 0..request.files.len() {
+        enter_file(alloc, inputs, request, i, request.files[i], ledger)?;
+    }
+    Ok(())
+}
+
+// Enters the movements of all files into the stock at the beginning.
+fn entered_of<'a, I: Inputs, S: BuildHasher + Drop>(
+    alloc: Global,
+    state: S,
+    inputs: &I,
+    request: &Request<'a>,
+) -> Result<Entered<String>, Trouble<'a>>
+    ensures { IfOk result (IsEnteredOf (I.gives inputs.now) request.now) }
+{
+    let mut ledger = ledger_of(alloc, state, inputs, request)?;
+    enter_files(alloc, inputs, request, &mut ledger)?;
+    Ok(end(alloc, ledger)?)
+}
+
+// Returns the text of the refusals: of the first one alone, if that is asked for.
+fn refused_text(
+    alloc: Global,
+    request: &Request<'_>,
+    all: &[Refusal<String>],
+) -> Result<Vec<u8>, AllocError> {
+    let named = if request.strict {
+        &all[..all.len().min(1)]
+    } else {
+        all
+    };
+    match request.refused {
+        Some(_) => refusals_table(alloc, &request.files, request.reading, named),
+        None => {
+            let text = refusals_text(alloc, &request.files, request.reading.scale, named)?;
+            Ok(text.into_bytes())
+        }
+    }
+}
+
+// Returns the text of the balance, if one is written.
+fn left_text(
+    alloc: Global,
+    request: &Request<'_>,
+    entered: &Entered<String>,
+) -> Result<Option<Vec<u8>>, AllocError>
+    ensures { IfOk result (λ text. text ≡ None ↔ (request.now.strict ≡ true) × (has_refusal entered.now ≡ true)) }
+{
+    if request.strict && is_refused(entered) {
+        return Ok(None);
+    }
+    let names = request.start_columns;
+    Ok(Some(balance_text(alloc, names, request.reading, &entered.balance)?))
+}
+
+// Returns whether there is a refusal.
+fn is_refused(entered: &Entered<String>) -> bool
+    ensures { result ≡ has_refusal entered.now }
+{
+    entered.refusals.len() > 0
+}
+
+// Returns the status of a call that enters this.
+fn status_of(entered: &Entered<String>) -> u8
+    ensures { result ≡ status_with entered.now }
+{
+    if is_refused(entered) { DENIED } else { DONE }
+}
+
+/// Enters the movements of all files that are named into the stock at the beginning, and returns what is to be written. The text of a file is
+/// dropped before the next one is read.
+///
+/// # Errors
+///
+/// What is wrong with the first bad file or with its first bad line. `Memory` if an allocation fails.
+pub fn enter_unkept<'a, I: Inputs, S: BuildHasher + Drop>(
+    alloc: Global,
+    state: S,
+    inputs: &I,
+    request: &Request<'a>,
+) -> Result<Report, Trouble<'a>>
+    // All movements of all files that are named come, in turn, to the stock at the beginning.
+    ensures entered { IfOk result (λ report. IsEnteredOf (I.gives inputs.now) request.now report.entered) }
+
+    // The status is 1 exactly if a movement is refused.
+    ensures status { IfOk result (λ report. report.status ≡ status_with report.entered) }
+
+    // No balance is written exactly if that was asked for, and a movement is refused.
+    ensures denied { IfOk result (λ report. report.balance ≡ None ↔ (request.now.strict ≡ true) × (report.status ≡ 1)) }
+{
+    let entered = entered_of(alloc, state, inputs, request)?;
+    Ok(Report {
+        refusals: refused_text(alloc, request, entered.refusals.as_slice())?,
+        balance: left_text(alloc, request, &entered)?,
+        status: status_of(&entered),
+        entered,
+    })
+}
