@@ -307,6 +307,7 @@ fn copied(held: &Held) -> Result<Held, BagError>
     }
 }
 
+// Puts a copy of what a handle has into another handle. Returns 0, or 1 if an allocation fails.
 fn put_copy(alloc: Global, held: &Held, copy: &mut Handle) -> u8
     ensures numbers { result ≡ 0 → NumbersTo (Some held.now) copy.new.held (IsCopy nat_eq) }
     ensures texts { result ≡ 0 → TextsTo (Some held.now) copy.new.held (IsCopy bytes_eq) }

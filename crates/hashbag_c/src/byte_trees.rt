@@ -72,6 +72,7 @@ fn bytes_of(alloc: Global, list: &Vec<Value>) -> Result<Option<Vec<u8>>, AllocEr
 }
 
 impl JsonItem for Bytes {
+    // Each number of the list is below 256.
     ghost is_item = { λ x. are_bytes x ≡ true };
 
     ghost tree_of = { bytes_tree };

@@ -47,11 +47,11 @@ const TEXTS: [(&[u8], &str); 52] = [
     ),
     (
         b"article, number\n",
-        "1: no column `number`; there are: `article`, ` number`",
+        "1: no column `number`; there are: `article`, ` number`; is it ` number`?",
     ),
     (
         b"Article,\xff,number\n",
-        "1: no column `article`; there are: `Article`, one that is not UTF-8, `number`",
+        "1: no column `article`; there are: `Article`, one that is not UTF-8, `number`; is it `Article`?",
     ),
     (
         b"a,b,c,d,e,f,g,h,i,j,k,l,m,number\n",

@@ -170,6 +170,7 @@ impl Texts<'_> {
                     return Ok(Some(stopped(alloc, i, line, &fault)?));
                 }
                 Err(Stop::TooMany) => return Err(Fail::new("a count is too large")),
+                Err(Stop::Memory) => return Err(Fail::new("no memory")),
             }
         }
         Err(Fail::new("the merge doesn't end"))

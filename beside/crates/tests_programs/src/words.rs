@@ -63,7 +63,11 @@ const MERGES: [(&[u8], bool, &str); 20] = [
     (b"a\t18446744073709551616\n", false, "1: no count"),
     (b"a\t1\na\\q\t1\n", false, "2: bad escape"),
     (b"a\t1\na\\\t1\n", false, "2: bad escape"),
-    (b"a\t1\n\xff\t1\n", false, "2: not UTF-8"),
+    (
+        b"a\t1\n\xff\t1\n",
+        false,
+        "2: not UTF-8; if it is Windows-1252, `iconv -f CP1252` converts it",
+    ),
     (b"a\t1\n\xff\t1\nb\nc\t4\n", true, "a\t1\nc\t4\n"),
     (b"a\t1\nb\t1", false, "2: no line feed"),
     (b"a\t1\nb\t1", true, "a\t1\n"),
