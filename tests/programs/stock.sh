@@ -574,6 +574,18 @@ int nanosleep(const struct timespec *pause, struct timespec *rest) {
 }
 END
 cc -shared -fPIC -o ../pauses.so ../pauses.c || fail "no C compiler"
+# A process that only reads, and has the database open without doing anything, keeps it out too.
+python3 - s.db ../reader ../read << 'END' &
+import os, sqlite3, sys, time
+connection = sqlite3.connect(sys.argv[1])
+connection.execute("select count(*) from movement").fetchall()
+open(sys.argv[2], "w").close()
+while not os.path.exists(sys.argv[3]):
+    time.sleep(0.05)
+END
+while [ ! -e ../reader ]; do sleep 0.05; done
+ends 7 "$p: s.db: another process has it open" balance --db s.db --wait 0
+touch ../read && wait
 python3 - s.db ../held ../go << 'END' &
 import os, sqlite3, sys, time
 connection = sqlite3.connect(sys.argv[1], isolation_level=None)
