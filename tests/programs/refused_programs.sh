@@ -421,6 +421,7 @@ on_a_stock() {
   printf 'article,number\nbolt,10\nnut,40\n' > "$scratch/files/stock.csv"
   printf 'article,change\nbolt,-4\nbolt,-7\nwasher,3\n' > "$scratch/files/monday.csv"
   printf 'article,change\nnut,-40\nbolt,2\nscrew,-1\n' > "$scratch/files/tuesday.csv"
+  printf 'article,change,day,why\nnut,-40,2026-01-02,sold\nscrew,-1,2026-01-03,\n' > "$scratch/files/dated.csv"
   printf 'article,number\nbolt,1\nscrew,2\nbolt,3\n' > "$scratch/files/counted.csv"
   (cd "$scratch/files" && "$program" enter --db s.db --from stock.csv monday.csv 2> /dev/null)
   [ $? = 1 ] || { echo "refused memory: $name: no database"; return 1; }
@@ -431,6 +432,7 @@ on_a_stock() {
     fail_kept 1 s.db enter --db s.db tuesday.csv && fail_kept 1 new.db enter --db new.db monday.csv &&
     fail_kept 0 s.db undo --db s.db 2 && fail_kept 0 new.db close --db s.db --into new.db &&
     refuse_kept 1 s.db take --db s.db nut 41 && refuse_kept 0 new.db put --db new.db nut 1 &&
+    refuse_kept 1 s.db enter --db s.db --date day --note why dated.csv && shows 0 balance --db s.db --at 2026-01-02 &&
     refuse_kept 0 s.db count --db s.db --all counted.csv && fail_kept 0 s.db count --db s.db --all counted.csv &&
     shows 0 balance --db s.db nut && shows 0 history --db s.db bolt && shows 0 batches --db s.db && shows 0 verify --db s.db &&
     shows 0 show --db s.db 2 && shows 0 balance --db s.db --to table && shows 0 balance --db s.db --to json

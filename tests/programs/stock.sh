@@ -4,30 +4,12 @@
 # pauses of a run that waits are counted by a library that the C compiler `cc` makes. The program is proved and compiled first, unless it is
 # named. The last line is 'stock: ok' or says what is wrong.
 . "$(dirname "$0")/lib.sh"
+. "$(dirname "$0")/databases.sh"
 begin hashbag_ledger "$@"
 
 # same FILE SUM WHAT: the file has this checksum
 same() {
   [ "$(sha256sum < "$1")" = "$2" ] || fail "$3"
-}
-
-# sql DATABASE TEXT: what Python's SQLite returns, a row a line, values with bars between them
-sql() {
-  python3 - "$1" "$2" << 'END'
-import sqlite3, sys
-connection = sqlite3.connect(sys.argv[1])
-for row in connection.execute(sys.argv[2]):
-    print("|".join("" if value is None else str(value) for value in row))
-connection.commit()
-connection.close()
-END
-}
-
-# is DATABASE TEXT WANTED WHAT: Python's SQLite returns this
-is() {
-  local found
-  found=$(sql "$1" "$2")
-  [ "$found" = "$(printf -- "$3")" ] || fail "$4: $found"
 }
 
 p=hashbag_ledger
@@ -53,9 +35,9 @@ has ../out '3 batches, 11 movements, 2 of them refused: the balance and the refu
 # The history of an article, and the batches; their times are those of the clock
 ends 0 '' history --db s.db bolt
 sed -E 's/,20[0-9][0-9]-[0-9][0-9]-[0-9][0-9] [0-9][0-9]:[0-9][0-9]:[0-9][0-9],/,TIME,/' ../out > ../plain
-has ../plain 'batch,file,line,time,change,outcome,number\n1,stock.csv,2,TIME,10,entered,10\n2,monday.csv,2,TIME,-4,entered,6\n2,monday.csv,4,TIME,-7,refused,6\n2,monday.csv,7,TIME,-6,entered,0\n3,tuesday.csv,3,TIME,5,entered,5\n' "the history of an article"
+has ../plain 'batch,file,line,time,date,change,outcome,number,note\n1,stock.csv,2,TIME,,10,entered,10,\n2,monday.csv,2,TIME,,-4,entered,6,\n2,monday.csv,4,TIME,,-7,refused,6,\n2,monday.csv,7,TIME,,-6,entered,0,\n3,tuesday.csv,3,TIME,,5,entered,5,\n' "the history of an article"
 ends 0 '' history --quiet --db s.db none
-has ../out 'batch,file,line,time,change,outcome,number\n' "the history of an article without movements"
+has ../out 'batch,file,line,time,date,change,outcome,number,note\n' "the history of an article without movements"
 ends 0 '' batches --db s.db
 sed -E 's/,20[0-9][0-9]-[0-9][0-9]-[0-9][0-9] [0-9][0-9]:[0-9][0-9]:[0-9][0-9],/,TIME,/' ../out > ../plain
 sums=($(sha256sum stock.csv monday.csv tuesday.csv | cut -d ' ' -f 1))
@@ -159,7 +141,7 @@ printf 'article,change\ra,5\ra,-9\ra,-2\r' > line.csv
 ends 1 'line.csv:1: refused: out 9 of "a", 5 there' enter --quiet --db line.db line.csv
 is line.db 'select movement, there from refusal' '2|5' "which movement of a line is refused"
 ends 0 '' history --db line.db a
-cut -d , -f 3,5- ../out > ../plain
+cut -d , -f 3,6-8 ../out > ../plain
 has ../plain 'line,change,outcome,number\n1,5,entered,5\n1,-9,refused,5\n1,-2,entered,3\n' "the history of a line of three movements"
 ends 0 '' verify --db line.db
 has ../out '1 batch, 3 movements, 1 of them refused: the balance and the refusals agree\n' "a line of three movements agrees"
@@ -209,11 +191,11 @@ ends 0 '' verify --db said.db
 ends 1 'monday.csv:4: refused: out 7 of "bolt", 6 there' enter --quiet --db show.db --from stock.csv monday.csv
 ends 0 '' enter --quiet --db show.db more.csv
 ends 0 '' show --db show.db 2
-has ../out 'line,article,change,outcome,number\n2,bolt,-4,entered,6\n3,nut,20,entered,60\n4,bolt,-7,refused,6\n5,"screw, long",12,entered,12\n6,washer,-3,entered,0\n7,bolt,-6,entered,0\n' "the movements of a batch"
+has ../out 'line,date,article,change,outcome,number,note\n2,,bolt,-4,entered,6,\n3,,nut,20,entered,60,\n4,,bolt,-7,refused,6,\n5,,"screw, long",12,entered,12,\n6,,washer,-3,entered,0,\n7,,bolt,-6,entered,0,\n' "the movements of a batch"
 ends 0 '' show --db show.db more.csv
-has ../out 'line,article,change,outcome,number\n2,bolt,1,entered,1\n' "the movements of the batch of a file"
+has ../out 'line,date,article,change,outcome,number,note\n2,,bolt,1,entered,1,\n' "the movements of the batch of a file"
 ends 0 '' show --db show.db -o shown.csv --delimiter ';' 1
-has shown.csv 'line;article;change;outcome;number\n2;bolt;10;entered;10\n3;nut;40;entered;40\n4;washer;3;entered;3\n' "the movements of a batch in a file"
+has shown.csv 'line;date;article;change;outcome;number;note\n2;;bolt;10;entered;10;\n3;;nut;40;entered;40;\n4;;washer;3;entered;3;\n' "the movements of a batch in a file"
 ends 2 "$p: show.db: no batch 9" show --db show.db 9
 
 # One movement that is typed is a batch, like one on standard input
@@ -307,7 +289,7 @@ changed "update movement set change = 3 where movement = 2" '"nut": 2 kept, 3 by
 changed "delete from refusal" 'batch 2: other numbers of movements than it has'
 changed "delete from movement where movement = 2" 'batch 1: other numbers of movements than it has'
 changed "update movement set batch = 7 where movement = 5" 'batch 2: other numbers of movements than it has'
-changed "insert into movement values (9, 3, 1, 'bolt', 1)" 'batch 3: other numbers of movements than it has'
+changed "insert into movement values (9, 3, 1, 'bolt', 1, null, null)" 'batch 3: other numbers of movements than it has'
 
 # What no count shows is in the seal of its batch
 # unsealed BATCH TEXT: after this change verify says that this batch isn't as it was entered
@@ -339,7 +321,7 @@ is kg.db "select value from meta where name = 'scale'" '2' "the scale in the fil
 printf 'article,change\nsalt,-2.00\nsalt,0.05\n' > point.csv
 ends 1 'point.csv:2: refused: out 2.00 of "salt", 1.25 there' enter --quiet --db kg.db --mark . -d , point.csv
 ends 0 '' history --db kg.db -d , --mark . salt
-cut -d , -f 5,7 ../out > ../plain
+cut -d , -f 6,8 ../out > ../plain
 has ../plain 'change,number\n1.50,1.50\n-0.25,1.25\n-2.00,1.25\n0.05,1.30\n' "a history with decimals"
 ends 2 "$p: kg.db: numbers have 2 decimals, not 3" enter --quiet --db kg.db --scale 3 more.csv
 ends 2 "$p: kg.db: numbers have 2 decimals, not 1" enter --quiet --db kg.db --scale 1 more.csv
@@ -419,9 +401,9 @@ is count.db 'select kind, file, undoes, movements, refused from batch where batc
 is count.db 'select sha256 from batch where batch = 2' "$(sha256sum < counted.csv | cut -d ' ' -f 1)" "the sum of a counted file"
 ends 0 '' verify --db count.db
 ends 0 '' show --db count.db counted.csv
-has ../out 'line,article,change,outcome,number\n2,bolt,-3,entered,7\n3,screw,2,entered,2\n4,nut,0,entered,40\n' "the movements of a count, shown"
+has ../out 'line,date,article,change,outcome,number,note\n2,,bolt,-3,entered,7,\n3,,screw,2,entered,2,\n4,,nut,0,entered,40,\n' "the movements of a count, shown"
 ends 0 '' history --db count.db bolt
-cut -d , -f 1-3,5- ../out > ../plain
+cut -d , -f 1-3,6-8 ../out > ../plain
 has ../plain 'batch,file,line,change,outcome,number\n1,count1.csv,2,10,entered,10\n2,counted.csv,2,-3,entered,7\n' "the history of a counted article"
 ends 0 '' batches --db count.db
 [ "$(cut -d , -f 1,2,4 ../out | tail -n 1)" = 2,counted.csv,count ] || fail "a count among the batches"
@@ -491,18 +473,6 @@ ends 2 "$p: later.db: a stock of version 4, which is later than 3" enter --quiet
 same later.db "$sum" "a stock of a later version is written"
 
 # A stock of the second version keeps its scale alone, and goes on as it was
-# as_second DATABASE: gives its tables the form of the second version
-as_second() {
-  sql "$1" "create table old (batch INTEGER PRIMARY KEY, file TEXT NOT NULL, sha256 TEXT NOT NULL, kind TEXT NOT NULL CHECK (kind IN ('start', 'moves', 'undo')), undoes INTEGER, time TEXT NOT NULL, movements INTEGER NOT NULL, refused INTEGER NOT NULL, seal TEXT NOT NULL) STRICT"
-  sql "$1" 'insert into old select batch, file, sha256, kind, undoes, time, movements, refused, seal from batch'
-  sql "$1" 'drop table batch'
-  sql "$1" 'alter table old rename to batch'
-  sql "$1" 'create table few (name TEXT PRIMARY KEY NOT NULL, value INTEGER NOT NULL) STRICT'
-  sql "$1" "insert into few select name, value from meta where name in ('scale', 'hashbag_ledger')"
-  sql "$1" 'drop table meta'
-  sql "$1" 'alter table few rename to meta'
-  sql "$1" "update meta set value = 2 where name = 'hashbag_ledger'"
-}
 cp kg.db second.db
 as_second second.db
 ends 0 '' verify --db second.db
@@ -526,6 +496,7 @@ ends 2 "$p: second.db: another version in the table meta than its tables have" b
 # A stock of the first version, whose batches have no seals, goes on as it was
 # as_first DATABASE: gives its tables the form of the first version
 as_first() {
+  as_second "$1"
   sql "$1" 'create table old (batch INTEGER PRIMARY KEY, file TEXT NOT NULL, sha256 TEXT NOT NULL, kind TEXT NOT NULL, undoes INTEGER, time TEXT NOT NULL, movements INTEGER NOT NULL, refused INTEGER NOT NULL) STRICT'
   sql "$1" 'insert into old select batch, file, sha256, kind, undoes, time, movements, refused from batch'
   sql "$1" 'drop table batch'

@@ -10,6 +10,7 @@ use hashbag_csv::counts::Reading;
 use hashbag_csv::delimiter::Delimiter;
 use hashbag_csv::scale::{Mark, Scale};
 use hashbag_ledger_lib::balance_forms::Form;
+use hashbag_ledger_lib::extras::ExtraColumns;
 use hashbag_ledger_lib::numbers::MOST;
 use hashbag_ledger_lib::reading::Columns;
 use hashbag_ledger_lib::style::Style;
@@ -38,6 +39,10 @@ pub struct Job<'a> {
     pub encoding: Option<Encoding>,
     /// The columns of movements, if they are named.
     pub columns: Option<Columns<&'a str>>,
+    /// The columns of dates and of notes, if they are named.
+    pub extras: ExtraColumns<&'a str>,
+    /// The day of the balance, if one is named.
+    pub at: Option<&'a str>,
     /// The scale, if one is named.
     pub scale: Option<u32>,
     /// What is before decimals, if it is named.
@@ -113,6 +118,12 @@ fn delimiter_of(given: &ArgMatches<'_>) -> Option<Delimiter> {
     }
 }
 
+// Returns the columns of dates and of notes.
+fn extras_of<'a>(given: &ArgMatches<'a>) -> ExtraColumns<&'a str> {
+    let (date, note) = (given.get_str("date"), given.get_str("note"));
+    ExtraColumns { date, note }
+}
+
 impl<'a> Job<'a> {
     /// Returns what these arguments ask for.
     ///
@@ -138,6 +149,8 @@ impl<'a> Job<'a> {
             start_encoding: encoding(given, "start-encoding"),
             encoding: encoding(given, "encoding"),
             columns,
+            extras: extras_of(given),
+            at: given.get_str("at"),
             scale,
             mark: mark_of(given),
             delimiter: delimiter_of(given),

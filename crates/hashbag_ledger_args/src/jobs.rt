@@ -149,6 +149,17 @@ fn with_moves<'a>(alloc: Global, command: CommandResult<'a>) -> CommandResult<'a
     with(with_columns(alloc, command), moves)
 }
 
+// Adds the columns that movements carry along.
+fn with_extras<'a>(alloc: Global, command: CommandResult<'a>) -> CommandResult<'a> {
+    let date = Arg::new(alloc, "date").long("date").value_name("NAME").help(
+        "The column of movements with their dates, each as 2026-02-28",
+    );
+    let note = Arg::new(alloc, "note").long("note").value_name("NAME").help(
+        "The column of movements with notes, which `history` and `show` write",
+    );
+    with(with(command, date), note)
+}
+
 // Adds how many decimals numbers have, and what is done with refusals.
 fn with_rules<'a>(alloc: Global, command: CommandResult<'a>) -> CommandResult<'a> {
     let scale = Arg::new(alloc, "scale")
@@ -199,7 +210,7 @@ fn enter<'a>(alloc: Global) -> CommandResult<'a> {
         "enter",
         "Enters files of movements, each whole or not at all",
     );
-    let command = with_moves(alloc, with_start(alloc, command));
+    let command = with_extras(alloc, with_moves(alloc, with_start(alloc, command)));
     let command = with_encodings(alloc, with_form(alloc, command));
     with_flags(alloc, with_rules(alloc, command))
 }
@@ -261,8 +272,11 @@ fn balance<'a>(alloc: Global) -> CommandResult<'a> {
         .value_parser(FORMS.as_slice())
         .default_value("csv")
         .help("What is written; numbers with decimals are texts in JSON");
+    let at = Arg::new(alloc, "at").long("at").value_name("DATE").help(
+        "The sum of what was entered with a date up to that day; without a date, the day of its entry counts, in UTC",
+    );
     let command = job(alloc, "balance", "Writes the balance");
-    let command = with(with(command, articles), form);
+    let command = with(with(with(command, articles), form), at);
     let help = "Doesn't say which of the articles aren't there";
     with_output(alloc, with_quiet(alloc, command, help))
 }

@@ -105,11 +105,12 @@ fn write<'a, D: Alter>(
         time: time.as_str(),
         movements: entries.len() as u64,
     };
-    let rows = sealed_rows(alloc, shape.style.scale, [draft].as_slice(), entries)?;
+    let rows = sealed_rows(alloc, shape.style.scale, [draft].as_slice(), entries, &[])?;
     let new = NewRows {
         is_sealed: shape.is_sealed,
         batches: &rows,
         entries,
+        extras: &[],
         changed: &filed.changed,
     };
     let said = entered_text(alloc, db, movements_in(batches), &rows)?;

@@ -7,7 +7,7 @@ ghost use Rattle.hashbag_ledger_lib.specs.Movements.{columns_by};
 
 use crate::before::{Before, before_in, entered_twice, kept_columns};
 use crate::failure::Failure;
-use crate::movements::{Input, input_of, movements_of};
+use crate::movements::{Input, extras_of, has_extras, input_of, movements_of};
 use crate::putting::{in_database, put};
 use crate::said::entered_text;
 use hashbag_csv::counts::Reading;
@@ -16,6 +16,7 @@ use hashbag_csv::fault::{Fault, SheetError, in_file};
 use hashbag_ledger_args::columns::{KeptColumns, columns_text, plain_columns};
 use hashbag_ledger_args::job::Job;
 use hashbag_ledger_lib::entering::LedgerError;
+use hashbag_ledger_lib::extras::Extra;
 use hashbag_ledger_lib::filing::{Filed, enter_files, refusals_of};
 use hashbag_ledger_lib::ledger::booking::count_refused;
 use hashbag_ledger_lib::movements::Movement;
@@ -162,6 +163,9 @@ fn shape_of<'a>(request: &Job<'a>, form: Contents) -> Result<Shape, Failure<'a>>
                 asked,
             })
         }
+        (Contents::Stock(shape), _) if has_extras(request) && !shape.is_dated() => {
+            Err(Failure::NoDates { db })
+        }
         (Contents::Stock(shape), _) => Ok(shape),
     }
 }
@@ -214,17 +218,19 @@ fn write<'a, D: Alter>(
     shape: Shape,
     new_stock: Option<NewStock<'_>>,
     inputs: &[Input<'a>],
+    extras: &[Extra],
     ready: &Ready,
 ) -> Result<String, Failure<'a>> {
     let time = in_database(db, time_of(conn))?;
     let (before, filed) = (&ready.before, &ready.filed);
     let drafts = drafts_of(alloc, inputs, &filed.counts, before.number(), time.as_str())?;
     let entries = &filed.booked.entries;
-    let batches = sealed_rows(alloc, shape.style.scale, &drafts, entries)?;
+    let batches = sealed_rows(alloc, shape.style.scale, &drafts, entries, extras)?;
     let new = NewRows {
         is_sealed: shape.is_sealed,
         batches: &batches,
         entries,
+        extras,
         changed: &filed.changed,
     };
     let said = entered_text(alloc, db, before.movements(), &batches)?;
@@ -288,6 +294,7 @@ pub fn filed_anew<'a, S: BuildHasher + Drop>(
     let reading = request.reading(request.asked_style());
     let columns = request.columns_or(plain_columns());
     let filed = filed_of(alloc, state, request, inputs, columns, reading, &[])?;
+    extras_of(alloc, request, inputs, reading.delimiter)?;
     if !request.again {
         entered_twice(inputs, &[])?;
     }
@@ -373,13 +380,14 @@ pub fn report_in<'a, D: Alter, S: BuildHasher + Drop>(
     let shape = shape_of(request, form)?;
     let ready = ready_in(alloc, state, request, inputs, conn, form, anew)?;
     let reading = request.reading(shape.style);
+    let extras = extras_of(alloc, request, inputs, reading.delimiter)?;
     let refusals = text_of(alloc, request, inputs, reading, &ready.filed)?;
     let said = if request.strict && is_refused(&ready.filed) {
         String::new(alloc)
     } else {
         let columns = columns_text(alloc, request.columns_or(ready.before.names()))?;
         let new_stock = new_stock_of(form, shape, columns.as_str());
-        write(alloc, conn, db, shape, new_stock, inputs, &ready)?
+        write(alloc, conn, db, shape, new_stock, inputs, &extras, &ready)?
     };
     Ok(Report {
         refusals,
@@ -480,6 +488,6 @@ pub fn begin_in<'a, D: Alter, S: BuildHasher + Drop>(
     let shape = Shape::of_new(request.style(closed.shape.style));
     let text = columns_text(alloc, columns)?;
     let new_stock = new_stock_of(form, shape, text.as_str());
-    write(alloc, conn, db, shape, new_stock, inputs, &ready)?;
+    write(alloc, conn, db, shape, new_stock, inputs, &[], &ready)?;
     Ok(())
 }

@@ -52,6 +52,26 @@ pub enum Failure<'a> {
         kept: u32,
         asked: u32,
     },
+    /// The stock keeps no dates and no notes.
+    #[error("{db}: keeps no dates and no notes; `close --into NEW` begins a stock that does")]
+    NoDates {
+        db: &'a str,
+    },
+    /// A field of a column of dates is no date.
+    #[error("{file}:{line}: no date: `{field}`; a date is written as 2026-02-28")]
+    NoDate {
+        file: &'a str,
+        line: u64,
+        field: String,
+    },
+    /// A balance is asked for on a day that is no date.
+    #[error("--at takes a date, as 2026-02-28")]
+    NoDay,
+    /// The movements up to a day are too many to be added up.
+    #[error("{db}: more than 18446744073709551615 moved up to that day")]
+    MovedTooMuch {
+        db: &'a str,
+    },
     /// A file was entered before.
     #[error("{file}: entered before, as batch {number} ({name})")]
     EnteredBefore {
@@ -116,12 +136,15 @@ impl Failure<'_> {
             Failure::NoFile { .. } => IO_FAILED,
             Failure::EnteredBefore { .. } | Failure::SameBytes { .. } => ENTERED_BEFORE,
             Failure::UndoneBefore { .. } => DENIED,
-            Failure::UndoneTotal { .. } => TOTAL_TOO_LARGE,
+            Failure::UndoneTotal { .. } | Failure::MovedTooMuch { .. } => TOTAL_TOO_LARGE,
             Failure::Conflict(_)
             | Failure::NoStock { .. }
             | Failure::HasStock { .. }
             | Failure::NoCounts { .. }
             | Failure::OtherScale { .. }
+            | Failure::NoDates { .. }
+            | Failure::NoDate { .. }
+            | Failure::NoDay
             | Failure::NoBatch { .. }
             | Failure::NoBatchNamed => BAD_INPUT,
         }

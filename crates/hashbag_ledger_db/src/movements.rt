@@ -6,14 +6,17 @@ ghost use Rattle.hashbag_ledger_lib.specs.Movements.{columns_by, said};
 
 use crate::failure::Failure;
 use hashbag_csv::counts::{Reading, read_counts_as};
+use hashbag_csv::delimiter::Delimiter;
 use hashbag_csv::fault::{SheetError, in_file};
 use hashbag_ledger_args::job::Job;
 use hashbag_ledger_args::start::in_start;
+use hashbag_ledger_lib::extras::{Extra, ExtraColumns, ExtraError, read_extras};
 use hashbag_ledger_lib::movements::Movement;
 use hashbag_ledger_lib::numbers::plain_change;
 use hashbag_ledger_lib::reading::{ChangeColumns, Columns, read_movements};
 use hashbag_ledger_lib::sealing::digest_of;
 use hashbag_shell::text::text_of;
+use hashbag_shell::trouble::Trouble;
 use hashbag_text::encoding::Encoding;
 use std::alloc::{AllocError, Global};
 
@@ -149,4 +152,57 @@ pub fn movements_of<'a>(
         return Ok(in_start(alloc, input.file, read)?);
     }
     Ok(in_file(alloc, input.file, read)?)
+}
+
+// Returns the failure for dates and notes that can't be read.
+fn failure_of<'a>(alloc: Global, file: &'a str, error: ExtraError) -> Failure<'a> {
+    match error {
+        ExtraError::NoDate { line, field } => Failure::NoDate { file, line, field },
+        ExtraError::Sheet(error) => {
+            let read: Result<(), SheetError> = Err(error);
+            match in_file(alloc, file, read) {
+                Ok(()) => Failure::from(Trouble::Memory),
+                Err(trouble) => Failure::from(trouble),
+            }
+        }
+    }
+}
+
+/// Returns whether a column of dates or of notes is named.
+pub fn has_extras(request: &Job<'_>) -> bool {
+    request.extras.date.is_some() || request.extras.note.is_some()
+}
+
+/// Returns the dates and notes of all movements of the inputs, in turn; none if no column of them is named. The stock at the beginning has
+/// neither.
+///
+/// # Errors
+///
+/// What is wrong with its first bad line, or a failed allocation.
+pub fn extras_of<'a>(
+    alloc: Global,
+    request: &Job<'a>,
+    inputs: &[Input<'a>],
+    delimiter: Delimiter,
+) -> Result<Vec<Extra>, Failure<'a>> {
+    let mut extras = Vec::new(alloc);
+    if !has_extras(request) {
+        return Ok(extras);
+    }
+    let (date, note) = (None, None);
+    for input in inputs {
+        let names = if input.is_start {
+            ExtraColumns { date, note }
+        } else {
+            request.extras
+        };
+        match read_extras(alloc, input.text.as_slice(), names, delimiter) {
+            Ok(read) => {
+                let mut own = read;
+                extras.append(&mut own)?;
+            }
+            Err(error) => return Err(failure_of(alloc, input.file, error)),
+        }
+    }
+    Ok(extras)
 }

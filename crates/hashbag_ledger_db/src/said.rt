@@ -1,6 +1,7 @@
 //! What is said on standard error of what was done, or isn't there.
 use hashbag_csv::escaped::Escaped;
 use hashbag_ledger_args::command::PROGRAM;
+use hashbag_ledger_lib::movements::Change;
 use hashbag_ledger_lib::once::Batch;
 use std::alloc::{AllocError, Global};
 use std::fmt::Write;
@@ -69,15 +70,15 @@ pub fn entered_text(
 // Returns the article of a balance whose name is the most like this one, if one is near.
 fn near_to<'b>(
     alloc: Global,
-    balance: &'b [(String, usize)],
+    balance: &[(&'b str, Change)],
     article: &str,
 ) -> Result<Option<&'b str>, AllocError> {
     let mut near = None;
     let mut most = NEAR;
     for entry in balance {
-        let edits = levenshtein(alloc, entry.0.as_str(), article)?;
+        let edits = levenshtein(alloc, entry.0, article)?;
         if edits > 0 && edits <= most && edits < article.len() {
-            near = Some(entry.0.as_str());
+            near = Some(entry.0);
             most = edits - 1;
         }
     }
@@ -88,7 +89,7 @@ fn near_to<'b>(
 fn end_with_near(
     alloc: Global,
     text: &mut String,
-    balance: &[(String, usize)],
+    balance: &[(&str, Change)],
     article: &str,
 ) -> Result<(), AllocError> {
     match near_to(alloc, balance, article)? {
@@ -105,7 +106,7 @@ fn end_with_near(
 pub fn unmoved_text(
     alloc: Global,
     db: &str,
-    balance: &[(String, usize)],
+    balance: &[(&str, Change)],
     article: &str,
 ) -> Result<String, AllocError> {
     let mut text = String::new(alloc);
@@ -126,12 +127,12 @@ pub fn unmoved_text(
 pub fn absent_text(
     alloc: Global,
     db: &str,
-    balance: &[(String, usize)],
+    balance: &[(&str, Change)],
     articles: &[&str],
 ) -> Result<String, AllocError> {
     let mut text = String::new(alloc);
     for article in articles {
-        if balance.iter().all(|entry| entry.0.as_str() != *article) {
+        if balance.iter().all(|entry| entry.0 != *article) {
             write!(text, "{PROGRAM}: {db}: none of \"{}\"", Escaped(article))?;
             end_with_near(alloc, &mut text, balance, article)?;
         }

@@ -7,12 +7,19 @@ use crate::putting::in_database;
 use crate::said::{absent_text, unmoved_text};
 use crate::undoing::wanted_of;
 use hashbag_ledger_args::job::Job;
-use hashbag_ledger_lib::balance_forms::formed_text;
+use hashbag_ledger_lib::balance_forms::{formed_text, rows_of};
+use hashbag_ledger_lib::dated::balance_at;
+use hashbag_ledger_lib::dates::is_date;
 use hashbag_ledger_lib::entering::LedgerError;
 use hashbag_ledger_lib::listing::{batches_text, history_text, movements_text};
-use hashbag_ledger_lib::movements::Entry;
+use hashbag_ledger_lib::movements::{Change, Entry};
+use hashbag_ledger_lib::numbers::size_of;
 use hashbag_ledger_lib::recalling::{recall, recall_batch};
-use hashbag_stock::reading::{balance_of, batches_of, history_of, movements_until};
+use hashbag_ledger_lib::verifying::movements_from;
+use hashbag_stock::reading::{
+    History, balance_of, batches_of, days_of, extras_of_batch, history_of, movements_of,
+    movements_until,
+};
 use hashbag_stock::tables::Shape;
 use sqlite::{Alter, Connection};
 use std::alloc::{AllocError, Global};
@@ -27,31 +34,68 @@ pub struct Shown {
     pub said: String,
 }
 
-// Returns how many there are of an article.
-fn number_of(balance: &[(String, usize)], article: &str) -> usize {
-    for entry in balance {
-        if entry.0.as_str() == article {
-            return entry.1;
+// Returns the number of an article.
+fn number_of(rows: &[(&str, Change)], article: &str) -> Change {
+    for row in rows {
+        if row.0 == article {
+            return row.1;
         }
     }
-    0
+    Change::In(0)
 }
 
-// Returns the entries of these articles, in ascending order, each once.
-fn chosen_of(
+// Returns the rows of these articles, in ascending order, each once.
+fn chosen_of<'b>(
     alloc: Global,
-    balance: &[(String, usize)],
-    articles: &[&str],
-) -> Result<Vec<(String, usize)>, AllocError> {
-    let mut chosen: Vec<(String, usize)> = Vec::new(alloc);
+    rows: &[(&'b str, Change)],
+    articles: &[&'b str],
+) -> Result<Vec<(&'b str, Change)>, AllocError> {
+    let mut names: Vec<&'b str> = Vec::new(alloc);
     for article in articles {
-        if chosen.iter().all(|entry| entry.0.as_str() != *article) {
-            let entry: (String, usize) = (article.to_string(alloc)?, number_of(balance, *article));
-            chosen.push(entry)?;
+        if names.iter().all(|name| *name != *article) {
+            names.push(*article)?;
         }
     }
-    chosen.sort_unstable();
+    names.sort_unstable();
+    let mut chosen = Vec::new(alloc);
+    for name in &names {
+        let row: (&'b str, Change) = (*name, number_of(rows, *name));
+        chosen.push(row)?;
+    }
     Ok(chosen)
+}
+
+// Returns the rows whose number isn't 0.
+fn rows_with_some<'b>(
+    alloc: Global,
+    rows: &[(&'b str, Change)],
+) -> Result<Vec<(&'b str, Change)>, AllocError> {
+    let mut some = Vec::new(alloc);
+    for row in rows {
+        if size_of(row.1) > 0 {
+            let one: (&'b str, Change) = (row.0, row.1);
+            some.push(one)?;
+        }
+    }
+    Ok(some)
+}
+
+// Returns what is shown of a balance: all its rows, or those of some articles; and which of these aren't there.
+fn shown_of(
+    alloc: Global,
+    request: &Job<'_>,
+    shape: Shape,
+    rows: Vec<(&str, Change)>,
+) -> Result<Shown, AllocError> {
+    let said = absent_text(alloc, request.db, &rows, &request.articles)?;
+    let reading = request.reading(shape.style);
+    let table = if request.articles.is_empty() {
+        formed_text(alloc, reading, request.form, &rows)?
+    } else {
+        let chosen = chosen_of(alloc, &rows, &request.articles)?;
+        formed_text(alloc, reading, request.form, &chosen)?
+    };
+    Ok(Shown { table, said })
 }
 
 /// Returns the balance of an open database, or the numbers of some articles; and which of these aren't there.
@@ -66,14 +110,38 @@ pub fn balance_in<'a, D: Alter>(
     conn: &mut Connection<D>,
 ) -> Result<Shown, Failure<'a>> {
     let all = in_database(request.db, balance_of(alloc, conn))?;
-    let said = absent_text(alloc, request.db, &all, &request.articles)?;
-    let shown = if request.articles.is_empty() {
-        all
-    } else {
-        chosen_of(alloc, &all, &request.articles)?
-    };
-    let table = formed_text(alloc, request.reading(shape.style), request.form, &shown)?;
-    Ok(Shown { table, said })
+    Ok(shown_of(alloc, request, shape, rows_of(alloc, &all)?)?)
+}
+
+/// Returns the balance of an open database on a day, or the numbers of some articles then; and which of these aren't there. A number may be
+/// below 0.
+///
+/// # Errors
+///
+/// `NoDay` if the day is no date, `MovedTooMuch` if more than `usize::MAX` was moved up to it, or why there is no balance.
+pub fn balance_at_in<'a, D: Alter, S: BuildHasher + Copy + Drop>(
+    alloc: Global,
+    state: S,
+    request: &Job<'a>,
+    shape: Shape,
+    conn: &mut Connection<D>,
+    date: &str,
+) -> Result<Shown, Failure<'a>> {
+    if !is_date(date) {
+        return Err(Failure::NoDay);
+    }
+    let db = request.db;
+    let movements = movements_from(alloc, in_database(db, movements_of(alloc, conn))?)?;
+    let days = in_database(db, days_of(alloc, conn, shape))?;
+    let entries = recalled_in(db, recall(alloc, state, movements))?;
+    match balance_at(alloc, state, date, &entries, &days) {
+        Ok(all) => {
+            let rows = rows_with_some(alloc, &all)?;
+            Ok(shown_of(alloc, request, shape, rows)?)
+        }
+        Err(LedgerError::Memory) => Err(Failure::from(AllocError)),
+        Err(_) => Err(Failure::MovedTooMuch { db }),
+    }
 }
 
 // Returns what became of movements of a database.
@@ -109,7 +177,8 @@ pub fn show_in<'a, D: Alter, S: BuildHasher + Drop>(
     let movements = in_database(db, movements_until(alloc, conn, number))?;
     let batch = number.unsigned_abs() as usize;
     let entries = recalled_in(db, recall_batch(alloc, state, movements, batch))?;
-    let table = movements_text(alloc, request.reading(shape.style), &entries)?;
+    let extras = in_database(db, extras_of_batch(alloc, conn, shape, number))?;
+    let table = movements_text(alloc, request.reading(shape.style), &entries, &extras)?;
     let said = String::new(alloc);
     Ok(Shown { table, said })
 }
@@ -127,15 +196,21 @@ pub fn history_in<'a, D: Alter, S: BuildHasher + Drop>(
     conn: &mut Connection<D>,
 ) -> Result<Shown, Failure<'a>> {
     let article = request.articles.first().copied().unwrap_or("");
-    let (batches, movements) = in_database(request.db, history_of(alloc, conn, shape, article))?;
+    let found = in_database(request.db, history_of(alloc, conn, shape, article))?;
+    let History {
+        batches,
+        movements,
+        extras,
+    } = found;
     let said = if movements.is_empty() {
         let balance = in_database(request.db, balance_of(alloc, conn))?;
-        unmoved_text(alloc, request.db, &balance, article)?
+        unmoved_text(alloc, request.db, &rows_of(alloc, &balance)?, article)?
     } else {
         String::new(alloc)
     };
     let entries = recalled_in(request.db, recall(alloc, state, movements))?;
-    let table = history_text(alloc, request.reading(shape.style), &batches, &entries)?;
+    let reading = request.reading(shape.style);
+    let table = history_text(alloc, reading, &batches, &entries, &extras)?;
     Ok(Shown { table, said })
 }
 

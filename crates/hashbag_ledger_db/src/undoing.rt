@@ -6,6 +6,7 @@ use crate::said::{entered_text, movements_in};
 use hashbag_csv::decimals::write_decimal;
 use hashbag_ledger_args::job::Job;
 use hashbag_ledger_lib::entering::LedgerError;
+use hashbag_ledger_lib::extras::{Extra, opposite_extras};
 use hashbag_ledger_lib::ledger::booking::Booked;
 use hashbag_ledger_lib::movements::{Movement, Refusal};
 use hashbag_ledger_lib::numbers::MOST;
@@ -16,7 +17,7 @@ use hashbag_ledger_lib::sealing::{Draft, sealed_rows};
 use hashbag_ledger_lib::style::Style;
 use hashbag_ledger_lib::undoing::{Undo, undo_batch};
 use hashbag_shell::status::{DENIED, DONE};
-use hashbag_stock::reading::{balance_of, batches_of, entered_of, time_of};
+use hashbag_stock::reading::{balance_of, batches_of, entered_extras_of, entered_of, time_of};
 use hashbag_stock::tables::Shape;
 use hashbag_stock::writing::NewRows;
 use sqlite::{Alter, Connection};
@@ -115,6 +116,7 @@ fn put<'a, D: Alter>(
     shape: Shape,
     found: &Found,
     booked: &Booked<String>,
+    extras: &[Extra],
     changed: &[RowChange],
 ) -> Result<String, Failure<'a>> {
     let time = in_database(db, time_of(conn))?;
@@ -126,16 +128,19 @@ fn put<'a, D: Alter>(
         time: time.as_str(),
         movements: booked.entries.len() as u64,
     };
+    let entries = &booked.entries;
     let batches = sealed_rows(
         alloc,
         shape.style.scale,
         [draft].as_slice(),
-        &booked.entries,
+        entries,
+        extras,
     )?;
     let new = NewRows {
         is_sealed: shape.is_sealed,
         batches: &batches,
-        entries: &booked.entries,
+        entries,
+        extras,
         changed,
     };
     let said = entered_text(alloc, db, found.movements, &batches)?;
@@ -187,6 +192,8 @@ fn take_back_in<'a, D: Alter, S: BuildHasher + Drop>(
 ) -> Result<Undone, Failure<'a>> {
     let db = request.db;
     let entered = in_database(db, entered_of(alloc, conn, found.number))?;
+    let carried = in_database(db, entered_extras_of(alloc, conn, shape, found.number))?;
+    let extras = opposite_extras(alloc, &entered, &carried)?;
     let kept = in_database(db, balance_of(alloc, conn))?;
     let file = found.file.as_str();
     let (undo, changed) = undo_of(alloc, state, request, shape.style, file, &kept, entered)?;
@@ -197,7 +204,7 @@ fn take_back_in<'a, D: Alter, S: BuildHasher + Drop>(
         }),
         Undo::Done(booked) => Ok(Undone {
             refusals: Vec::new(alloc),
-            said: put(alloc, conn, db, shape, found, &booked, &changed)?,
+            said: put(alloc, conn, db, shape, found, &booked, &extras, &changed)?,
         }),
     }
 }

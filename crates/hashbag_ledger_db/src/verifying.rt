@@ -6,6 +6,7 @@ use hashbag_csv::decimals::write_decimal;
 use hashbag_csv::escaped::Escaped;
 use hashbag_ledger_args::job::Job;
 use hashbag_ledger_lib::entering::LedgerError;
+use hashbag_ledger_lib::extras::Extra;
 use hashbag_ledger_lib::ledger::booking::{Booked, book_batch, refusals_from};
 use hashbag_ledger_lib::numbers::MOST;
 use hashbag_ledger_lib::once::Batch;
@@ -43,13 +44,20 @@ fn wrong_row(
     batches: &[Batch],
     balance: &[(String, usize)],
     refusals: &[KeptRefusal],
+    extras: &[Extra],
     booked: Booked<String>,
 ) -> Result<Option<String>, AllocError> {
     if let Some(said) = wrong_article(alloc, reading, balance, &booked.balance)? {
         return Ok(Some(said));
     }
     if shape.is_sealed
-        && let Some(number) = wrong_seal(alloc, shape.style.scale, batches, &booked.entries)?
+        && let Some(number) = wrong_seal(
+            alloc,
+            shape.style.scale,
+            batches,
+            &booked.entries,
+            extras,
+        )?
     {
         return Ok(Some(format!(in alloc;
             "batch {number}: not as it was entered: the scale, its row, or a row of its movements was changed"
@@ -79,6 +87,7 @@ fn difference_of<'a, S: BuildHasher + Drop>(
     let Kept {
         shape,
         movements,
+        extras,
         refusals,
         balance,
         batches,
@@ -91,7 +100,9 @@ fn difference_of<'a, S: BuildHasher + Drop>(
     let movements = movements_from(alloc, movements)?;
     match book_batch(alloc, state, Vec::new(alloc), movements) {
         Ok(booked) => {
-            Ok(wrong_row(alloc, reading, shape, &batches, &balance, &refusals, booked)?)
+            Ok(wrong_row(
+                alloc, reading, shape, &batches, &balance, &refusals, &extras, booked,
+            )?)
         }
         Err(LedgerError::TooMany(place)) => Ok(Some(past_the_most(alloc, reading, place.file)?)),
         Err(_) => Err(Failure::from(AllocError)),

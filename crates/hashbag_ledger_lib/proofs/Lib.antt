@@ -5,7 +5,9 @@ pub mod ChangeLemmas
 pub mod CopyLemmas
 pub mod CountLemmas
 pub mod CountedLemmas
+pub mod DatedLemmas
 pub mod EnterLemmas
+pub mod ExtraLemmas
 pub mod LedgerLemmas
 pub mod ListLemmas
 pub mod ReadLemmas

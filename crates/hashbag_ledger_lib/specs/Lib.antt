@@ -2,8 +2,14 @@ pub mod Batches
 pub mod Bookings
 pub mod Changes
 pub mod Counts
+pub mod Dated
+pub mod DatedExamples
+pub mod Dates
+pub mod DatesExamples
 pub mod Entries
 pub mod Errors
+pub mod Extras
+pub mod ExtrasExamples
 pub mod Kinds
 pub mod Ledger
 pub mod LedgerExamples

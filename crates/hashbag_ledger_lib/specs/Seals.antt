@@ -1,9 +1,10 @@
--- What the seal of a batch is made of: the scale of the stock, the row of the batch, and its movements. Each text has its length before it.
-use Rattle.std.specs.Prelude.{◌≡◌, ℕ, ℤ, List, [], ◌∷◌, ◌++◌, length, take, drop, Option, None, Some, String, string_bytes}
+-- What the seal of a batch is made of: the scale of the stock, the row of the batch, its movements, and their dates and notes. Each text has its length before it.
+use Rattle.std.specs.Prelude.{◌≡◌, ℕ, ℤ, List, [], ◌∷◌, ◌++◌, ◌+◌, ◌&&◌, if◌then◌else◌, length, take, drop, Option, None, Some, is_none, option_map, String, string_bytes}
 use Rattle.std.specs.Global.{Global}
 use Rattle.std.specs.Int.{w64, to_le_bytes, cast_unsigned}
 use Rattle.hex.specs.Hex.{encode_lower}
 use Rattle.sha2.specs.Sha256.{sha256}
+use Rattle.hashbag_ledger_lib.specs.declared.extras.Extra.{Extra}
 use Rattle.hashbag_ledger_lib.specs.declared.movements.Change.{Change}
 use Rattle.hashbag_ledger_lib.specs.declared.movements.Change.TheVariants.{In, Out}
 use Rattle.hashbag_ledger_lib.specs.declared.movements.Entry.{Entry}
@@ -41,6 +42,20 @@ abbrev pub with_movements : List ℕ → List (Entry (String Global)) → List �
 with_movements m [] = m
 with_movements m (e ∷ es) = with_movements (with_movement m e.movement) es
 
+-- a message m and then a text, or that there is none
+abbrev pub with_maybe : List ℕ → Option (List ℕ) → List ℕ
+with_maybe m None = with_number m 0
+with_maybe m (Some text) = with_text (with_number m 1) text
+
+-- a message m and then what the movement of this number has, from 0: its date and its note. Nothing is added if it has neither
+abbrev pub with_extra : List ℕ → ℕ → Extra → List ℕ
+with_extra m n x = if is_none x.date && is_none x.note then m else with_maybe (with_maybe (with_number m n) (option_map string_bytes x.date)) (option_map string_bytes x.note)
+
+-- a message m and then what the movements from this number on have, in turn
+abbrev pub with_extras : List ℕ → ℕ → List Extra → List ℕ
+with_extras m n [] = m
+with_extras m n (x ∷ xs) = with_extras (with_extra m n x) (n + 1) xs
+
 -- a message m and then the scale of the stock, and the number of a batch
 abbrev pub with_head : List ℕ → ℕ → Batch → List ℕ
 with_head m scale b = with_option (with_number m scale) (Some b.number)
@@ -53,16 +68,16 @@ with_source m b = with_text (with_text (with_text m (string_bytes b.file)) (stri
 abbrev pub with_counts : List ℕ → Batch → List ℕ
 with_counts m b = with_number (with_number (with_text (with_option m b.undoes) (string_bytes b.time)) b.movements) b.refused
 
--- the scale of the stock, the row of the batch, and its movements in turn
-abbrev pub sealed : ℕ → Batch → List (Entry (String Global)) → List ℕ
-sealed scale b es = with_movements (with_counts (with_source (with_head [] scale b) b) b) es
+-- the scale of the stock, the row of the batch, its movements in turn, and their dates and notes
+abbrev pub sealed : ℕ → Batch → List (Entry (String Global)) → List Extra → List ℕ
+sealed scale b es xs = with_extras (with_movements (with_counts (with_source (with_head [] scale b) b) b) es) 0 xs
 
 -- the seal of a batch: the SHA-256 of all that, in hexadecimal digits
-abbrev pub seal_of : ℕ → Batch → List (Entry (String Global)) → List ℕ
-seal_of scale b es = encode_lower (sha256 (sealed scale b es))
+abbrev pub seal_of : ℕ → Batch → List (Entry (String Global)) → List Extra → List ℕ
+seal_of scale b es xs = encode_lower (sha256 (sealed scale b es xs))
 
--- the row of a batch that has these entries
-pub record IsRowOf (scale : ℕ) (d : Draft) (es : List (Entry (String Global))) (b : Batch) : Type 0 where
+-- the row of a batch that has these entries, with these dates and notes
+pub record IsRowOf (scale : ℕ) (d : Draft) (es : List (Entry (String Global))) (xs : List Extra) (b : Batch) : Type 0 where
   pub number : b.number ≡ d.number
   pub file : string_bytes b.file ≡ d.file.now
   pub digest : string_bytes b.sha256 ≡ d.sha256.now
@@ -71,16 +86,16 @@ pub record IsRowOf (scale : ℕ) (d : Draft) (es : List (Entry (String Global)))
   pub time : string_bytes b.time ≡ d.time.now
   pub counts : b.movements ≡ length es
   pub refusals : b.refused ≡ length (refusals_in es)
-  pub seal : string_bytes b.seal ≡ seal_of scale b es
+  pub seal : string_bytes b.seal ≡ seal_of scale b es xs
 
--- the rows of batches, of which each has the next of the entries, as many as its draft says
-abbrev pub AreRowsOf : ℕ → List Draft → List (Entry (String Global)) → List Batch → Type 0
-AreRowsOf scale [] es [] = Unit {0}
-AreRowsOf scale [] es (b ∷ bs) = ⊥
-AreRowsOf scale (d ∷ ds) es [] = ⊥
-AreRowsOf scale (d ∷ ds) es (b ∷ bs) = IsRowOf scale d (take d.movements es) b × AreRowsOf scale ds (drop d.movements es) bs
+-- the rows of batches, of which each has the next of the entries, as many as its draft says, and as many of the dates and notes
+abbrev pub AreRowsOf : ℕ → List Draft → List (Entry (String Global)) → List Extra → List Batch → Type 0
+AreRowsOf scale [] es xs [] = Unit {0}
+AreRowsOf scale [] es xs (b ∷ bs) = ⊥
+AreRowsOf scale (d ∷ ds) es xs [] = ⊥
+AreRowsOf scale (d ∷ ds) es xs (b ∷ bs) = IsRowOf scale d (take d.movements es) (take b.movements xs) b × AreRowsOf scale ds (drop d.movements es) (drop b.movements xs) bs
 
--- each batch has the seal of its row and of its movements, given the movements of all batches in turn
-abbrev pub AreSealed : ℕ → List Batch → List (Entry (String Global)) → Type 0
-AreSealed scale [] es = Unit {0}
-AreSealed scale (b ∷ bs) es = (string_bytes b.seal ≡ seal_of scale b (take b.movements es)) × AreSealed scale bs (drop b.movements es)
+-- each batch has the seal of its row and of its movements, given the movements of all batches in turn, and their dates and notes
+abbrev pub AreSealed : ℕ → List Batch → List (Entry (String Global)) → List Extra → Type 0
+AreSealed scale [] es xs = Unit {0}
+AreSealed scale (b ∷ bs) es xs = (string_bytes b.seal ≡ seal_of scale b (take b.movements es) (take b.movements xs)) × AreSealed scale bs (drop b.movements es) (drop b.movements xs)

@@ -2,7 +2,7 @@
 use Rattle.std.specs.Prelude.{◌≡◌, refl, [], ◌∷◌, Some, None, pos}
 use Rattle.hashbag_ledger_lib.specs.declared.movements.Change.TheVariants.{In, Out}
 use Rattle.hashbag_ledger_lib.specs.Numbers.{plain}
-use Rattle.hashbag_ledger_lib.specs.Seals.{with_text, with_option, with_change}
+use Rattle.hashbag_ledger_lib.specs.Seals.{with_text, with_option, with_change, with_extra}
 
 -- a text has its length before it, in eight bytes
 text_of_two : with_text [] (104 ∷ 105 ∷ []) ≡ 2 ∷ 0 ∷ 0 ∷ 0 ∷ 0 ∷ 0 ∷ 0 ∷ 0 ∷ 104 ∷ 105 ∷ []
@@ -21,3 +21,7 @@ nothing_goes_out = refl
 
 seven_go_out : with_change [] (plain (Out 7)) ≡ 1 ∷ 0 ∷ 0 ∷ 0 ∷ 0 ∷ 0 ∷ 0 ∷ 0 ∷ 7 ∷ 0 ∷ 0 ∷ 0 ∷ 0 ∷ 0 ∷ 0 ∷ 0 ∷ []
 seven_go_out = refl
+
+-- a movement without a date and a note adds nothing
+no_extra : with_extra [] 5 (record { date = None; note = None }) ≡ []
+no_extra = refl

@@ -1,8 +1,10 @@
-//! A balance in the forms that it is written in.
-use crate::output::balance_text;
+//! A balance in the forms that it is written in. Its numbers are changes: by dates, an article may be below 0.
+use crate::listing::change_text;
+use crate::movements::Change;
+use crate::output::push_record;
 use hashbag_csv::counts::Reading;
-use hashbag_csv::decimals::write_decimal;
 use hashbag_csv::escaped::Escaped;
+use hashbag_csv::records::Records;
 use hashbag_csv::scale::Scale;
 use serde::{Described, Serialize, Serializer};
 use std::alloc::{AllocError, Global};
@@ -33,11 +35,43 @@ impl Form {
 // The names of the columns.
 const NAMES: (&str, &str) = ("article", "number");
 
+/// Returns the rows of a balance.
+///
+/// # Errors
+///
+/// An allocation fails.
+pub fn rows_of(
+    alloc: Global,
+    balance: &[(String, usize)],
+) -> Result<Vec<(&str, Change)>, AllocError> {
+    let mut rows = Vec::new(alloc);
+    for entry in balance {
+        let row: (&str, Change) = (entry.0.as_str(), Change::In(entry.1));
+        rows.push(row)?;
+    }
+    Ok(rows)
+}
+
+// The rows as CSV.
+fn csv_of(
+    alloc: Global,
+    reading: Reading,
+    balance: &[(&str, Change)],
+) -> Result<Vec<u8>, AllocError> {
+    let mut records = Records::empty(alloc, reading.delimiter);
+    push_record(&mut records, [NAMES.0, NAMES.1].as_slice())?;
+    for entry in balance {
+        let number = change_text(alloc, entry.1, reading.scale)?;
+        push_record(&mut records, [entry.0, number.as_str()].as_slice())?;
+    }
+    records.into_text()
+}
+
 // The cells of a table: the titles, and then each article, with control characters escaped, and its number.
 fn cells_of(
     alloc: Global,
     scale: Scale,
-    balance: &[(String, usize)],
+    balance: &[(&str, Change)],
 ) -> Result<Vec<(String, String)>, AllocError> {
     let mut rows = Vec::new(alloc);
     let titles: (String, String) = (
@@ -46,8 +80,8 @@ fn cells_of(
     );
     rows.push(titles)?;
     for entry in balance {
-        let article = format!(in alloc; "{}", Escaped(entry.0.as_str()))?;
-        let row: (String, String) = (article, write_decimal(alloc, entry.1, scale)?);
+        let article = format!(in alloc; "{}", Escaped(entry.0))?;
+        let row: (String, String) = (article, change_text(alloc, entry.1, scale)?);
         rows.push(row)?;
     }
     Ok(rows)
@@ -57,7 +91,7 @@ fn cells_of(
 fn table_of(
     alloc: Global,
     scale: Scale,
-    balance: &[(String, usize)],
+    balance: &[(&str, Change)],
 ) -> Result<Vec<u8>, AllocError> {
     let rows = cells_of(alloc, scale, balance)?;
     let (mut left, mut right) = (0usize, 0usize);
@@ -83,7 +117,7 @@ fn table_of(
 #[derive(Drop)]
 struct Object<'a> {
     article: &'a str,
-    number: usize,
+    number: Change,
     // The number as a text, if it has decimals.
     text: Option<String>,
 }
@@ -98,27 +132,26 @@ impl Serialize for Object<'_> {
         out.key(NAMES.1)?;
         match &self.text {
             Some(text) => text.serialize(out)?,
-            None => self.number.serialize(out)?,
+            None => match self.number {
+                Change::In(n) => n.serialize(out)?,
+                Change::Out(n) => 0i64.wrapping_sub_unsigned(n as u64).serialize(out)?,
+            },
         }
         out.end_map()
     }
 }
 
 // The balance as JSON.
-fn json_of(
-    alloc: Global,
-    scale: Scale,
-    balance: &[(String, usize)],
-) -> Result<Vec<u8>, AllocError> {
+fn json_of(alloc: Global, scale: Scale, balance: &[(&str, Change)]) -> Result<Vec<u8>, AllocError> {
     let mut objects = Vec::new(alloc);
     for entry in balance {
         let text = if scale.decimals == 0 {
             None
         } else {
-            Some(write_decimal(alloc, entry.1, scale)?)
+            Some(change_text(alloc, entry.1, scale)?)
         };
         objects.push(Object {
-            article: entry.0.as_str(),
+            article: entry.0,
             number: entry.1,
             text,
         })?;
@@ -128,7 +161,7 @@ fn json_of(
     Ok(text)
 }
 
-/// Returns the balance in this form. Numbers with decimals are texts in JSON.
+/// Returns the rows of a balance in this form: what goes out is below 0. Numbers with decimals are texts in JSON.
 ///
 /// # Errors
 ///
@@ -137,10 +170,10 @@ pub fn formed_text(
     alloc: Global,
     reading: Reading,
     form: Form,
-    balance: &[(String, usize)],
+    balance: &[(&str, Change)],
 ) -> Result<Vec<u8>, AllocError> {
     match form {
-        Form::Csv => balance_text(alloc, NAMES, reading, balance),
+        Form::Csv => csv_of(alloc, reading, balance),
         Form::Table => table_of(alloc, reading.scale, balance),
         Form::Json => json_of(alloc, reading.scale, balance),
     }

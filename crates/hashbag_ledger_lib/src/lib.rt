@@ -3,7 +3,10 @@
 
 pub mod balance_forms;
 pub mod counting;
+pub mod dated;
+pub mod dates;
 pub mod entering;
+pub mod extras;
 pub mod filing;
 pub mod ledger;
 pub mod listing;

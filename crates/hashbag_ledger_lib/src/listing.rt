@@ -1,4 +1,5 @@
 //! The batches, the history of an article, the movements of a batch, and the differences of a counted stock, as CSV.
+use crate::extras::{Extra, date_at, note_at};
 use crate::movements::{Change, Entry, Outcome};
 use crate::once::{Batch, batch_of};
 use crate::output::push_record;
@@ -8,8 +9,16 @@ use hashbag_csv::records::Records;
 use hashbag_csv::scale::Scale;
 use std::alloc::{AllocError, Global};
 
-// Returns a change with its sign.
-fn change_text(alloc: Global, change: Change, scale: Scale) -> Result<String, AllocError> {
+/// Returns a change with its sign: none for what comes in, and `-` for what goes out.
+///
+/// # Errors
+///
+/// An allocation fails.
+pub(crate) fn change_text(
+    alloc: Global,
+    change: Change,
+    scale: Scale,
+) -> Result<String, AllocError> {
     match change {
         Change::In(n) => write_decimal(alloc, n, scale),
         Change::Out(n) => {
@@ -72,8 +81,8 @@ fn outcome_of(entry: &Entry<String>) -> (bool, usize) {
     }
 }
 
-/// Returns the movements of a batch as CSV, with the header `line,article,change,outcome,number`. Outcome and number are those of
-/// [`history_text`].
+/// Returns the movements of a batch as CSV, with the header `line,date,article,change,outcome,number,note`. Outcome and number are those of
+/// [`history_text`]. `extras` are the dates and notes of the movements; a field is empty if there is none.
 ///
 /// # Errors
 ///
@@ -82,11 +91,15 @@ pub fn movements_text(
     alloc: Global,
     reading: Reading,
     entries: &[Entry<String>],
+    extras: &[Extra],
 ) -> Result<Vec<u8>, AllocError> {
     let mut records = Records::empty(alloc, reading.delimiter);
-    let header = ["line", "article", "change", "outcome", "number"];
+    let header = [
+        "line", "date", "article", "change", "outcome", "number", "note",
+    ];
     push_record(&mut records, header.as_slice())?;
-    for entry in entries {
+    for i in 0..entries.len() {
+        let entry = &entries[i];
         let movement = &entry.movement;
         let line = format!(in alloc; "{}", movement.place.line)?;
         let change = change_text(alloc, movement.change, reading.scale)?;
@@ -95,20 +108,31 @@ pub fn movements_text(
         let number = write_decimal(alloc, after, reading.scale)?;
         let fields = [
             line.as_str(),
+            date_at(extras, i),
             movement.article.as_str(),
             change.as_str(),
             outcome,
             number.as_str(),
+            note_at(extras, i),
         ];
         push_record(&mut records, fields.as_slice())?;
     }
     records.into_text()
 }
 
-/// Returns the movements of an article as CSV, with the header `batch,file,line,time,change,outcome,number`.
+// Returns the file and the time of the batch of this number.
+fn source_of(batches: &[Batch], number: usize) -> (&str, &str) {
+    let number = i64::try_from(number).unwrap_or(0);
+    match batch_of(batches, number) {
+        Some(batch) => (batch.file.as_str(), batch.time.as_str()),
+        None => ("", ""),
+    }
+}
+
+/// Returns the movements of an article as CSV, with the header `batch,file,line,time,date,change,outcome,number,note`.
 ///
 /// In these entries `place.file` is the number of the batch; its file and time are written. The outcome is `entered` or `refused`; the
-/// number is how many there are after the movement.
+/// number is how many there are after the movement. `extras` are the dates and notes of the movements; a field is empty if there is none.
 ///
 /// # Errors
 ///
@@ -118,21 +142,18 @@ pub fn history_text(
     reading: Reading,
     batches: &[Batch],
     entries: &[Entry<String>],
+    extras: &[Extra],
 ) -> Result<Vec<u8>, AllocError> {
     let mut records = Records::empty(alloc, reading.delimiter);
     let header = [
-        "batch", "file", "line", "time", "change", "outcome", "number",
+        "batch", "file", "line", "time", "date", "change", "outcome", "number", "note",
     ];
     push_record(&mut records, header.as_slice())?;
-    for entry in entries {
+    for i in 0..entries.len() {
+        let entry = &entries[i];
         let place = entry.movement.place;
-        let number = i64::try_from(place.file).unwrap_or(0);
-        let (file, time) = match batch_of(batches, number) {
-            Some(batch) => (batch.file.as_str(), batch.time.as_str()),
-            None => ("", ""),
-        };
+        let (file, time) = source_of(batches, place.file);
         let (is_refused, after) = outcome_of(entry);
-        let outcome = if is_refused { "refused" } else { "entered" };
         let batch = format!(in alloc; "{}", place.file)?;
         let line = format!(in alloc; "{}", place.line)?;
         let change = change_text(alloc, entry.movement.change, reading.scale)?;
@@ -142,9 +163,11 @@ pub fn history_text(
             file,
             line.as_str(),
             time,
+            date_at(extras, i),
             change.as_str(),
-            outcome,
+            if is_refused { "refused" } else { "entered" },
             left.as_str(),
+            note_at(extras, i),
         ];
         push_record(&mut records, fields.as_slice())?;
     }

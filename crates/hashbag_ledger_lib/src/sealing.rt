@@ -1,11 +1,12 @@
-//! The seal of a batch. It shows that nobody changed what no count of the movements shows: files, lines, times, the scale.
-ghost use Rattle.std.specs.Prelude.{◌≡◌, ℕ, ℤ, ◌↔◌, ◌++◌, List, Option, length, take, drop, string_bytes, IfOk, IsNone, IsTrue};
+//! The seal of a batch. It shows that nobody changed what no count of the movements shows: files, lines, times, dates, notes, the scale.
+ghost use Rattle.std.specs.Prelude.{◌≡◌, ℕ, ℤ, ◌↔◌, ◌++◌, List, Option, length, take, drop, option_map, string_bytes, IfOk, IsNone, IsTrue};
 ghost use Rattle.hex.specs.Hex.{encode_lower};
 ghost use Rattle.sha2.specs.Hashers.{Holds256};
 ghost use Rattle.sha2.specs.Sha256.{sha256};
 ghost use Rattle.hashbag_ledger_lib.specs.Numbers.{plain};
-ghost use Rattle.hashbag_ledger_lib.specs.Seals.{with_number, with_text, with_option, with_change, with_movement, with_movements, with_head, with_source, with_counts, seal_of, IsRowOf, AreRowsOf, AreSealed};
+ghost use Rattle.hashbag_ledger_lib.specs.Seals.{with_number, with_text, with_option, with_change, with_movement, with_movements, with_maybe, with_extra, with_extras, with_head, with_source, with_counts, seal_of, IsRowOf, AreRowsOf, AreSealed};
 
+use crate::extras::Extra;
 use crate::ledger::booking::count_refused;
 use crate::movements::{Change, Entry, Movement};
 use crate::numbers::plain_change;
@@ -103,6 +104,40 @@ fn add_movements(hasher: &mut Sha256, entries: &[Entry<String>])
     }
 }
 
+// Adds a text that may be missing.
+fn add_maybe(hasher: &mut Sha256, text: &Option<String>)
+    ensures { (m : List ℕ) → Holds256 hasher.old m → Holds256 hasher.new (with_maybe m (option_map string_bytes text.now)) }
+{
+    match text {
+        Some(text) => {
+            add_number(hasher, 1);
+            add_text(hasher, text.as_str());
+        }
+        None => add_number(hasher, 0),
+    }
+}
+
+// Adds the date and the note of the movement of this number, if it has one of them.
+fn add_extra(hasher: &mut Sha256, number: u64, extra: &Extra)
+    ensures { (m : List ℕ) → Holds256 hasher.old m → Holds256 hasher.new (with_extra m number extra.now) }
+{
+    if extra.date.is_none() && extra.note.is_none() {
+        return;
+    }
+    add_number(hasher, number);
+    add_maybe(hasher, &extra.date);
+    add_maybe(hasher, &extra.note);
+}
+
+// Adds the dates and the notes of movements in turn.
+fn add_extras(hasher: &mut Sha256, extras: &[Extra])
+    ensures { (m : List ℕ) → Holds256 hasher.old m → Holds256 hasher.new (with_extras m 0 extras.now) }
+{
+    for i in 0..extras.len() {
+        add_extra(hasher, i as u64, &extras[i]);
+    }
+}
+
 // Adds the scale of the stock, and the number of a batch.
 fn add_head(hasher: &mut Sha256, scale: u32, batch: &Batch)
     ensures { (m : List ℕ) → Holds256 hasher.old m → Holds256 hasher.new (with_head m scale batch.now) }
@@ -136,25 +171,28 @@ fn seal_for(
     scale: u32,
     batch: &Batch,
     entries: &[Entry<String>],
+    extras: &[Extra],
 ) -> Result<String, AllocError>
-    ensures { IfOk result (λ seal. string_bytes seal ≡ seal_of scale batch.now entries.now) }
+    ensures { IfOk result (λ seal. string_bytes seal ≡ seal_of scale batch.now entries.now extras.now) }
 {
     let mut hasher = Sha256::new();
     add_head(&mut hasher, scale, batch);
     add_source(&mut hasher, batch);
     add_counts(&mut hasher, batch);
     add_movements(&mut hasher, entries);
+    add_extras(&mut hasher, extras);
     hex::encode(alloc, hasher.finalize())
 }
 
-// Returns the row of a batch that has these entries, in a stock whose numbers have this many decimals.
+// Returns the row of a batch that has these entries, with these dates and notes, in a stock whose numbers have this many decimals.
 fn row_of(
     alloc: Global,
     scale: u32,
     draft: Draft<'_>,
     entries: &[Entry<String>],
+    extras: &[Extra],
 ) -> Result<Batch, AllocError>
-    ensures { IfOk result (IsRowOf scale draft.entry entries.now) }
+    ensures { IfOk result (IsRowOf scale draft.entry entries.now extras.now) }
 {
     let mut row = Batch {
         number: draft.number,
@@ -167,37 +205,39 @@ fn row_of(
         refused: count_refused(entries) as u64,
         seal: String::new(alloc),
     };
-    row.seal = seal_for(alloc, scale, &row, entries)?;
+    row.seal = seal_for(alloc, scale, &row, entries, extras)?;
     Ok(row)
 }
 
-// Returns whether a batch has the seal of its row and of these entries.
+// Returns whether a batch has the seal of its row and of these entries, with these dates and notes.
 fn is_sealed(
     alloc: Global,
     scale: u32,
     batch: &Batch,
     entries: &[Entry<String>],
+    extras: &[Extra],
 ) -> Result<bool, AllocError>
-    ensures { IfOk result (λ same. IsTrue same ↔ (string_bytes batch.now.seal ≡ seal_of scale batch.now entries.now)) }
+    ensures { IfOk result (λ same. IsTrue same ↔ (string_bytes batch.now.seal ≡ seal_of scale batch.now entries.now extras.now)) }
 {
-    let seal = seal_for(alloc, scale, batch, entries)?;
+    let seal = seal_for(alloc, scale, batch, entries, extras)?;
     Ok(batch.seal.as_str() == seal.as_str())
 }
 
-/// Returns the first `count` entries, or all, and those after them.
-pub fn cut(entries: &[Entry<String>], count: u64) -> (&[Entry<String>], &[Entry<String>])
-    ensures own { result.0.now ≡ take count entries.now }
-    ensures later { result.1.now ≡ drop count entries.now }
+/// Returns the first `count` of a list, or all, and those after them.
+pub fn cut<T>(list: &[T], count: u64) -> (&[T], &[T])
+    ensures own { result.0.now ≡ take count list.now }
+    ensures later { result.1.now ≡ drop count list.now }
 {
     let count = count as usize;
-    if count < entries.len() {
-        return entries.split_at(count);
+    if count < list.len() {
+        return list.split_at(count);
     }
-    (entries, &[])
+    (list, &[])
 }
 
 /// Returns the rows of batches with their seals, in turn, in a stock whose numbers have this many decimals. The entries are those of all
-/// batches, in turn: of each batch as many as its draft says, or those that are left.
+/// batches, in turn: of each batch as many as its draft says, or those that are left. `extras` are the dates and the notes of the same
+/// movements; it is empty if they have none.
 ///
 /// # Errors
 ///
@@ -207,23 +247,27 @@ pub fn sealed_rows(
     scale: u32,
     drafts: &[Draft<'_>],
     entries: &[Entry<String>],
+    extras: &[Extra],
 ) -> Result<Vec<Batch>, AllocError>
-    ensures rows { IfOk result (λ rows. AreRowsOf scale drafts.now entries.now rows.items) }
-    ensures sealed { IfOk result (λ rows. AreSealed scale rows.items entries.now) }
+    ensures rows { IfOk result (λ rows. AreRowsOf scale drafts.now entries.now extras.now rows.items) }
+    ensures sealed { IfOk result (λ rows. AreSealed scale rows.items entries.now extras.now) }
 {
     let mut rows = Vec::new(alloc);
     let mut left = entries;
+    let mut left_extras = extras;
     for draft in drafts {
         let (own, later) = cut(left, draft.movements);
-        let row = row_of(alloc, scale, *draft, own)?;
+        let (own_extras, later_extras) = cut(left_extras, own.len() as u64);
+        let row = row_of(alloc, scale, *draft, own, own_extras)?;
         rows.push(row)?;
         left = later;
+        left_extras = later_extras;
     }
     Ok(rows)
 }
 
 /// Returns the number of the first batch whose seal isn't that of its row and of its movements, or `None` if each has its own. The
-/// entries are those of all batches, in turn.
+/// entries are those of all batches, in turn, and `extras` their dates and notes.
 ///
 /// # Errors
 ///
@@ -233,16 +277,18 @@ pub fn wrong_seal(
     scale: u32,
     batches: &[Batch],
     entries: &[Entry<String>],
+    extras: &[Extra],
 ) -> Result<Option<i64>, AllocError>
-    ensures { IfOk result (λ wrong. IsNone wrong ↔ AreSealed scale batches.now entries.now) }
+    ensures { IfOk result (λ wrong. IsNone wrong ↔ AreSealed scale batches.now entries.now extras.now) }
 {
-    let (mut rest, mut left) = (batches, entries);
+    let (mut rest, mut left, mut left_extras) = (batches, entries, extras);
     'batches: while let Some((batch, others)) = rest.split_first() {
         let (own, later) = cut(left, batch.movements);
-        if !is_sealed(alloc, scale, batch, own)? {
+        let (own_extras, later_extras) = cut(left_extras, batch.movements);
+        if !is_sealed(alloc, scale, batch, own, own_extras)? {
             return Ok(Some(batch.number));
         }
-        (rest, left) = (others, later);
+        (rest, left, left_extras) = (others, later, later_extras);
     }
     Ok(None)
 }

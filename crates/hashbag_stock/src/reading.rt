@@ -4,6 +4,7 @@ ghost use Rattle.hashbag_ledger_lib.specs.Changes.{Rises};
 
 use crate::error::StockError;
 use crate::tables::Shape;
+use hashbag_ledger_lib::extras::Extra;
 use hashbag_ledger_lib::movements::{Movement, Place};
 use hashbag_ledger_lib::numbers::change_of;
 use hashbag_ledger_lib::once::Batch;
@@ -168,6 +169,98 @@ pub fn movements_of<S: Alter>(
     list_of(alloc, conn, text, &[])
 }
 
+impl FromRow for Extra {
+    fn from_row(row: &Row) -> Result<Extra, StockError> {
+        Ok(Extra {
+            date: row.get(0)?,
+            note: row.get(1)?,
+        })
+    }
+}
+
+// Returns the dates and notes of the movements of a query, in turn; none if the stock has none.
+fn extras_by<S: Alter>(
+    alloc: Global,
+    conn: &mut Connection<S>,
+    shape: Shape,
+    text: &str,
+    values: &[ValueRef<'_>],
+) -> Result<Vec<Extra>, StockError> {
+    if !shape.is_dated() {
+        return Ok(Vec::new(alloc));
+    }
+    list_of(alloc, conn, text, values)
+}
+
+/// Returns the dates and notes of all movements, in turn; none if the stock has none.
+///
+/// # Errors
+///
+/// What fails.
+pub fn extras_of<S: Alter>(
+    alloc: Global,
+    conn: &mut Connection<S>,
+    shape: Shape,
+) -> Result<Vec<Extra>, StockError> {
+    let text = "SELECT date, note FROM movement ORDER BY movement";
+    extras_by(alloc, conn, shape, text, &[])
+}
+
+/// Returns the dates and notes of the movements of a batch, in turn; none if the stock has none.
+///
+/// # Errors
+///
+/// What fails.
+pub fn extras_of_batch<S: Alter>(
+    alloc: Global,
+    conn: &mut Connection<S>,
+    shape: Shape,
+    batch: i64,
+) -> Result<Vec<Extra>, StockError> {
+    let text = "SELECT date, note FROM movement WHERE batch = ?1 ORDER BY movement";
+    extras_by(alloc, conn, shape, text, params![batch])
+}
+
+/// Returns the dates and notes of the movements of [`entered_of`], in turn; none if the stock has none.
+///
+/// # Errors
+///
+/// What fails.
+pub fn entered_extras_of<S: Alter>(
+    alloc: Global,
+    conn: &mut Connection<S>,
+    shape: Shape,
+    batch: i64,
+) -> Result<Vec<Extra>, StockError> {
+    let text =
+        "SELECT m.date, m.note FROM movement m LEFT JOIN refusal r ON r.movement = m.movement WHERE m.batch = ?1 AND r.movement IS NULL ORDER BY m.movement";
+    extras_by(alloc, conn, shape, text, params![batch])
+}
+
+impl FromRow for String {
+    fn from_row(row: &Row) -> Result<String, StockError> {
+        Ok(row.get(0)?)
+    }
+}
+
+/// Returns the day of each movement, in turn: its date, or that of its batch's time.
+///
+/// # Errors
+///
+/// What fails.
+pub fn days_of<S: Alter>(
+    alloc: Global,
+    conn: &mut Connection<S>,
+    shape: Shape,
+) -> Result<Vec<String>, StockError> {
+    let text = if shape.is_dated() {
+        "SELECT coalesce(m.date, substr(b.time, 1, 10)) FROM movement m LEFT JOIN batch b ON b.batch = m.batch ORDER BY m.movement"
+    } else {
+        "SELECT substr(b.time, 1, 10) FROM movement m LEFT JOIN batch b ON b.batch = m.batch ORDER BY m.movement"
+    };
+    list_of(alloc, conn, text, &[])
+}
+
 impl FromRow for KeptRefusal {
     fn from_row(row: &Row) -> Result<KeptRefusal, StockError> {
         Ok(KeptRefusal {
@@ -227,6 +320,8 @@ pub struct Kept {
     pub shape: Shape,
     /// All movements, in turn: [`movements_of`].
     pub movements: Vec<KeptMovement>,
+    /// Their dates and notes, in turn: [`extras_of`].
+    pub extras: Vec<Extra>,
     /// All refusals, in turn.
     pub refusals: Vec<KeptRefusal>,
     /// The balance, articles in ascending order.
@@ -248,13 +343,25 @@ pub fn everything_of<S: Alter>(
     Ok(Kept {
         shape,
         movements: movements_of(alloc, conn)?,
+        extras: extras_of(alloc, conn, shape)?,
         refusals: refusals_of(alloc, conn)?,
         balance: balance_of(alloc, conn)?,
         batches: batches_of(alloc, conn, shape)?,
     })
 }
 
-/// Returns all batches, and the movements of an article. The file of a place is the number of the batch.
+/// What a stock keeps of an article.
+#[derive(Drop)]
+pub struct History {
+    /// All batches, in turn.
+    pub batches: Vec<Batch>,
+    /// The movements of the article, in turn. The file of a place is the number of the batch.
+    pub movements: Vec<Movement<String>>,
+    /// Their dates and notes, in turn; none if the stock has none.
+    pub extras: Vec<Extra>,
+}
+
+/// Returns all batches, and the movements of an article with their dates and notes.
 ///
 /// # Errors
 ///
@@ -264,9 +371,11 @@ pub fn history_of<S: Alter>(
     conn: &mut Connection<S>,
     shape: Shape,
     article: &str,
-) -> Result<(Vec<Batch>, Vec<Movement<String>>), StockError> {
-    Ok((
-        batches_of(alloc, conn, shape)?,
-        movements_of_article(alloc, conn, article)?,
-    ))
+) -> Result<History, StockError> {
+    let text = "SELECT date, note FROM movement WHERE article = ?1 ORDER BY movement";
+    Ok(History {
+        batches: batches_of(alloc, conn, shape)?,
+        movements: movements_of_article(alloc, conn, article)?,
+        extras: extras_by(alloc, conn, shape, text, params![article])?,
+    })
 }

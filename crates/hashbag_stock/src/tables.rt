@@ -14,6 +14,9 @@ const SEALED: i64 = 2;
 // The first version that keeps how its files are written, and whose batches may be counts.
 const STYLED: i64 = 3;
 
+// The first version whose movements have dates and notes.
+const DATED: i64 = 3;
+
 // What is known of the stock as a whole: its version, under the name of the program, and how its files are written.
 const META: &str = "CREATE TABLE meta (name TEXT PRIMARY KEY NOT NULL, value ANY NOT NULL) STRICT";
 
@@ -21,9 +24,9 @@ const META: &str = "CREATE TABLE meta (name TEXT PRIMARY KEY NOT NULL, value ANY
 const BATCH: &str =
     "CREATE TABLE batch (batch INTEGER PRIMARY KEY, file TEXT NOT NULL, sha256 TEXT NOT NULL, kind TEXT NOT NULL CHECK (kind IN ('start', 'moves', 'undo', 'count')), undoes INTEGER, time TEXT NOT NULL, movements INTEGER NOT NULL CHECK (movements >= 0), refused INTEGER NOT NULL CHECK (refused BETWEEN 0 AND movements), seal TEXT NOT NULL) STRICT";
 
-// All movements, in turn.
+// All movements, in turn. A date is of the form `2026-02-28`; the kit takes no function in a CHECK.
 const MOVEMENT: &str =
-    "CREATE TABLE movement (movement INTEGER PRIMARY KEY, batch INTEGER NOT NULL, line INTEGER NOT NULL, article TEXT NOT NULL, change INTEGER NOT NULL) STRICT";
+    "CREATE TABLE movement (movement INTEGER PRIMARY KEY, batch INTEGER NOT NULL, line INTEGER NOT NULL, article TEXT NOT NULL, change INTEGER NOT NULL, date TEXT CHECK (date BETWEEN '0000-01-01' AND '9999-12-31'), note TEXT) STRICT";
 
 // Those that were refused.
 const REFUSAL: &str =
@@ -51,6 +54,11 @@ impl Shape {
     /// Returns whether its batches may be counts.
     pub fn takes_counts(self) -> bool {
         self.version >= STYLED
+    }
+
+    /// Returns whether its movements have dates and notes.
+    pub fn is_dated(self) -> bool {
+        self.version >= DATED
     }
 
     /// Returns the shape of a new stock whose files are written like this.
@@ -145,7 +153,10 @@ fn version_of<S: Alter>(conn: &mut Connection<S>) -> Result<i64, StockError> {
     if version < 1 {
         return Err(StockError::Damaged("no version from 1 on in the table meta"));
     }
-    if has_seals(conn)? != (version >= SEALED) || has_counts(conn)? != (version >= STYLED) {
+    let has_all = has_seals(conn)? == (version >= SEALED)
+        && has_counts(conn)? == (version >= STYLED)
+        && has_dates(conn)? == (version >= DATED);
+    if !has_all {
         return Err(StockError::Damaged("another version in the table meta than its tables have"));
     }
     Ok(version)
@@ -212,6 +223,14 @@ fn has_seals<S: Alter>(conn: &mut Connection<S>) -> Result<bool, StockError> {
 fn has_counts<S: Alter>(conn: &mut Connection<S>) -> Result<bool, StockError> {
     let text =
         "SELECT count(*) FROM sqlite_schema WHERE name = 'batch' AND instr(sql, '''count''') > 0";
+    let tables: i64 = conn.query_row(text, &[])?.get(0)?;
+    Ok(tables == 1)
+}
+
+// Returns whether the table of movements has a column of dates.
+fn has_dates<S: Alter>(conn: &mut Connection<S>) -> Result<bool, StockError> {
+    let text =
+        "SELECT count(*) FROM sqlite_schema WHERE name = 'movement' AND instr(sql, 'date TEXT') > 0";
     let tables: i64 = conn.query_row(text, &[])?.get(0)?;
     Ok(tables == 1)
 }

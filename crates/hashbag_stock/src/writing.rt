@@ -5,6 +5,7 @@ ghost use Rattle.hashbag_stock.specs.Commits.{IsInside, IsOneCommit};
 
 use crate::error::StockError;
 use crate::tables::{TABLES, VERSION, delimiter_name, mark_name};
+use hashbag_ledger_lib::extras::Extra;
 use hashbag_ledger_lib::movements::{Entry, Movement, Outcome};
 use hashbag_ledger_lib::numbers::{number_of, signed};
 use hashbag_ledger_lib::once::Batch;
@@ -23,6 +24,8 @@ pub struct NewRows<'a> {
     pub batches: &'a [Batch],
     /// The movements of all batches, in turn, each with what became of it: of each batch as many as its row says.
     pub entries: &'a [Entry<String>],
+    /// The dates and notes of the same movements; none if they have none, or if the stock keeps none.
+    pub extras: &'a [Extra],
     /// What becomes of the rows of the balance after all of them.
     pub changed: &'a [RowChange],
 }
@@ -155,11 +158,12 @@ fn write_batch<S: Alter>(
     )
 }
 
-// Writes a movement of the batch of this number.
+// Writes a movement of the batch of this number, and its date and its note, if it has one of them.
 fn write_movement<S: Alter>(
     transaction: &mut Transaction<'_, S>,
     number: i64,
     movement: &Movement<String>,
+    extra: Option<&Extra>,
 ) -> Result<(), StockError>
     ensures same_reference { transaction.new.conn.ghost_name ≡ transaction.old.conn.ghost_name }
     ensures inside { IsInside (state S.Store transaction.old.conn.now) (state S.Store transaction.new.conn.now) }
@@ -167,6 +171,13 @@ fn write_movement<S: Alter>(
     let line = value_of(movement.place.line as usize)?;
     let change = number_of(movement.change).ok_or(StockError::Damaged(TOO_LARGE))?;
     let article = movement.article.as_str();
+    if let Some(extra) = extra {
+        return run(
+            transaction,
+            "INSERT INTO movement (batch, line, article, change, date, note) VALUES (?1, ?2, ?3, ?4, ?5, ?6)",
+            params![number, line, article, change, &extra.date, &extra.note],
+        );
+    }
     run(
         transaction,
         "INSERT INTO movement (batch, line, article, change) VALUES (?1, ?2, ?3, ?4)",
@@ -196,28 +207,30 @@ fn write_entry<S: Alter>(
     transaction: &mut Transaction<'_, S>,
     number: i64,
     entry: &Entry<String>,
+    extra: Option<&Extra>,
 ) -> Result<(), StockError>
     ensures same_reference { transaction.new.conn.ghost_name ≡ transaction.old.conn.ghost_name }
     ensures inside { IsInside (state S.Store transaction.old.conn.now) (state S.Store transaction.new.conn.now) }
 {
-    write_movement(transaction, number, &entry.movement)?;
+    write_movement(transaction, number, &entry.movement, extra)?;
     match entry.outcome {
         Outcome::Refused { there } => write_refusal(transaction, there),
         Outcome::Entered { .. } => Ok(()),
     }
 }
 
-// Writes the movements of the batch, each with what became of it.
+// Writes the movements of the batch, each with what became of it, and with its date and its note.
 fn write_entries<S: Alter>(
     transaction: &mut Transaction<'_, S>,
     number: i64,
     entries: &[Entry<String>],
+    extras: &[Extra],
 ) -> Result<(), StockError>
     ensures same_reference { transaction.new.conn.ghost_name ≡ transaction.old.conn.ghost_name }
     ensures inside { IsInside (state S.Store transaction.old.conn.now) (state S.Store transaction.new.conn.now) }
 {
-    for entry in entries {
-        write_entry(transaction, number, entry)?;
+    for i in 0..entries.len() {
+        write_entry(transaction, number, &entries[i], extras.get(i))?;
     }
     Ok(())
 }
@@ -267,12 +280,13 @@ fn write_one<S: Alter>(
     row: &Batch,
     is_sealed: bool,
     entries: &[Entry<String>],
+    extras: &[Extra],
 ) -> Result<(), StockError>
     ensures same_reference { transaction.new.conn.ghost_name ≡ transaction.old.conn.ghost_name }
     ensures inside { IsInside (state S.Store transaction.old.conn.now) (state S.Store transaction.new.conn.now) }
 {
     write_batch(transaction, row, is_sealed)?;
-    write_entries(transaction, row.number, entries)
+    write_entries(transaction, row.number, entries, extras)
 }
 
 // Writes the batches, in turn.
@@ -283,11 +297,13 @@ fn write_batches<S: Alter>(
     ensures same_reference { transaction.new.conn.ghost_name ≡ transaction.old.conn.ghost_name }
     ensures inside { IsInside (state S.Store transaction.old.conn.now) (state S.Store transaction.new.conn.now) }
 {
-    let mut left = new.entries;
+    let (mut left, mut left_extras) = (new.entries, new.extras);
     for row in new.batches {
         let (own, later) = cut(left, row.movements);
-        write_one(transaction, row, new.is_sealed, own)?;
+        let (own_extras, later_extras) = cut(left_extras, row.movements);
+        write_one(transaction, row, new.is_sealed, own, own_extras)?;
         left = later;
+        left_extras = later_extras;
     }
     Ok(())
 }

@@ -3,6 +3,9 @@ use hashbag::FixedState;
 use hashbag_csv::counts::Reading;
 use hashbag_csv::delimiter::Delimiter;
 use hashbag_csv::scale::{Mark, Scale};
+use hashbag_ledger_lib::dated::balance_at;
+use hashbag_ledger_lib::dates::is_date;
+use hashbag_ledger_lib::extras::{Extra, ExtraColumns, opposite_extras, read_extras};
 use hashbag_ledger_lib::ledger::booking::{book_batch, count_refused, refusals_from};
 use hashbag_ledger_lib::listing::{batches_text, history_text};
 use hashbag_ledger_lib::movements::{Change, Entry, Movement, Outcome, Place, Refusal};
@@ -473,8 +476,27 @@ fn the_first_wrong_batch_is_found(rt: HostRuntime) -> Result<(), Fail> {
     Ok(())
 }
 
+// Returns dates and notes; an empty text is none.
+fn extras_of(alloc: Global, list: &[(&str, &str)]) -> Result<Vec<Extra>, Fail> {
+    let mut extras = Vec::new(alloc);
+    for (date, note) in list {
+        let mut extra = Extra { date: None, note: None };
+        if !date.is_empty() {
+            extra.date = Some(date.to_string(alloc)?);
+        }
+        if !note.is_empty() {
+            extra.note = Some(note.to_string(alloc)?);
+        }
+        extras.push(extra)?;
+    }
+    Ok(extras)
+}
+
 // Returns a batch that undoes the third, and its entries.
-fn sealed_batch(alloc: Global) -> Result<(Vec<Batch>, Vec<Entry<String>>), Fail> {
+fn sealed_batch(
+    alloc: Global,
+    extras: &[Extra],
+) -> Result<(Vec<Batch>, Vec<Entry<String>>), Fail> {
     let movements = movements_of(alloc, &[("a", "in", 5), ("b", "out", 1), ("a", "out", 0)])?;
     let Ok(booked) = book_batch(alloc, FixedState::new(), Vec::new(alloc), movements) else {
         return Err(Fail::from("not booked"));
@@ -487,7 +509,7 @@ fn sealed_batch(alloc: Global) -> Result<(Vec<Batch>, Vec<Entry<String>>), Fail>
         time: "2026-01-02 03:04:05",
         movements: 3,
     };
-    let batches = sealed_rows(alloc, 2, [draft].as_slice(), &booked.entries)?;
+    let batches = sealed_rows(alloc, 2, [draft].as_slice(), &booked.entries, extras)?;
     Ok((batches, booked.entries))
 }
 
@@ -497,17 +519,114 @@ fn batches_are_sealed(rt: HostRuntime) -> Result<(), Fail> {
     let alloc = rt.alloc();
     let abc = "ba7816bf8f01cfea414140de5dae2223b00361a396177a9cb410ff61f20015ad";
     assert_eq!(rt; digest_of(alloc, b"abc")?.as_str(), abc);
-    let (batches, entries) = sealed_batch(alloc)?;
+    let (batches, entries) = sealed_batch(alloc, &[])?;
     assert_eq!(rt; batches.len(), 1);
     assert_eq!(rt; (batches[0].movements, batches[0].refused), (3, 1));
     assert_eq!(rt;
         batches[0].seal.as_str(),
         "71697d9e3e0e53dc4bb7dc8c1928b33fe06ed64320a22b48a1620ed63c4255a4"
     );
-    assert_eq!(rt; wrong_seal(alloc, 2, &batches, &entries)?, None);
-    assert_eq!(rt; wrong_seal(alloc, 3, &batches, &entries)?, Some(7));
+    assert_eq!(rt; wrong_seal(alloc, 2, &batches, &entries, &[])?, None);
+    let none = extras_of(alloc, &[("", ""), ("", ""), ("", "")])?;
+    assert_eq!(rt; wrong_seal(alloc, 2, &batches, &entries, &none)?, None);
+    assert_eq!(rt; wrong_seal(alloc, 3, &batches, &entries, &[])?, Some(7));
     let first_two = entries.get(..2).unwrap_or(&[]);
-    assert_eq!(rt; wrong_seal(alloc, 2, &batches, first_two)?, Some(7));
+    assert_eq!(rt; wrong_seal(alloc, 2, &batches, first_two, &[])?, Some(7));
+    Ok(())
+}
+
+// The seal of the same batch with dates and notes, also by Python's hashlib.
+#[test]
+fn dates_and_notes_are_sealed(rt: HostRuntime) -> Result<(), Fail> {
+    let alloc = rt.alloc();
+    let extras = extras_of(alloc, &[("", ""), ("2026-02-28", ""), ("2026-01-31", "late")])?;
+    let (batches, entries) = sealed_batch(alloc, &extras)?;
+    assert_eq!(rt;
+        batches[0].seal.as_str(),
+        "833f6374e3dde7dc05122011172dcc0504e401f46d322bd427d6a6bc0b4f779c"
+    );
+    assert_eq!(rt; wrong_seal(alloc, 2, &batches, &entries, &extras)?, None);
+    assert_eq!(rt; wrong_seal(alloc, 2, &batches, &entries, &[])?, Some(7));
+    let other = extras_of(alloc, &[("", ""), ("2026-02-27", ""), ("2026-01-31", "late")])?;
+    assert_eq!(rt; wrong_seal(alloc, 2, &batches, &entries, &other)?, Some(7));
+    Ok(())
+}
+
+// Texts, and whether they are dates.
+const DATES: [(&str, bool); 12] = [
+    ("2026-11-29", true),
+    ("2024-02-29", true),
+    ("2000-02-29", true),
+    ("0000-02-29", true),
+    ("9999-12-31", true),
+    ("1900-02-29", false),
+    ("2026-13-01", false),
+    ("2026-04-31", false),
+    ("2026-00-01", false),
+    ("2026-1-01", false),
+    ("2026-01-01 ", false),
+    ("", false),
+];
+
+#[test]
+fn dates_are_days_of_the_calendar(rt: HostRuntime) -> Result<(), Fail> {
+    for (text, wanted) in &DATES {
+        assert_eq!(rt; is_date(text), *wanted);
+    }
+    Ok(())
+}
+
+#[test]
+fn dates_and_notes_are_read(rt: HostRuntime) -> Result<(), Fail> {
+    let alloc = rt.alloc();
+    let text = b"on,article,why\n2026-02-28,a,late\n2026-01-31,b,\n";
+    let names = ExtraColumns {
+        date: Some("on"),
+        note: Some("why"),
+    };
+    let Ok(extras) = read_extras(alloc, text, names, Delimiter::Comma) else {
+        return Err(Fail::from("not read"));
+    };
+    assert_eq!(rt; extras.len(), 2);
+    assert_eq!(rt; extras[0].date.as_ref().map_or("none", |date| date.as_str()), "2026-02-28");
+    assert_eq!(rt; extras[1].note.as_ref().map_or("none", |note| note.as_str()), "");
+    Ok(())
+}
+
+// The opposites of movements that go out come first, as those of the movements do.
+#[test]
+fn opposites_have_the_same_dates(rt: HostRuntime) -> Result<(), Fail> {
+    let alloc = rt.alloc();
+    let movements = movements_of(alloc, &[("a", "in", 5), ("b", "out", 1), ("a", "in", 2)])?;
+    let extras = extras_of(alloc, &[("2026-01-01", ""), ("2026-01-02", "x"), ("2026-01-03", "")])?;
+    let turned = opposite_extras(alloc, &movements, &extras)?;
+    let wanted = extras_of(alloc, &[("2026-01-02", "x"), ("2026-01-01", ""), ("2026-01-03", "")])?;
+    assert!(rt; turned == wanted);
+    assert!(rt; opposite_extras(alloc, &movements, &[])?.is_empty());
+    Ok(())
+}
+
+// The balance of a day: the refused movement doesn't count, and those of the day do.
+#[test]
+fn a_day_has_a_balance(rt: HostRuntime) -> Result<(), Fail> {
+    let alloc = rt.alloc();
+    let list = [("b", "in", 5), ("b", "out", 2), ("a", "in", 7), ("a", "out", 9)];
+    let movements = movements_of(alloc, list.as_slice())?;
+    let Ok(booked) = book_batch(alloc, FixedState::new(), Vec::new(alloc), movements) else {
+        return Err(Fail::from("not booked"));
+    };
+    let mut days = Vec::new(alloc);
+    for day in ["2026-02-01", "2026-01-31", "2026-01-31", "2026-01-01"] {
+        days.push(day.to_string(alloc)?)?;
+    }
+    for (date, b) in [("2026-01-31", Change::Out(2)), ("2026-02-01", Change::In(3))] {
+        let Ok(rows) = balance_at(alloc, FixedState::new(), date, &booked.entries, &days) else {
+            return Err(Fail::from("no balance"));
+        };
+        assert_eq!(rt; rows.len(), 2);
+        assert!(rt; rows[0] == ("a", Change::In(7)));
+        assert!(rt; rows[1] == ("b", b));
+    }
     Ok(())
 }
 
@@ -536,12 +655,13 @@ fn batches_and_histories_are_written(rt: HostRuntime) -> Result<(), Fail> {
     if let Some(first) = entries.get_mut(0) {
         first.movement.place = Place { file: 1, line: 7 };
     }
+    let extras = extras_of(alloc, &[("", ""), ("2026-02-28", "late")])?;
     if let Some(second) = entries.get_mut(1) {
         second.movement.place = Place { file: 5, line: 7 };
     }
     assert_eq!(rt;
-        String::from_utf8(history_text(alloc, reading, &batches, &entries)?)?.as_str(),
-        "batch;file;line;time;change;outcome;number\n1;file 1.csv;7;2026-01-02 03:04:05;2,5;entered;2,5\n5;file 5.csv;7;2026-01-02 03:04:05;-3,0;refused;2,5\n"
+        String::from_utf8(history_text(alloc, reading, &batches, &entries, &extras)?)?.as_str(),
+        "batch;file;line;time;date;change;outcome;number;note\n1;file 1.csv;7;2026-01-02 03:04:05;;2,5;entered;2,5;\n5;file 5.csv;7;2026-01-02 03:04:05;2026-02-28;-3,0;refused;2,5;late\n"
     );
     Ok(())
 }

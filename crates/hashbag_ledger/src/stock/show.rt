@@ -3,7 +3,9 @@ use crate::stock::database::{ended, is_of_database, open};
 use crate::stock::say::{random_state, say};
 use hashbag_ledger_args::job::Job;
 use hashbag_ledger_db::failure::Failure;
-use hashbag_ledger_db::showing::{Shown, balance_in, batches_in, history_in, show_in};
+use hashbag_ledger_db::showing::{
+    Shown, balance_at_in, balance_in, batches_in, history_in, show_in,
+};
 use hashbag_shell::output::Output;
 use hashbag_shell::status::DONE;
 
@@ -25,8 +27,12 @@ fn write<'a>(rt: &HostRuntime, request: &Job<'a>, shown: &Shown) -> Result<u8, F
 ///
 /// Why there is none, or why it can't be written.
 pub fn balance<'a>(rt: &HostRuntime, request: &Job<'a>) -> Result<u8, Failure<'a>> {
+    let state = random_state(rt)?;
     let (mut conn, shape) = open(rt, request)?;
-    let shown = balance_in(rt.alloc(), request, shape, &mut conn);
+    let shown = match request.at {
+        Some(date) => balance_at_in(rt.alloc(), state, request, shape, &mut conn, date),
+        None => balance_in(rt.alloc(), request, shape, &mut conn),
+    };
     write(rt, request, &ended(conn, shown)?)
 }
 

@@ -5,4 +5,4 @@ use Rattle.hashbag_ledger_lib.proofs.sealing.sealed_rows.Given as goal
 
 -- before the rows of the drafts that are left, those so far are the rows of all drafts
 abbrev pub invariant-loop-draft : goal.invariant-loop-draft
-invariant-loop-draft l = (more : List Batch) → AreRowsOf l.scale (drop l.draft-index l.drafts) l.left more → AreRowsOf l.scale l.drafts l.entries (l.rows.items ++ more)
+invariant-loop-draft l = (more : List Batch) → AreRowsOf l.scale (drop l.draft-index l.drafts) l.left l.left_extras more → AreRowsOf l.scale l.drafts l.entries l.extras (l.rows.items ++ more)

@@ -1,0 +1,48 @@
+-- The dates and notes of movements, as the records of a CSV text have them.
+use Rattle.std.specs.Prelude.{◌≡◌, ℕ, true, List, [], ◌∷◌, map, get_or, Option, IfSome, MatchOption, option_map, String}
+use Rattle.std.specs.String.{string_bytes}
+use Rattle.hashbag_csv.specs.Lines.{place_of}
+use Rattle.hashbag_csv.specs.Readers.{Record, records_in}
+use Rattle.hashbag_csv.specs.Sheets.{left}
+use Rattle.hashbag_csv.specs.declared.delimiter.Delimiter.{Delimiter}
+use Rattle.hashbag_csv.specs.declared.sheet.Sheet.{Sheet}
+use Rattle.hashbag_ledger_lib.specs.Dates.{is_date}
+use Rattle.hashbag_ledger_lib.specs.declared.extras.Extra.{Extra}
+use Rattle.hashbag_ledger_lib.specs.declared.extras.ExtraColumns.{ExtraColumns}
+
+-- the bytes of a date and of a note, each if there is one
+abbrev pub carried : Extra → Option (List ℕ) × Option (List ℕ)
+carried x = (option_map string_bytes x.date, option_map string_bytes x.note)
+
+-- its date, if there is one, is a date
+abbrev pub HasDate : Extra → Type 0
+HasDate x = IfSome x.date (λ d. is_date (string_bytes d) ≡ true)
+
+-- f of each column, in its place: for example a column's place for its name
+abbrev pub columns_of : {C D : Type 0} → (C → D) → ExtraColumns C → ExtraColumns D
+columns_of f columns = record { date = option_map f columns.date; note = option_map f columns.note }
+
+-- the field of a record at a place, if there is one
+abbrev pub field_at : Record → Option ℕ → Option (List ℕ)
+field_at r column = option_map (λ p. get_or r p []) column
+
+-- the date and the note of a record, which are at these places
+abbrev pub extra_in : ExtraColumns ℕ → Record → Option (List ℕ) × Option (List ℕ)
+extra_in columns r = (field_at r columns.date, field_at r columns.note)
+
+-- those of the records after the first one, which is their header: `names` are the names of the columns
+abbrev pub extras_under : ExtraColumns (List ℕ) → List Record → List (Option (List ℕ) × Option (List ℕ))
+extras_under names [] = []
+extras_under names (header ∷ records) = map (extra_in (columns_of (place_of header) names)) records
+
+-- those of a text, whose columns have these names
+abbrev pub extras_in : Delimiter → ExtraColumns (List ℕ) → List ℕ → List (Option (List ℕ) × Option (List ℕ))
+extras_in delimiter names text = extras_under names (records_in delimiter text)
+
+-- `before` is a record and then `after`, and x is what it carries along
+abbrev pub IsNextExtra : ExtraColumns ℕ → List Record → List Record → Extra → Type 0
+IsNextExtra columns before after x = (r : Record) × (before ≡ r ∷ after) × (carried x ≡ extra_in columns r)
+
+-- the next record was read, as what it carries along, or none was left
+abbrev pub ReadsNextExtra : ExtraColumns ℕ → Sheet → Option Extra → Sheet → Type 0
+ReadsNextExtra columns old next new = MatchOption next (left old ≡ []) (λ x. IsNextExtra columns (left old) (left new) x)

@@ -1,0 +1,14 @@
+-- The definition of the dates and notes of records computes.
+use Rattle.std.specs.Prelude.{◌≡◌, ℕ, List, [], ◌∷◌, Option, None, Some, codes, refl}
+use Rattle.hashbag_csv.specs.Readers.{Record}
+use Rattle.hashbag_ledger_lib.specs.Extras.{extras_under}
+use Rattle.hashbag_ledger_lib.specs.declared.extras.ExtraColumns.{ExtraColumns}
+
+abbrev dates_alone : ExtraColumns (List ℕ)
+dates_alone = record { date = Some (codes "on"); note = None }
+
+abbrev row : List ℕ → List ℕ → Record
+row a b = a ∷ b ∷ []
+
+second_column : extras_under dates_alone (row (codes "a") (codes "on") ∷ row (codes "nut") (codes "2026-01-31") ∷ []) ≡ (Some (codes "2026-01-31"), None) ∷ []
+second_column = refl

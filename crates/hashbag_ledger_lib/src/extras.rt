@@ -1,0 +1,199 @@
+//! What movements carry along: their dates and notes. No count depends on them, so a list of them goes with the list of the movements, one
+//! for each, in turn. An empty list says that none has a date or a note.
+ghost use Rattle.std.specs.Prelude.{◌≡◌, true, All, IfOk, IfSome, map, option_map, string_bytes};
+ghost use Rattle.hashbag_csv.specs.Lines.{place_of};
+ghost use Rattle.hashbag_csv.specs.Sheets.{place, read_last};
+ghost use Rattle.hashbag_ledger_lib.specs.Dates.{is_date};
+ghost use Rattle.hashbag_ledger_lib.specs.Extras.{carried, columns_of, extras_in, field_at, HasDate, ReadsNextExtra};
+
+use crate::dates::is_date;
+use crate::movements::{Change, Movement};
+use hashbag_csv::delimiter::Delimiter;
+use hashbag_csv::escaped::shown;
+use hashbag_csv::fault::SheetError;
+use hashbag_csv::lines::column_of;
+use hashbag_csv::sheet::{Column, Sheet};
+use std::alloc::{AllocError, Global};
+
+/// What a movement carries along.
+#[derive(PartialEq, Eq, Debug, Drop)]
+pub struct Extra {
+    /// Its date, as `2026-02-28`, if it has one.
+    pub date: Option<String>,
+    /// Its note, if it has one.
+    pub note: Option<String>,
+}
+
+/// The columns of dates and of notes, if there are any: names, or places under a header.
+#[derive(Clone, Copy)]
+pub struct ExtraColumns<C> {
+    /// The dates.
+    pub date: Option<C>,
+    /// The notes.
+    pub note: Option<C>,
+}
+
+/// Why dates and notes can't be read.
+#[derive(Debug, Drop)]
+pub enum ExtraError {
+    /// The text is no CSV, has not one column of a name, or an allocation failed.
+    Sheet(SheetError),
+    /// A field of dates is no date.
+    NoDate {
+        /// The line on which its record begins.
+        line: u64,
+        /// The field, as it is shown.
+        field: String,
+    },
+}
+
+impl From<SheetError> for ExtraError {
+    fn from(error: SheetError) -> ExtraError {
+        ExtraError::Sheet(error)
+    }
+}
+
+impl From<AllocError> for ExtraError {
+    fn from(_e: AllocError) -> ExtraError {
+        ExtraError::Sheet(SheetError::Memory)
+    }
+}
+
+// Returns the column of this name, if there is a name, in the header, which is the record that was read last.
+fn column_if<'n>(sheet: &Sheet<'_>, name: Option<&'n str>) -> Result<Option<Column<'n>>, SheetError>
+    ensures { IfOk result (λ column. option_map place column ≡ option_map (λ n. place_of (read_last sheet.now) n.now) name.entry) }
+{
+    match name {
+        Some(name) => Ok(Some(column_of(sheet, name)?)),
+        None => Ok(None),
+    }
+}
+
+// Returns the field of a column, if there is one, of the record that was read last.
+fn field_if(
+    alloc: Global,
+    sheet: &Sheet<'_>,
+    column: Option<Column<'_>>,
+) -> Result<Option<String>, SheetError>
+    ensures { IfOk result (λ field. option_map string_bytes field ≡ field_at (read_last sheet.now) (option_map place column.entry)) }
+{
+    match column {
+        Some(column) => Ok(Some(String::from_str(alloc, sheet.field(column)?)?)),
+        None => Ok(None),
+    }
+}
+
+// Returns whether a text is a date, or there is none.
+fn is_date_if(text: &Option<String>) -> bool
+    ensures { result ≡ true → IfSome text.now (λ t. is_date (string_bytes t) ≡ true) }
+{
+    match text {
+        Some(text) => is_date(text.as_str()),
+        None => true,
+    }
+}
+
+// Returns the error for a field that is no date.
+fn no_date(alloc: Global, line: u64, date: &Option<String>) -> ExtraError {
+    let field = date.as_ref().map_or("", |date| date.as_str());
+    match shown(alloc, field) {
+        Ok(field) => ExtraError::NoDate { line, field },
+        Err(_) => ExtraError::Sheet(SheetError::Memory),
+    }
+}
+
+// Reads what the next movement carries along, or returns `None` after the last one.
+fn next_extra(
+    alloc: Global,
+    sheet: &mut Sheet<'_>,
+    columns: ExtraColumns<Column<'_>>,
+) -> Result<Option<Extra>, ExtraError>
+    ensures read { IfOk result (λ read. ReadsNextExtra (columns_of place columns.entry) sheet.old read sheet.new) }
+    ensures dates { IfOk result (λ read. IfSome read HasDate) }
+{
+    if !sheet.read()? {
+        return Ok(None);
+    }
+    let date = field_if(alloc, sheet, columns.date)?;
+    let note = field_if(alloc, sheet, columns.note)?;
+    if !is_date_if(&date) {
+        return Err(no_date(alloc, sheet.line(), &date));
+    }
+    Ok(Some(Extra { date, note }))
+}
+
+/// Reads the dates and the notes of the movements of a text, in the order of its lines: one for each record.
+///
+/// # Errors
+///
+/// `NoDate` with the first line whose date is none, or why the text isn't read.
+pub fn read_extras(
+    alloc: Global,
+    text: &[u8],
+    names: ExtraColumns<&str>,
+    delimiter: Delimiter,
+) -> Result<Vec<Extra>, ExtraError>
+    // They are those that the text has, and each date is one.
+    ensures extras { IfOk result (λ extras. map carried extras.items ≡ extras_in delimiter (columns_of (λ n. n.now) names.entry) text.now) }
+    ensures dates { IfOk result (λ extras. All HasDate extras.items) }
+{
+    let mut sheet = Sheet::open_with(alloc, text, delimiter)?;
+    let date = column_if(&sheet, names.date)?;
+    let note = column_if(&sheet, names.note)?;
+    let columns = ExtraColumns { date, note };
+    let mut extras = Vec::new(alloc);
+    'records: while let Some(extra) = next_extra(alloc, &mut sheet, columns)? {
+        extras.push(extra).map_err(AllocError::from)?;
+    }
+    Ok(extras)
+}
+
+// Appends the extras of the movements that go out, or of those that come in.
+fn push_turned(
+    turned: &mut Vec<Extra>,
+    movements: &[Movement<String>],
+    extras: &[Extra],
+    is_out: bool,
+) -> Result<(), AllocError> {
+    for i in 0..movements.len() {
+        if matches!(movements[i].change, Change::Out(_)) == is_out
+            && let Some(extra) = extras.get(i)
+        {
+            let (date, note) = (extra.date.clone()?, extra.note.clone()?);
+            turned.push(Extra { date, note }).map_err(AllocError::from)?;
+        }
+    }
+    Ok(())
+}
+
+/// Returns the extras of the opposite movements of a batch, in their order: each has those of the movement that it takes back.
+///
+/// # Errors
+///
+/// An allocation fails.
+pub fn opposite_extras(
+    alloc: Global,
+    movements: &[Movement<String>],
+    extras: &[Extra],
+) -> Result<Vec<Extra>, AllocError> {
+    let mut turned = Vec::new(alloc);
+    push_turned(&mut turned, movements, extras, true)?;
+    push_turned(&mut turned, movements, extras, false)?;
+    Ok(turned)
+}
+
+/// Returns the date of the movement at this place, or an empty text.
+pub fn date_at(extras: &[Extra], at: usize) -> &str {
+    match extras.get(at) {
+        Some(extra) => extra.date.as_ref().map_or("", |date| date.as_str()),
+        None => "",
+    }
+}
+
+/// Returns the note of the movement at this place, or an empty text.
+pub fn note_at(extras: &[Extra], at: usize) -> &str {
+    match extras.get(at) {
+        Some(extra) => extra.note.as_ref().map_or("", |note| note.as_str()),
+        None => "",
+    }
+}
