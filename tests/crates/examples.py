@@ -30,7 +30,7 @@ PAGE = "docs/prove/CALLING.md"
 CRATES = ["hashbag_core", "hashbag_script", "hashbag_ops"]
 WITHOUT = ["crates/hashbag_ops/src/laws.rt"]
 
-USES = "hashbag hashbag_core hashbag_ops serde_json"
+USES = "hashbag hashbag_core serde_json"
 # A crate has at most this many tests, so that several are proved side by side, each in 2 GB.
 MOST = 24
 HEAD = """\
@@ -40,7 +40,7 @@ HEAD = """\
 #[cfg(test)]
 mod tests {
     use hashbag::script::{self, Step};
-    use hashbag::{BagError, FixedState, HashBag, ItemError, JsonError, JsonItem, joins};
+    use hashbag::{BagError, FixedState, HashBag, ItemError, JsonError, JsonItem, joins, ops};
     use serde_json::Value;
     use std::hash::{BuildHasher, RandomState};
     use std::test::Fail;

@@ -9,4 +9,5 @@ pub use hashbag_core::{
     JsonItem, JsonText, Key, NotIn, OuterJoin, SetIter, SignedDifference, Spare, ToValue,
     TryExtendError, bag, entry, iters, joins, json,
 };
+pub use hashbag_ops as ops;
 pub use hashbag_script::script;

@@ -66,6 +66,6 @@ module _ {T : Type 0} (eq : T → T → Bool) (cmp : T → T → Ordering) (tree
   abbrev pub IsTreeOfCounts : List T → ℕ → Data → Type 0
   IsTreeOfCounts X most d = (Y : List T) → IsOneInstanceEach eq Y → SameCounts eq Y X → IsBagTree Y most d
 
-  -- d is the tree of a bag exactly if that bag has the counts of X and the limit `most`
+  -- d equals the tree e of a bag exactly if that bag has the counts of X and the limit `most`
   abbrev pub TellsApart : (T → Type 0) → List T → ℕ → Data → Type 0
   TellsApart is_item X most d = (Y : List T) (n : ℕ) (e : Data) → All is_item Y → IsBagTree Y n e → ((same_counts eq X Y ≡ true) × (most ≡ n)) ↔ (d ≡ e)

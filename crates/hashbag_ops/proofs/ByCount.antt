@@ -9,16 +9,16 @@ use Rattle.std.specs.List.{IsDistinct}
 use Rattle.std.specs.Map.{keys_of}
 use Rattle.std.proofs.lemmas.List.Sorted.{IsPermutation-refl}
 use Rattle.std.proofs.lemmas.Map.Keys.{IsDistinct-tail}
-use Rattle.hashbag.specs.Asked.{AnswersInTurn, kept}
-use Rattle.hashbag.specs.Bag.{Bag, occurrences}
-use Rattle.hashbag.specs.EqualityLaws.{count_append, count_congr}
-use Rattle.hashbag.specs.Occurrences.{count}
-use Rattle.hashbag.specs.Retain.{IsRetained}
-use Rattle.hashbag.proofs.CallerLemmas.{count_means}
-use Rattle.hashbag.proofs.DistinctLemmas.{absent_later}
-use Rattle.hashbag.proofs.JoinLemmas.{keys_of_walk}
-use Rattle.hashbag.proofs.Laws.{count_added}
-use Rattle.hashbag.proofs.OccurrenceLemmas.{count_rearranged}
+use Rattle.hashbag_table.specs.Asked.{AnswersInTurn, kept}
+use Rattle.hashbag_core.specs.Bag.{Bag, occurrences}
+use Rattle.hashbag_core.specs.EqualityLaws.{count_append, count_congr}
+use Rattle.hashbag_core.specs.Occurrences.{count}
+use Rattle.hashbag_core.specs.Retain.{IsRetained}
+use Rattle.hashbag_core.proofs.CallerLemmas.{count_means}
+use Rattle.hashbag_core.proofs.DistinctLemmas.{absent_later}
+use Rattle.hashbag_core.proofs.JoinLemmas.{keys_of_walk}
+use Rattle.hashbag_core.proofs.Laws.{count_added}
+use Rattle.hashbag_core.proofs.OccurrenceLemmas.{count_rearranged}
 
 module _ {F T : Type 0} (g : Mut F (Bor T × (ℕ × Unit {0})) ℕ) (J : F → Type 0) (many : T → ℕ → ℕ)
     (says : (p q : F) (x : Bor T) (n a : ℕ) → J p → Called g p (x, (n, tt)) a q → (a ≡ many x.now n) × J q) where

@@ -7,9 +7,9 @@ use Rattle.std.specs.Set.{is_member}
 use Rattle.std.proofs.lemmas.List.{length-map}
 use Rattle.std.proofs.lemmas.List.Folds.{Any-from_list_any, list_any-from_Any}
 use Rattle.std.proofs.lemmas.Map.Made.{length-le_from_is_member}
-use Rattle.hashbag.specs.Joins.{IsNotIn}
-use Rattle.hashbag.specs.JoinsLeft.{lacking}
-use Rattle.hashbag.proofs.ContainsLemmas.{Contains-map, Contains-map_back}
+use Rattle.hashbag_core.specs.Joins.{IsNotIn}
+use Rattle.hashbag_core.specs.JoinsLeft.{lacking}
+use Rattle.hashbag_core.proofs.ContainsLemmas.{Contains-map, Contains-map_back}
 
 -- an empty list lacks all
 pub lacking_all : {T : Type 0} (eq : T → T → Bool) (W : List (T × ℕ)) → length (lacking eq [] W) ≡ length W

@@ -2,7 +2,7 @@
 use Rattle.std.proofs.Common.{◌≡◌, ℕ, suc, ◌+◌, ◌<◌, Bool, true, false, cond, List, [], ◌∷◌, length, refl, sym, ◌∙◌, ap, arith}
 use Rattle.std.specs.Cmp.{IsEquivalence}
 use Rattle.std.proofs.lemmas.List.Sums.{sum_by-cons}
-use Rattle.hashbag.specs.Occurrences.{count, SameCounts}
+use Rattle.hashbag_core.specs.Occurrences.{count, SameCounts}
 
 module _ {T : Type 0} {eq : T → T → Bool} (laws : IsEquivalence eq) where
   abbrev one : Bool → ℕ

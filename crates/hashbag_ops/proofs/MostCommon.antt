@@ -11,14 +11,14 @@ use Rattle.std.specs.declared.cmp.Ordering.TheVariants.{Less, Greater}
 use Rattle.std.proofs.lemmas.List.Elements.{All-contains, All-from_recursion}
 use Rattle.std.proofs.lemmas.Map.Keys.{sorted_head}
 use Rattle.std.proofs.lemmas.List.Sorted.{IsPermutation-refl}
-use Rattle.hashbag.specs.Bag.{Bag}
-use Rattle.hashbag.specs.EqualityLaws.{count_congr}
-use Rattle.hashbag.specs.Occurrences.{count}
-use Rattle.hashbag.specs.Walks.{IsSetWalk, IsSetWalkOf, seen}
-use Rattle.hashbag.proofs.ContainsLemmas.{Contains-cases}
-use Rattle.hashbag.proofs.ExcessLemmas.{an_instance}
-use Rattle.hashbag.proofs.JoinLemmas.{in_walk}
-use Rattle.hashbag.proofs.MemberLemmas.{Contains-head}
+use Rattle.hashbag_core.specs.Bag.{Bag}
+use Rattle.hashbag_core.specs.EqualityLaws.{count_congr}
+use Rattle.hashbag_core.specs.Occurrences.{count}
+use Rattle.hashbag_core.specs.Walks.{IsSetWalk, IsSetWalkOf, seen}
+use Rattle.hashbag_core.proofs.ContainsLemmas.{Contains-cases}
+use Rattle.hashbag_core.proofs.ExcessLemmas.{an_instance}
+use Rattle.hashbag_core.proofs.JoinLemmas.{in_walk}
+use Rattle.hashbag_core.proofs.MemberLemmas.{Contains-head}
 use Rattle.hashbag_ops.specs.Order.{rank, IsMostCommon}
 use Rattle.hashbag_ops.proofs.Walked.{onto_walk}
 

@@ -13,7 +13,7 @@ use Rattle.std.proofs.lemmas.Fn.{always_returns_same}
 use Rattle.std.proofs.lemmas.List.Sorted.{ranks_by, sorted_far}
 use Rattle.std.proofs.lemmas.Map.Keys.{IsDistinct-head, IsDistinct-tail}
 use Rattle.hashbag_ops.specs.Order.{rank, comes_first}
-use Rattle.hashbag.specs.Walks.{seen}
+use Rattle.hashbag_core.specs.Walks.{seen}
 
 -- none comes before one that stands before it
 abbrev pub Rises : {X : Type 0} → (X → X → Bool) → List X → Type 0

@@ -5,18 +5,18 @@ use Rattle.std.proofs.lemmas.Bool.{cases_lt}
 use Rattle.std.proofs.lemmas.Iterator.{YieldsList}
 use Rattle.std.proofs.lemmas.List.{append-nil, map-id}
 use Rattle.std.proofs.lemmas.List.Sums.{length-filter, count_by-le-length, sum_by-append, sum_by-cons}
-use Rattle.hashbag.specs.declared.bag.BagError.{BagError}
-use Rattle.hashbag.specs.declared.bag.BagError.TheVariants.{Memory, TooMany, BelowTotal}
-use Rattle.hashbag.specs.Bag.{Bag, IsBagOf, occurrences}
-use Rattle.hashbag.specs.Extends.{AsItIs}
-use Rattle.hashbag.specs.Inserts.{Inserts, InsertsAll, InsertsUpTo, InTurn, IsRefused, RefusesPair}
-use Rattle.hashbag.specs.JoinsLeft.{lacking}
-use Rattle.hashbag.specs.Occurrences.{count, distinct_count, IsBag}
-use Rattle.hashbag.specs.Tables.{room}
-use Rattle.hashbag.specs.Walks.{IsSetWalkOf}
-use Rattle.hashbag.proofs.CallerLemmas.{count_extended, count_kept, items_that_came, pairs_as_they_are}
-use Rattle.hashbag.proofs.InsertLemmas.{few_in_turn, left_in_turn, length_in_turn, spends_in_turn, turn_last, StaysWithin}
-use Rattle.hashbag.proofs.OccurrenceLemmas.{count_rearranged}
+use Rattle.hashbag_core.specs.declared.bag.BagError.{BagError}
+use Rattle.hashbag_core.specs.declared.bag.BagError.TheVariants.{Memory, TooMany, BelowTotal}
+use Rattle.hashbag_core.specs.Bag.{Bag, IsBagOf, occurrences}
+use Rattle.hashbag_core.specs.Extends.{AsItIs}
+use Rattle.hashbag_core.specs.Inserts.{Inserts, InsertsAll, InsertsUpTo, InTurn, IsRefused, RefusesPair}
+use Rattle.hashbag_core.specs.JoinsLeft.{lacking}
+use Rattle.hashbag_core.specs.Occurrences.{count, distinct_count, IsBag}
+use Rattle.hashbag_table.specs.Tables.{room}
+use Rattle.hashbag_core.specs.Walks.{IsSetWalkOf}
+use Rattle.hashbag_core.proofs.CallerLemmas.{count_extended, count_kept, items_that_came, pairs_as_they_are}
+use Rattle.hashbag_core.proofs.InsertLemmas.{few_in_turn, left_in_turn, length_in_turn, spends_in_turn, turn_last, StaysWithin}
+use Rattle.hashbag_core.proofs.OccurrenceLemmas.{count_rearranged}
 use Rattle.hashbag_ops.proofs.Sums.{count_written, few_lacked, has_in_turn, lacked, none_of_none, one_if, one_lacked, takes_pairs, Has}
 
 -- a sum over a list in two parts

@@ -7,18 +7,18 @@ use Rattle.std.proofs.lemmas.Iterator.{YieldsList}
 use Rattle.std.proofs.lemmas.Iterator.Consumers.{YieldsList-so_far, YieldsList-turn}
 use Rattle.std.proofs.lemmas.List.{map-id}
 use Rattle.std.proofs.lemmas.List.Sums.{length-filter, sum_by-cons}
-use Rattle.hashbag.specs.declared.bag.BagError.{BagError}
-use Rattle.hashbag.specs.declared.bag.BagError.TheVariants.{Memory, TooMany, BelowTotal}
-use Rattle.hashbag.specs.Bag.{Bag, occurrences}
-use Rattle.hashbag.specs.EqualityLaws.{count_append}
-use Rattle.hashbag.specs.Extends.{AsItIs, Refuses}
-use Rattle.hashbag.specs.Inserts.{Inserts, InsertsUpTo, InTurn, IsRefused, RefusesPair}
-use Rattle.hashbag.specs.JoinsLeft.{lacking}
-use Rattle.hashbag.specs.Occurrences.{count, distinct_count}
-use Rattle.hashbag.specs.Tables.{room}
-use Rattle.hashbag.proofs.CallerLemmas.{count_inserted_any, pairs_as_they_are}
-use Rattle.hashbag.proofs.InsertLemmas.{length_in_turn, refused_past_room, some_added}
-use Rattle.hashbag.proofs.Laws.{count_added}
+use Rattle.hashbag_core.specs.declared.bag.BagError.{BagError}
+use Rattle.hashbag_core.specs.declared.bag.BagError.TheVariants.{Memory, TooMany, BelowTotal}
+use Rattle.hashbag_core.specs.Bag.{Bag, occurrences}
+use Rattle.hashbag_core.specs.EqualityLaws.{count_append}
+use Rattle.hashbag_core.specs.Extends.{AsItIs, Refuses}
+use Rattle.hashbag_core.specs.Inserts.{Inserts, InsertsUpTo, InTurn, IsRefused, RefusesPair}
+use Rattle.hashbag_core.specs.JoinsLeft.{lacking}
+use Rattle.hashbag_core.specs.Occurrences.{count, distinct_count}
+use Rattle.hashbag_table.specs.Tables.{room}
+use Rattle.hashbag_core.proofs.CallerLemmas.{count_inserted_any, pairs_as_they_are}
+use Rattle.hashbag_core.proofs.InsertLemmas.{length_in_turn, refused_past_room, some_added}
+use Rattle.hashbag_core.proofs.Laws.{count_added}
 
 -- the numbers of the items before one, and its own, are no more than those of all
 sum_to : {A : Type 0} (f : A → ℕ) (all : List A) (k : ℕ) (d : A) → k < length all → sum_by f (take k all) + f (get_or all k d) ≤ sum_by f all

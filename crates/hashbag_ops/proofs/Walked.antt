@@ -3,10 +3,10 @@ use Rattle.std.proofs.Common.{ℕ, ◌<◌, Bool, List, All, sym}
 use Rattle.std.specs.Cmp.{IsEquivalence}
 use Rattle.std.specs.List.{Contains}
 use Rattle.std.proofs.lemmas.List.Elements.{All-contains}
-use Rattle.hashbag.specs.Occurrences.{count}
-use Rattle.hashbag.specs.Walks.{IsSetWalk}
-use Rattle.hashbag.proofs.ContainsLemmas.{All-from_Contains, Contains-map, Contains-same}
-use Rattle.hashbag.proofs.JoinLemmas.{count_of_item, in_walk}
+use Rattle.hashbag_core.specs.Occurrences.{count}
+use Rattle.hashbag_core.specs.Walks.{IsSetWalk}
+use Rattle.hashbag_core.proofs.ContainsLemmas.{All-from_Contains, Contains-map, Contains-same}
+use Rattle.hashbag_core.proofs.JoinLemmas.{count_of_item, in_walk}
 
 module _ {T : Type 0} {eq : T → T → Bool} where
   -- an instance that occurs is in a set walk, with its count

@@ -1,10 +1,10 @@
 -- What one bag has and another lacks.
 use Rattle.std.specs.Prelude.{ℕ, ◌<◌, ◌≤◌, Bool, List, length}
-use Rattle.hashbag.specs.Bag.{Bag}
-use Rattle.hashbag.specs.Joins.{IsNotIn}
-use Rattle.hashbag.specs.JoinsLeft.{lacking}
-use Rattle.hashbag.specs.Tables.{Tables, room}
-use Rattle.hashbag.specs.Walks.{IsSetWalkOf}
+use Rattle.hashbag_core.specs.Bag.{Bag}
+use Rattle.hashbag_core.specs.Joins.{IsNotIn}
+use Rattle.hashbag_core.specs.JoinsLeft.{lacking}
+use Rattle.hashbag_table.specs.Tables.{Tables, room}
+use Rattle.hashbag_core.specs.Walks.{IsSetWalkOf}
 
 -- more than k distinct values of X don't occur in Y
 abbrev pub LacksMoreThan : {T : Type 0} → (T → T → Bool) → ℕ → List T → List T → Type 0

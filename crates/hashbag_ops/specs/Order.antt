@@ -8,8 +8,8 @@ use Rattle.std.specs.Ordering.{is_lt, ordering_then, nat_cmp}
 use Rattle.std.specs.declared.cmp.Ordering.{Ordering}
 use Rattle.std.specs.declared.cmp.Reverse.{Reverse}
 use Rattle.std.specs.declared.collections.BinaryHeap.{BinaryHeap}
-use Rattle.hashbag.specs.Bag.{Bag}
-use Rattle.hashbag.specs.Walks.{IsSetWalkOf}
+use Rattle.hashbag_core.specs.Bag.{Bag}
+use Rattle.hashbag_core.specs.Walks.{IsSetWalkOf}
 
 -- the order of the most common: what occurs more often comes first, and of what occurs as often the lesser value
 abbrev pub rank : {T : Type 0} → (T → T → Ordering) → T × ℕ → T × ℕ → Ordering

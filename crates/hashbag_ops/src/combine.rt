@@ -1,13 +1,13 @@
 //! Sums of two bags, and what one bag keeps of its own by comparison with another.
 ghost use Rattle.std.specs.Prelude.{◌≡◌, ℕ, ◌+◌, ◌-◌, ◌<◌, ◌≤◌, ◌↔◌, min, max, List, length, All, true, false, IfErr, OnOk, OnErr};
-ghost use Rattle.hashbag.specs.Joins.{IsNotIn};
-ghost use Rattle.hashbag.specs.Occurrences.{count, distinct_count};
-ghost use Rattle.hashbag.specs.Tables.{limit, room};
-ghost use Rattle.hashbag.specs.Walks.{IsSetWalkOf};
+ghost use Rattle.hashbag_core.specs.Joins.{IsNotIn};
+ghost use Rattle.hashbag_core.specs.Occurrences.{count, distinct_count};
+ghost use Rattle.hashbag_table.specs.Tables.{limit, room};
+ghost use Rattle.hashbag_core.specs.Walks.{IsSetWalkOf};
 ghost use Rattle.hashbag_ops.specs.Lacked.{HasRoomForAll, HasRoomForLacked, LacksMoreThan};
 ghost use Rattle.hashbag_ops.specs.Unions.{IsUnion};
 
-use hashbag::{BagError, HashBag, Spare};
+use hashbag_core::{BagError, HashBag, Spare};
 use std::hash::{BuildHasher, Hash};
 use std::iter::ExactSizeIterator;
 
@@ -41,7 +41,7 @@ use std::iter::ExactSizeIterator;
 /// let mut delivery: HashBag<&str> = HashBag::new(alloc);
 /// delivery.insert_many("bolt", 3)?;
 /// delivery.insert("nut")?;
-/// hashbag_ops::merge(&mut stock, delivery)?;
+/// ops::merge(&mut stock, delivery)?;
 /// stock.contains(&"bolt"); // 5
 /// stock.len(); // 6
 /// Ok(())
@@ -184,8 +184,8 @@ fn lacked_by<T: Eq + Hash + Drop, S: BuildHasher + Drop, S2: BuildHasher + Drop>
 /// let mut all: HashBag<&str> = HashBag::new(alloc);
 /// let mut day: HashBag<&str> = HashBag::new(alloc);
 /// day.insert_many("bolt", 3)?;
-/// hashbag_ops::merge_ref(&mut all, &day)?;
-/// hashbag_ops::merge_ref(&mut all, &day)?;
+/// ops::merge_ref(&mut all, &day)?;
+/// ops::merge_ref(&mut all, &day)?;
 /// all.contains(&"bolt"); // 6
 /// day.contains(&"bolt"); // 3
 /// Ok(())
@@ -228,7 +228,7 @@ pub fn merge_ref<
 /// stock.insert("nut")?;
 /// let mut order: HashBag<&str> = HashBag::new(alloc);
 /// order.insert_many("bolt", 3)?;
-/// hashbag_ops::keep_common(&mut stock, &order);
+/// ops::keep_common(&mut stock, &order);
 /// stock.contains(&"bolt"); // 3
 /// stock.contains(&"nut"); // 0
 /// Ok(())
@@ -267,7 +267,7 @@ pub fn keep_common<T: Eq + Hash + Drop, S: BuildHasher + Drop, S2: BuildHasher +
 /// let mut sold: HashBag<&str> = HashBag::new(alloc);
 /// sold.insert_many("bolt", 3)?;
 /// sold.insert("nut")?;
-/// hashbag_ops::take_away(&mut stock, &sold);
+/// ops::take_away(&mut stock, &sold);
 /// stock.contains(&"bolt"); // 2
 /// stock.contains(&"nut"); // 0
 /// Ok(())
@@ -321,7 +321,7 @@ pub fn take_away<T: Eq + Hash + Drop, S: BuildHasher + Drop, S2: BuildHasher + D
 /// let mut other: HashBag<&str> = HashBag::new(alloc);
 /// other.insert_many("bolt", 3)?;
 /// other.insert("nut")?;
-/// hashbag_ops::keep_most(&mut needed, other)?;
+/// ops::keep_most(&mut needed, other)?;
 /// needed.contains(&"bolt"); // 3
 /// needed.contains(&"nut"); // 1
 /// Ok(())

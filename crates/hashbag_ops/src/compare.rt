@@ -1,8 +1,8 @@
 //! Whether one bag holds all of another, and whether two have nothing in common.
 ghost use Rattle.std.specs.Prelude.{◌≡◌, ◌≤◌, ◌↔◌, min, IsTrue};
-ghost use Rattle.hashbag.specs.Occurrences.{count};
+ghost use Rattle.hashbag_core.specs.Occurrences.{count};
 
-use hashbag::HashBag;
+use hashbag_core::HashBag;
 use std::hash::{BuildHasher, Hash};
 
 /// Returns whether a bag holds all of another: of each value at least as many as `other` has.
@@ -18,8 +18,8 @@ use std::hash::{BuildHasher, Hash};
 /// stock.insert_many("bolt", 5)?;
 /// let mut order: HashBag<&str> = HashBag::new(alloc);
 /// order.insert_many("bolt", 3)?;
-/// hashbag_ops::contains_all(&stock, &order); // true
-/// hashbag_ops::contains_all(&order, &stock); // false
+/// ops::contains_all(&stock, &order); // true
+/// ops::contains_all(&order, &stock); // false
 /// Ok(())
 /// ```
 pub fn contains_all<T: Eq + Hash + Drop, S: BuildHasher + Drop, S2: BuildHasher + Drop>(
@@ -45,8 +45,8 @@ pub fn contains_all<T: Eq + Hash + Drop, S: BuildHasher + Drop, S2: BuildHasher 
 /// fruit.insert("apple")?;
 /// let mut nuts: HashBag<&str> = HashBag::new(alloc);
 /// nuts.insert("hazel")?;
-/// hashbag_ops::is_disjoint(&fruit, &nuts); // true
-/// hashbag_ops::is_disjoint(&fruit, &fruit); // false
+/// ops::is_disjoint(&fruit, &nuts); // true
+/// ops::is_disjoint(&fruit, &fruit); // false
 /// Ok(())
 /// ```
 pub fn is_disjoint<T: Eq + Hash + Drop, S: BuildHasher + Drop, S2: BuildHasher + Drop>(

@@ -3,10 +3,10 @@
 //!
 //! Each is a function that is proved, which callers can copy.
 ghost use Rattle.std.specs.Prelude.{◌≡◌, ◌++◌, IsTrue, OnOk, IfOk};
-ghost use Rattle.hashbag.specs.Occurrences.{count, SameCounts};
+ghost use Rattle.hashbag_core.specs.Occurrences.{count, SameCounts};
 
 use crate::combine::{merge, take_away};
-use hashbag::{BagError, HashBag};
+use hashbag_core::{BagError, HashBag};
 use std::alloc::Global;
 use std::hash::{BuildHasher, Hash};
 

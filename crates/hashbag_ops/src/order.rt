@@ -3,11 +3,11 @@ ghost use Rattle.std.specs.Prelude.{◌≡◌, ℕ, ◌<◌, ◌≤◌, List, ma
 ghost use Rattle.std.specs.BinaryHeap.{IsHeap, heap_items};
 ghost use Rattle.std.specs.List.Sorted.{IsStrictlySortedBy};
 ghost use Rattle.std.specs.Map.{keys_of};
-ghost use Rattle.hashbag.specs.Occurrences.{count};
-ghost use Rattle.hashbag.specs.Walks.{IsSetWalkOf, seen};
+ghost use Rattle.hashbag_core.specs.Occurrences.{count};
+ghost use Rattle.hashbag_core.specs.Walks.{IsSetWalkOf, seen};
 ghost use Rattle.hashbag_ops.specs.Order.{rank, IsMostCommon, comes_first, counted_pair, counted_cmp, held, IsFirstOf, KeepsFirst};
 
-use hashbag::{BagError, HashBag};
+use hashbag_core::{BagError, HashBag};
 use std::alloc::{AllocError, Global};
 use std::cmp::{Ordering, Reverse};
 use std::collections::BinaryHeap;
@@ -28,7 +28,7 @@ use std::hash::{BuildHasher, Hash};
 /// ```
 /// let mut words: HashBag<&str> = HashBag::new(alloc);
 /// words.insert_many("the", 3)?;
-/// let counts = hashbag_ops::counts(alloc, &words)?;
+/// let counts = ops::counts(alloc, &words)?;
 /// counts.len(); // 1
 /// Ok(())
 /// ```
@@ -65,7 +65,7 @@ pub fn counts<'a, T: Eq + Hash + Drop, S: BuildHasher + Drop>(
 /// let mut words: HashBag<&str> = HashBag::new(alloc);
 /// words.insert_many("the", 3)?;
 /// words.insert("cat")?;
-/// let pairs = hashbag_ops::sorted(alloc, &words)?;
+/// let pairs = ops::sorted(alloc, &words)?;
 /// pairs.first().map(|pair| *pair.0); // Some("cat")
 /// pairs.last().map(|pair| pair.1); // Some(3)
 /// Ok(())
@@ -106,7 +106,7 @@ pub fn sorted<'a, T: Ord + Hash + Drop, S: BuildHasher + Drop>(
 /// words.insert_many("the", 3)?;
 /// words.insert("sat")?;
 /// words.insert("cat")?;
-/// let pairs = hashbag_ops::most_common(alloc, &words, 2)?;
+/// let pairs = ops::most_common(alloc, &words, 2)?;
 /// pairs.first().map(|pair| *pair.0); // Some("the")
 /// pairs.last().map(|pair| *pair.0); // Some("cat")
 /// Ok(())
@@ -143,7 +143,7 @@ pub fn most_common<'a, T: Ord + Hash + Drop, S: BuildHasher + Drop>(
 /// let mut words: HashBag<&str> = HashBag::new(alloc);
 /// words.insert_many("the", 3)?;
 /// words.insert("cat")?;
-/// hashbag_ops::max_count(&words); // 3
+/// ops::max_count(&words); // 3
 /// Ok(())
 /// ```
 pub fn max_count<T: Eq + Hash + Drop, S: BuildHasher + Drop>(bag: &HashBag<T, S>) -> usize

@@ -1,9 +1,9 @@
 //! Bags that are made of two others, which stay as they are.
 ghost use Rattle.std.specs.Prelude.{◌≡◌, ◌+◌, ◌<◌, ◌≤◌, ◌↔◌, min, max, length, All, true, IfErr, IfOk};
-ghost use Rattle.hashbag.specs.Occurrences.{count};
+ghost use Rattle.hashbag_core.specs.Occurrences.{count};
 
 use crate::combine::{keep_common, keep_most, merge_ref};
-use hashbag::{BagError, HashBag};
+use hashbag_core::{BagError, HashBag};
 use std::hash::{BuildHasher, Hash};
 
 /// Returns the sum of two bags: each value as often as in both together. It has the limit of the first.
@@ -26,7 +26,7 @@ use std::hash::{BuildHasher, Hash};
 /// stock.insert_many("bolt", 2)?;
 /// let mut delivery: HashBag<&str> = HashBag::new(alloc);
 /// delivery.insert_many("bolt", 3)?;
-/// hashbag_ops::sum(&stock, &delivery)?.contains(&"bolt"); // 5
+/// ops::sum(&stock, &delivery)?.contains(&"bolt"); // 5
 /// stock.contains(&"bolt"); // 2
 /// Ok(())
 /// ```
@@ -71,7 +71,7 @@ pub fn sum<
 /// needed.insert_many("bolt", 2)?;
 /// let mut other: HashBag<&str> = HashBag::new(alloc);
 /// other.insert_many("bolt", 3)?;
-/// hashbag_ops::union(&needed, &other)?.contains(&"bolt"); // 3
+/// ops::union(&needed, &other)?.contains(&"bolt"); // 3
 /// needed.contains(&"bolt"); // 2
 /// Ok(())
 /// ```
@@ -111,7 +111,7 @@ pub fn union<
 /// stock.insert_many("bolt", 5)?;
 /// let mut order: HashBag<&str> = HashBag::new(alloc);
 /// order.insert_many("bolt", 3)?;
-/// hashbag_ops::intersection(&stock, &order)?.contains(&"bolt"); // 3
+/// ops::intersection(&stock, &order)?.contains(&"bolt"); // 3
 /// stock.contains(&"bolt"); // 5
 /// Ok(())
 /// ```

@@ -9,8 +9,8 @@ ghost use Rattle.std.specs.String.{string_bytes};
 
 use std::hash::Hash;
 
-/// A key, by which values are looked up and removed: a lent value, `&T`, or what names one. A `&str` names a `String`, a `&[T]` a `Vec<T>`,
-/// and a `&T` a `Box<T>`.
+/// A key, by which values are looked up and removed: a lent value, `&T`, or what names one. A `&str` names a `String`, a `&[U]` a `Vec<U>`,
+/// and a `&U` a `Box<U>`.
 ///
 /// A key is hashed as the values that it names, so their slots are on its path. All values that a key names are equal. It names every value
 /// equal to them.

@@ -1,7 +1,7 @@
 //! Groups the words of a text that have the same letters.
 use anyhow::Result;
 use hashbag::HashBag;
-use hashbag_ops::sorted;
+use hashbag::ops::sorted;
 use std::alloc::Global;
 use std::collections::BTreeMap;
 use std::io::Write;

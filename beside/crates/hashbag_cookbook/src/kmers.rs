@@ -1,7 +1,7 @@
 //! Counts the stretches of three letters of a DNA sequence.
 use anyhow::Result;
 use hashbag::HashBag;
-use hashbag_ops::sorted;
+use hashbag::ops::sorted;
 use std::alloc::Global;
 use std::io::Write;
 

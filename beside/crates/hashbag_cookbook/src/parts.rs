@@ -1,7 +1,7 @@
 //! Counts the parts of a text one by one and merges the counts.
 use anyhow::Result;
 use hashbag::{BagError, HashBag};
-use hashbag_ops::{merge, sorted};
+use hashbag::ops::{merge, sorted};
 use std::alloc::Global;
 use std::io::Write;
 

@@ -1,7 +1,7 @@
 //! Saves a bag of any type of `serde` as rows of a value and its count, and loads it again.
 use anyhow::Result;
 use hashbag::HashBag;
-use hashbag_ops::sorted;
+use hashbag::ops::sorted;
 use serde::{Deserialize, Serialize};
 use std::alloc::Global;
 use std::io::Write;

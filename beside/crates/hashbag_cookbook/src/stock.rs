@@ -1,7 +1,7 @@
 //! Keeps a store that holds ten pieces, and reserves pieces for orders.
 use anyhow::Result;
 use hashbag::{BagError, FixedState, HashBag};
-use hashbag_ops::sorted;
+use hashbag::ops::sorted;
 use std::alloc::Global;
 use std::io::Write;
 

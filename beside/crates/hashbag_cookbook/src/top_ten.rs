@@ -1,7 +1,7 @@
 //! Lists the ten commonest words of a text.
 use anyhow::Result;
 use hashbag::HashBag;
-use hashbag_ops::most_common;
+use hashbag::ops::most_common;
 use std::alloc::Global;
 use std::io::Write;
 

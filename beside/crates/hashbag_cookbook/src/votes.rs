@@ -1,7 +1,7 @@
 //! Ranks the candidates of a vote. Candidates with equally many votes share a place.
 use anyhow::Result;
 use hashbag::HashBag;
-use hashbag_ops::most_common;
+use hashbag::ops::most_common;
 use std::alloc::Global;
 use std::io::Write;
 

@@ -141,6 +141,8 @@ impl<T: Eq + Hash + Drop, S: BuildHasher + Drop> HashBag<T, S> {
         S: Default,
         requires can { I.can_next items }
         requires ends { IsFinite (I.remaining items) }
+
+        // Each item was a value, and was inserted once, in order, into an empty bag.
         ensures all { IfOk result (λ bag. InsertsAll T.eq I.next_gives OkOnce items (empty_bag bag.hasher) bag) }
 
         // The state is the default, and no limit is set.

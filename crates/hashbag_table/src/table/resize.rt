@@ -221,7 +221,8 @@ impl<T: Eq + Hash + Drop, S: BuildHasher + Drop> Table<T, S> {
         ensures err { OnErr result (self.new ≡ self.old) }
         ensures none { self.old.entries ≡ [] → IsOk result }
 
-        // What becomes of the slots, as under `# Complexity`: m is the number of slots of the least table.
+        // What becomes of the slots, as under `# Complexity`: m is the number of slots of the least table. `built` counts all slots that were
+        // ever built: without entries none is built.
         ensures freed { self.old.entries ≡ [] → self.new.tables.newer ≡ [] }
         ensures freed_built { self.old.entries ≡ [] → self.new.tables.built ≡ self.old.tables.built }
         ensures shrinks { OnOk result (ShrinksOrStays (length self.old.entries) self.old.tables self.new.tables) }

@@ -1,7 +1,7 @@
 use Rattle.std.proofs.Common.{refl, arith}
 use Rattle.std.proofs.lemmas.Iterator.Consumers.{YieldsList-from_first}
-use Rattle.hashbag.specs.Tables.{limit}
-use Rattle.hashbag.proofs.InsertLemmas.{stays_in_turn}
+use Rattle.hashbag_table.specs.Tables.{limit}
+use Rattle.hashbag_core.proofs.InsertLemmas.{stays_in_turn}
 use Rattle.hashbag_ops.proofs.Spared.{none_so_far, one_more, has_rest, in_turn, summed, adds_by_spare, adds_all, no_room_for_lacked, takes_one, takes_rest}
 use Rattle.hashbag_ops.proofs.combine.insert_beside_spare.Goals as goal
 

@@ -1,8 +1,8 @@
 use Rattle.std.proofs.Common.{◌≡◌, refl, arith, rules}
-use Rattle.hashbag.specs.Occurrences.{count}
-use Rattle.hashbag.specs.EqualityLaws.{count_congr}
-use Rattle.hashbag.proofs.CallerLemmas.{count_retained}
-use Rattle.hashbag.proofs.RetainLemmas.{answers_are}
+use Rattle.hashbag_core.specs.Occurrences.{count}
+use Rattle.hashbag_core.specs.EqualityLaws.{count_congr}
+use Rattle.hashbag_core.proofs.CallerLemmas.{count_retained}
+use Rattle.hashbag_core.proofs.RetainLemmas.{answers_are}
 use Rattle.hashbag_ops.proofs.combine.keep_common.Goals as goal
 
 -- the closure answers by the value alone

@@ -1,7 +1,7 @@
 use Rattle.std.proofs.Common.{◌≡◌, ◌+◌, ◌-◌, max, ◌++◌, Bool, List, length, length-append, ◌∙◌, arith}
 use Rattle.std.specs.Cmp.{IsEquivalence}
-use Rattle.hashbag.specs.EqualityLaws.{count_append}
-use Rattle.hashbag.specs.Occurrences.{count}
+use Rattle.hashbag_core.specs.EqualityLaws.{count_append}
+use Rattle.hashbag_core.specs.Occurrences.{count}
 use Rattle.hashbag_ops.specs.Unions.{IsUnion}
 use Rattle.hashbag_ops.proofs.Lengths.{same_length}
 use Rattle.hashbag_ops.proofs.combine.keep_most.Goals as goal

@@ -1,8 +1,8 @@
 use Rattle.std.proofs.Common.{◌≡◌, List, [], length, ◌∙◌, ap, inl, refl, arith, rules}
 use Rattle.std.proofs.lemmas.Iterator.Consumers.{YieldsList-from_first, count_from_yields_List}
 use Rattle.std.proofs.lemmas.List.Sorted.{IsPermutation-refl}
-use Rattle.hashbag.specs.JoinsLeft.{lacking}
-use Rattle.hashbag.proofs.JoinLemmas.{not_in_from_walk}
+use Rattle.hashbag_core.specs.JoinsLeft.{lacking}
+use Rattle.hashbag_core.proofs.JoinLemmas.{not_in_from_walk}
 use Rattle.hashbag_ops.proofs.Lacking.{as_long, lacking_all, no_more}
 use Rattle.hashbag_ops.proofs.combine.lacked_by.Goals as goal
 

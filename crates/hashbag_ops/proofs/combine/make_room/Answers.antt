@@ -1,8 +1,8 @@
 use Rattle.std.proofs.Common.{◌≤◌, length, inl, inr, sym, subst, arith}
 use Rattle.std.proofs.lemmas.List.Sorted.{IsPermutation-refl}
-use Rattle.hashbag.specs.JoinsLeft.{lacking}
-use Rattle.hashbag.proofs.CallerLemmas.{count_kept}
-use Rattle.hashbag.proofs.JoinLemmas.{length_lacking, not_in_from_walk}
+use Rattle.hashbag_core.specs.JoinsLeft.{lacking}
+use Rattle.hashbag_core.proofs.CallerLemmas.{count_kept}
+use Rattle.hashbag_core.proofs.JoinLemmas.{length_lacking, not_in_from_walk}
 use Rattle.hashbag_ops.proofs.combine.make_room.Goals as goal
 
 pub returns-then-set_len-room-clause-room : goal.returns-then-set_len-room-clause-room

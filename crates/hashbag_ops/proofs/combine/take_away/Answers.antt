@@ -1,10 +1,10 @@
 use Rattle.std.proofs.Common.{◌≡◌, ℕ, ◌+◌, ◌-◌, cond, Bool, true, false, sum_by, refl, sym, ap, ◌∙◌, arith, rules}
 use Rattle.std.proofs.lemmas.List.Sums.{sum_by-cons}
-use Rattle.hashbag.specs.Bag.{occurrences}
-use Rattle.hashbag.specs.Occurrences.{count}
-use Rattle.hashbag.specs.EqualityLaws.{count_congr}
-use Rattle.hashbag.proofs.CallerLemmas.{count_removed_any}
-use Rattle.hashbag.proofs.OccurrenceLemmas.{count_rearranged}
+use Rattle.hashbag_core.specs.Bag.{occurrences}
+use Rattle.hashbag_core.specs.Occurrences.{count}
+use Rattle.hashbag_core.specs.EqualityLaws.{count_congr}
+use Rattle.hashbag_core.proofs.CallerLemmas.{count_removed_any}
+use Rattle.hashbag_core.proofs.OccurrenceLemmas.{count_rearranged}
 use Rattle.hashbag_ops.proofs.ByCount.{answers_by_count, count_retained_by}
 use Rattle.hashbag_ops.proofs.Sums.{count_written}
 use Rattle.hashbag_ops.proofs.combine.take_away.Goals as goal

@@ -1,6 +1,6 @@
 use Rattle.std.proofs.Common.{◌≡◌, ◌-◌, ◌≤◌, cond, length, sum_by}
-use Rattle.hashbag.specs.Occurrences.{count}
-use Rattle.hashbag.specs.Tables.{room}
+use Rattle.hashbag_core.specs.Occurrences.{count}
+use Rattle.hashbag_table.specs.Tables.{room}
 use Rattle.hashbag_ops.proofs.combine.take_away.Given as goal
 
 -- less what is still to come, each count is what it is to be

@@ -3,11 +3,11 @@ use Rattle.std.specs.Cmp.{IsEquivalence}
 use Rattle.std.specs.Option.{MatchOption, is_some}
 use Rattle.std.proofs.lemmas.Bool.{false≢true}
 use Rattle.std.proofs.lemmas.List.Sorted.{IsPermutation-refl}
-use Rattle.hashbag.specs.Joins.{IsDifference}
-use Rattle.hashbag.specs.Occurrences.{count}
-use Rattle.hashbag.proofs.CallerLemmas.{none_listed, listed_exceeds}
-use Rattle.hashbag.proofs.ContainsLemmas.{Contains-same}
-use Rattle.hashbag.proofs.MemberLemmas.{Contains-head}
+use Rattle.hashbag_core.specs.Joins.{IsDifference}
+use Rattle.hashbag_core.specs.Occurrences.{count}
+use Rattle.hashbag_core.proofs.CallerLemmas.{none_listed, listed_exceeds}
+use Rattle.hashbag_core.proofs.ContainsLemmas.{Contains-same}
+use Rattle.hashbag_core.proofs.MemberLemmas.{Contains-head}
 use Rattle.hashbag_ops.proofs.compare.contains_all.Goals as goal
 
 module _ {T A : Type 0} {eq : T → T → Bool} (laws : IsEquivalence eq) (X Y : List T) (E rest : List (T × ℕ)) (shown : A → T × ℕ) (h : IsDifference eq X Y E) where

@@ -4,11 +4,11 @@ use Rattle.std.specs.List.{Contains}
 use Rattle.std.proofs.lemmas.Bool.{false≢true}
 use Rattle.std.proofs.lemmas.List.Elements.{All-head, All-tail}
 use Rattle.std.proofs.lemmas.List.Sorted.{IsPermutation-refl}
-use Rattle.hashbag.specs.EqualityLaws.{count_congr}
-use Rattle.hashbag.specs.Occurrences.{count}
-use Rattle.hashbag.specs.Walks.{IsSetWalk}
-use Rattle.hashbag.proofs.ContainsLemmas.{not_in_nil, Contains-cases, Contains-same}
-use Rattle.hashbag.proofs.ExcessLemmas.{an_instance}
+use Rattle.hashbag_core.specs.EqualityLaws.{count_congr}
+use Rattle.hashbag_core.specs.Occurrences.{count}
+use Rattle.hashbag_core.specs.Walks.{IsSetWalk}
+use Rattle.hashbag_core.proofs.ContainsLemmas.{not_in_nil, Contains-cases, Contains-same}
+use Rattle.hashbag_core.proofs.ExcessLemmas.{an_instance}
 use Rattle.hashbag_ops.proofs.Walked.{onto_walk, all_occur}
 use Rattle.hashbag_ops.proofs.compare.has_none_of.Goals as goal
 

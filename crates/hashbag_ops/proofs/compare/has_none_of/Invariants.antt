@@ -1,6 +1,6 @@
 use Rattle.std.proofs.Common.{◌≡◌, ◌<◌, ◌⊎◌, true, min, All}
 use Rattle.std.specs.List.{Contains}
-use Rattle.hashbag.specs.Occurrences.{count}
+use Rattle.hashbag_core.specs.Occurrences.{count}
 use Rattle.hashbag_ops.proofs.compare.has_none_of.Given as goal
 
 -- a value isn't in both bags, or is still to come; and what is to come is in the bag that is walked over

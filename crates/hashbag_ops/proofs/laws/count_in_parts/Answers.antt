@@ -1,10 +1,10 @@
 use Rattle.std.proofs.Common.{◌≡◌, ◌+◌, ℕ, List, [], sym, ◌∙◌, ap, arith, rules}
 use Rattle.std.proofs.lemmas.Iterator.Adapters.{YieldsList-from_vec}
 use Rattle.std.proofs.lemmas.List.{map-id}
-use Rattle.hashbag.specs.EqualityLaws.{count_append}
-use Rattle.hashbag.specs.Occurrences.{count}
-use Rattle.hashbag.proofs.CallerLemmas.{count_extended, count_once, items_that_came}
-use Rattle.hashbag.proofs.InsertLemmas.{all_added}
+use Rattle.hashbag_core.specs.EqualityLaws.{count_append}
+use Rattle.hashbag_core.specs.Occurrences.{count}
+use Rattle.hashbag_core.proofs.CallerLemmas.{count_extended, count_once, items_that_came}
+use Rattle.hashbag_core.proofs.InsertLemmas.{all_added}
 use Rattle.hashbag_ops.proofs.laws.count_in_parts.Goals as goal
 
 -- either bag has the items of its part

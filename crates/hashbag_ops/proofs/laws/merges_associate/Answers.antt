@@ -1,5 +1,5 @@
 use Rattle.std.proofs.Common.{◌∙◌, arith}
-use Rattle.hashbag.proofs.CallerLemmas.{equal_from_counts}
+use Rattle.hashbag_core.proofs.CallerLemmas.{equal_from_counts}
 use Rattle.hashbag_ops.proofs.laws.merges_associate.Goals as goal
 
 pub returns : goal.returns

@@ -1,6 +1,6 @@
 use Rattle.std.proofs.Common.{◌≡◌, ◌++◌, map, sym, ◌∙◌, ap, subst}
 use Rattle.std.proofs.lemmas.List.{append-nil}
-use Rattle.hashbag.specs.Walks.{IsSetWalkOf, seen}
+use Rattle.hashbag_core.specs.Walks.{IsSetWalkOf, seen}
 use Rattle.hashbag_ops.proofs.order.counts.Goals as goal
 
 -- the pairs are those that the walk gave

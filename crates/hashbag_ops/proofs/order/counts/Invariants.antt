@@ -1,5 +1,5 @@
 use Rattle.std.proofs.Common.{◌≡◌, ◌++◌, map}
-use Rattle.hashbag.specs.Walks.{seen}
+use Rattle.hashbag_core.specs.Walks.{seen}
 use Rattle.hashbag_ops.proofs.order.counts.Given as goal
 
 -- what was given so far, and what is left of the walk

@@ -2,7 +2,7 @@ use Rattle.std.proofs.Common.{◌≡◌, [], ◌++◌, map, sym, ◌∙◌, ap, 
 use Rattle.std.specs.Vec.Iter.{into_iter_items}
 use Rattle.std.proofs.lemmas.List.{append-nil}
 use Rattle.std.proofs.lemmas.List.Sorted.{IsPermutation-map}
-use Rattle.hashbag.proofs.JsonWriteLemmas.{set_walk_reordered, once_in_walk}
+use Rattle.hashbag_core.proofs.JsonWriteLemmas.{set_walk_reordered, once_in_walk}
 use Rattle.hashbag_ops.specs.Order.{counted_pair, comes_first}
 use Rattle.hashbag_ops.proofs.MostCommonFirst.{empty, first_of_all}
 use Rattle.hashbag_ops.proofs.Ranked.{rank_weak, rises_from_sorted, ranked_from_rising}

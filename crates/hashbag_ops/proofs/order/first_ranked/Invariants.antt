@@ -1,7 +1,7 @@
 use Rattle.std.proofs.Common.{◌≡◌, ◌++◌, map}
 use Rattle.std.specs.Vec.Iter.{into_iter_items}
 use Rattle.hashbag_ops.specs.Order.{counted_pair}
-use Rattle.hashbag.specs.Walks.{seen}
+use Rattle.hashbag_core.specs.Walks.{seen}
 use Rattle.hashbag_ops.proofs.order.first_ranked.Given as goal
 
 -- what was given so far, and the pairs of it

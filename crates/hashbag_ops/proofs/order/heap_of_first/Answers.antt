@@ -1,7 +1,7 @@
 use Rattle.std.proofs.Common.{◌≡◌, ℕ, [], ◌∷◌, ◌++◌, map, sym, ◌∙◌, ap, subst, append_assoc, heap_items, rules}
 use Rattle.std.specs.Borrow.{Bor}
 use Rattle.std.proofs.lemmas.List.{append-nil, map-append}
-use Rattle.hashbag.specs.Walks.{IsSetWalkOf, seen}
+use Rattle.hashbag_core.specs.Walks.{IsSetWalkOf, seen}
 use Rattle.hashbag_ops.specs.Order.{counted_pair, comes_first, IsFirstOf}
 use Rattle.hashbag_ops.proofs.MostCommonFirst.{first_none}
 use Rattle.hashbag_ops.proofs.order.heap_of_first.Goals as goal

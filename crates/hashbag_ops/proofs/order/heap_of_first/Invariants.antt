@@ -1,7 +1,7 @@
 use Rattle.std.proofs.Common.{◌≡◌, ◌++◌, map, heap_items}
 use Rattle.std.specs.BinaryHeap.{IsHeap}
 use Rattle.hashbag_ops.specs.Order.{comes_first, counted_pair, counted_cmp, IsFirstOf}
-use Rattle.hashbag.specs.Walks.{seen}
+use Rattle.hashbag_core.specs.Walks.{seen}
 use Rattle.hashbag_ops.proofs.order.heap_of_first.Given as goal
 
 -- what was given so far, what is left of the walk, and the heap of the first of these

@@ -4,12 +4,12 @@ use Rattle.std.specs.Cmp.{IsEquivalence}
 use Rattle.std.specs.List.{Contains}
 use Rattle.std.proofs.lemmas.List.Elements.{All-head, All-tail}
 use Rattle.std.proofs.lemmas.List.Sorted.{IsPermutation-refl}
-use Rattle.hashbag.specs.Occurrences.{count}
-use Rattle.hashbag.specs.EqualityLaws.{count_congr}
-use Rattle.hashbag.specs.Walks.{IsSetWalk}
-use Rattle.hashbag.proofs.ContainsLemmas.{not_in_nil, All-from_Contains, Contains-cases, Contains-same}
-use Rattle.hashbag.proofs.ExcessLemmas.{an_instance}
-use Rattle.hashbag.proofs.JoinLemmas.{in_walk}
+use Rattle.hashbag_core.specs.Occurrences.{count}
+use Rattle.hashbag_core.specs.EqualityLaws.{count_congr}
+use Rattle.hashbag_core.specs.Walks.{IsSetWalk}
+use Rattle.hashbag_core.proofs.ContainsLemmas.{not_in_nil, All-from_Contains, Contains-cases, Contains-same}
+use Rattle.hashbag_core.proofs.ExcessLemmas.{an_instance}
+use Rattle.hashbag_core.proofs.JoinLemmas.{in_walk}
 use Rattle.hashbag_ops.proofs.Walked.{onto_walk}
 use Rattle.hashbag_ops.proofs.order.max_count.Goals as goal
 

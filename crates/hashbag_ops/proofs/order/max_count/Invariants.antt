@@ -1,6 +1,6 @@
 use Rattle.std.proofs.Common.{◌≡◌, ◌<◌, ◌≤◌, ◌⊎◌, All}
 use Rattle.std.specs.List.{Contains}
-use Rattle.hashbag.specs.Occurrences.{count}
+use Rattle.hashbag_core.specs.Occurrences.{count}
 use Rattle.hashbag_ops.proofs.order.max_count.Given as goal
 
 -- a value's count is no more than the greatest so far, or is still to come; and that greatest was reached

@@ -1,8 +1,8 @@
 use Rattle.std.proofs.Common.{◌≡◌, map, take, sym, rules, arith}
 use Rattle.std.proofs.lemmas.List.{take_all}
 use Rattle.std.proofs.lemmas.List.Sorted.{IsPermutation-map}
-use Rattle.hashbag.proofs.JsonWriteLemmas.{set_walk_reordered, once_in_walk}
-use Rattle.hashbag.specs.Walks.{seen}
+use Rattle.hashbag_core.proofs.JsonWriteLemmas.{set_walk_reordered, once_in_walk}
+use Rattle.hashbag_core.specs.Walks.{seen}
 use Rattle.hashbag_ops.proofs.Ranked.{ranked_from_sort_by}
 use Rattle.hashbag_ops.proofs.order.most_common.Goals as goal
 

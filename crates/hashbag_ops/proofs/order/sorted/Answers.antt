@@ -1,7 +1,7 @@
 use Rattle.std.proofs.Common.{map}
 use Rattle.std.proofs.lemmas.List.Sorted.{IsPermutation-map}
-use Rattle.hashbag.proofs.JsonWriteLemmas.{set_walk_reordered, rising_from_sorted, once_in_walk}
-use Rattle.hashbag.specs.Walks.{seen}
+use Rattle.hashbag_core.proofs.JsonWriteLemmas.{set_walk_reordered, rising_from_sorted, once_in_walk}
+use Rattle.hashbag_core.specs.Walks.{seen}
 use Rattle.hashbag_ops.proofs.order.sorted.Goals as goal
 
 -- a set walk stays one in another order
