@@ -1,5 +1,6 @@
 pub mod AlikeLemmas
 pub mod BadLineLemmas
+pub mod CountLemmas
 pub mod DecimalLemmas
 pub mod FirstLemmas
 pub mod GroupLemmas

@@ -14,11 +14,11 @@ use Rattle.hashbag_csv.specs.Readers.{Record}
 abbrev pub loose : List ℕ → List ℕ
 loose text = encode_utf8_all (nfc (chars (encode_utf8_all (default_case_fold (chars (trim text))))))
 
--- the fields of an article in this form
+-- the fields of an article, each in the form `loose`
 abbrev pub loosely : Record → Record
 loosely article = map loose article
 
--- both articles of each pair are the same in this form
+-- the two articles of each pair are equal in the form `loose`
 abbrev pub AreNear : {A : Type 0} → (A → Record) → List (Bor A × Bor A) → Type 0
 AreNear fields pairs = All (λ p. loosely (fields p.0.now) ≡ loosely (fields p.1.now)) pairs
 
@@ -26,11 +26,11 @@ AreNear fields pairs = All (λ p. loosely (fields p.0.now) ≡ loosely (fields p
 abbrev pub same_texts : Vec (String Global) → Vec (String Global) → Bool
 same_texts x y = pointwise string_eq x.items y.items
 
--- a map has articles by their fields in this form
+-- the key of each article in a map is the article's fields in the form `loose`
 abbrev pub HasLoosely : {A S : Type 0} → (A → Record) → HashMap (Vec (String Global)) (Bor A) S → Type 0
 HasLoosely fields m = (q : Vec (String Global)) → IfSome (get same_texts m q) (λ x. loosely (fields x.now) ≡ map string_bytes q.items)
 
--- an article with these loose fields leaves a map and pairs what they were
+-- if the argument `loose` is `loosely` of the article's fields, a step keeps `HasLoosely` of the map and `AreNear` of the pairs
 abbrev pub KeepsNear : {A S : Type 0} → (A → Record) → A → Record → HashMap (Vec (String Global)) (Bor A) S → List (Bor A × Bor A) → HashMap (Vec (String Global)) (Bor A) S → List (Bor A × Bor A) → Type 0
 KeepsNear fields article loose seen pairs seen_after pairs_after =
     HasLoosely fields seen → AreNear fields pairs → loosely (fields article) ≡ loose → HasLoosely fields seen_after × AreNear fields pairs_after

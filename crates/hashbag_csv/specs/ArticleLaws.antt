@@ -1,4 +1,4 @@
--- Articles are equal as the bytes of their fields are.
+-- Two articles are equal exactly if the bytes of their fields are equal.
 use Rattle.std.proofs.Common.{◌≡◌, ◌&&◌, Bool, true, false, List, [], ◌∷◌, map, String, Global, refl, ap}
 use Rattle.std.specs.Cmp.Lexicographic.{pointwise}
 use Rattle.std.specs.Str.{bytes_eq}

@@ -18,44 +18,44 @@ abbrev pub is_text_fault : Fault → Bool
 is_text_fault (NotText column) = true
 is_text_fault _ = false
 
--- the error that a field isn't UTF-8; an allocation may fail instead
+-- the error that a field isn't UTF-8, or `Memory`
 abbrev pub IsTextError : SheetError → Type 0
 IsTextError (Line line fault) = is_text_fault fault ≡ true
 IsTextError Memory = ⊤
 
--- the field at the place of numbers is a number, if there is such a place
+-- the record's field at the place `number` is a number; true without a place
 abbrev pub HasNumber : Scale → NumberForm → Option ℕ → Record → Type 0
 HasNumber scale form number r = IfSome number (λ p. IsNumberField scale form (get_or r p []))
 
--- the error that a field of numbers isn't read as a number
+-- the error that the record's field at the place `number` isn't a number
 abbrev pub IsNumberError : Scale → NumberForm → Option ℕ → Record → SheetError → Type 0
 IsNumberError scale form number r e = (line : ℕ) × (p : ℕ) × (number ≡ Some p) × IsErrorOfField scale form line (get_or r p []) e
 
--- the error of a record that isn't read as a line, and that fits the header or doesn't
+-- the error of a record that isn't read as a line; `fits` is whether the record fits the header
 abbrev pub IsLineError : Scale → NumberForm → Option ℕ → Bool → Record → SheetError → Type 0
 IsLineError scale form number fits r e = IsReadError fits e ⊎ IsTextError e ⊎ IsNumberError scale form number r e
 
--- what is said of a record below a header with `width` fields: nothing if it is read as a line, and else its error, which isn't that an
--- allocation failed
+-- what is said of a record below a header with `width` fields: `None` if the record is read as a line, else its error, which isn't `Memory`
 abbrev pub IsSaidOf : Scale → NumberForm → Option ℕ → Bool → ℕ → Record → Option SheetError → Type 0
 IsSaidOf scale form number short width r None = (fits_header short width r ≡ true) × HasNumber scale form number r
 IsSaidOf scale form number short width r (Some (Line line fault)) = IsLineError scale form number (fits_header short width r) r (Line line fault)
 IsSaidOf scale form number short width r (Some Memory) = ⊥
 
--- of each record something is said
+-- the list of what is said, one of each record, in order
 abbrev pub AreSaidOf : (Record → Option SheetError → Type 0) → List Record → List (Option SheetError) → Type 0
 AreSaidOf says [] [] = ⊤
 AreSaidOf says [] (v ∷ vs) = ⊥
 AreSaidOf says (r ∷ rs) [] = ⊥
 AreSaidOf says (r ∷ rs) (v ∷ vs) = says r v × AreSaidOf says rs vs
 
--- the errors that are said
+-- the errors in a list of what is said of records
 abbrev pub errors_in : List (Option SheetError) → List SheetError
 errors_in [] = []
 errors_in (None ∷ vs) = errors_in vs
 errors_in (Some e ∷ vs) = e ∷ errors_in vs
 
--- the errors of the bad records among these, in their order: of all, or of the first `most`, and none is passed over
+-- `errors` are the errors of the bad ones among `records`, in their order: of all, or of the first `most`. The records `read` were read,
+-- and `said` is what is said of each; `rest` are the other records
 pub record AreBadLines (says : Record → Option SheetError → Type 0) (most : ℕ) (records : List Record) (errors : List SheetError) : Type 0 where
   pub read : List Record
   pub rest : List Record
@@ -66,11 +66,11 @@ pub record AreBadLines (says : Record → Option SheetError → Type 0) (most : 
   pub few : length errors ≤ most
   pub ends : length errors < most → rest ≡ []
 
--- the same of the records after the first one, which is their header
+-- the same below a header, which is the first of these records; `number` names the column of numbers
 abbrev pub AreBadUnder : Scale → LineForm → Option (List ℕ) → ℕ → List Record → List SheetError → Type 0
 AreBadUnder scale form number most [] errors = errors ≡ []
 AreBadUnder scale form number most (header ∷ records) errors = AreBadLines (IsSaidOf scale form.number (option_map (place_of header) number) form.allows_short (length header)) most records errors
 
--- the same of a text, whose column of numbers has this name
+-- the same for the records of a text
 abbrev pub AreBadLinesOf : Reading → LineForm → Option (List ℕ) → ℕ → List ℕ → List SheetError → Type 0
 AreBadLinesOf reading form number most text errors = AreBadUnder reading.scale form number most (records_in reading.delimiter text) errors

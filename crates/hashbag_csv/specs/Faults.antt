@@ -27,7 +27,7 @@ is_grouped mark after (c ∷ cs) = if is_ascii_digit c then is_grouped mark true
 unfoldable pub HasGroups : ℕ → ℕ → List ℕ → Type 0
 HasGroups mark other text = HasMark mark text × IsTrue (is_grouped other false (whole_of mark text)) × IsNumeral 10 (part_of mark text)
 
--- a number with decimals, as some write it: behind a point or a comma
+-- a number with decimals behind a point (46), perhaps with commas (44) between groups; or the other way round
 unfoldable pub IsFraction : List ℕ → Type 0
 IsFraction text = HasGroups 46 44 text ⊎ HasGroups 44 46 text
 

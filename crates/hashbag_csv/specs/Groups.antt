@@ -18,12 +18,12 @@ group_code Space = 32
 abbrev pub fits_place : ℕ → ℕ → ℕ → Bool
 fits_place group c behind = if behind % 4 == 3 then c == group else is_ascii_digit c
 
--- each byte of a text is so
+-- each byte of a text fits its place
 abbrev pub marks_fit : ℕ → List ℕ → Bool
 marks_fit group [] = true
 marks_fit group (c ∷ cs) = fits_place group c (length cs) && marks_fit group cs
 
--- no mark at all, or one before every third digit counted from the end, but for the first
+-- no mark at all, or groups of three digits with the mark between them; the first group may have one or two digits
 abbrev pub is_in_groups : ℕ → List ℕ → Bool
 is_in_groups group whole = list_all (λ c. not (c == group)) whole || (not (length whole % 4 == 0) && marks_fit group whole)
 
@@ -35,20 +35,20 @@ without group text = filter (λ c. not (c == group)) text
 abbrev pub ungrouped : ℕ → ℕ → List ℕ → List ℕ
 ungrouped group mark text = without group (whole_of mark text) ++ drop (length (whole_of mark text)) text
 
--- whether the whole part is in groups, if there may be any
+-- whether the whole part of a text is in groups; true if no group mark is given
 abbrev pub fits_groups : ℕ → Option GroupMark → List ℕ → Bool
 fits_groups mark None text = true
 fits_groups mark (Some group) text = is_in_groups (group_code group) (whole_of mark text)
 
--- a text without the marks that there may be between its groups
+-- a text without the marks between its groups; as it is if no group mark is given
 abbrev pub ungrouped_if : ℕ → Option GroupMark → List ℕ → List ℕ
 ungrouped_if mark None text = text
 ungrouped_if mark (Some group) text = ungrouped (group_code group) mark text
 
--- a text with these bytes, if a test passes, and no text otherwise
+-- `made` is a text with these bytes if the test passes, and `None` otherwise
 abbrev pub IsTextIf : Bool → List ℕ → Option (String Global) → Type 0
 IsTextIf test bytes made = MatchOption made (test ≡ false) (λ text. (test ≡ true) × (string_bytes text ≡ bytes))
 
--- a text without the marks between its groups, if they are in their places, and no text otherwise
+-- `made` is the text without the marks between its groups if the whole part is in groups, and `None` otherwise
 abbrev pub IsUngrouped : ℕ → GroupMark → List ℕ → Option (String Global) → Type 0
 IsUngrouped mark group text made = IsTextIf (fits_groups mark (Some group) text) (ungrouped_if mark (Some group) text) made

@@ -31,7 +31,7 @@ at_the_end = refl
 letter : is_in_groups 46 (codes "1.00x") ≡ false
 letter = refl
 
--- marks before the decimal mark go, and those after it stay
+-- marks before the decimal mark are removed, and marks after it are kept
 before : ungrouped 46 44 (codes "1.234.567,50") ≡ codes "1234567,50"
 before = refl
 
@@ -41,6 +41,6 @@ after = refl
 whole : ungrouped 39 46 (codes "1'000") ≡ codes "1000"
 whole = refl
 
--- no text is made of what isn't in groups
+-- a text that isn't in groups gives `None`
 not_made : IsTextIf (is_in_groups 46 (codes "1.00")) (without 46 (codes "1.00")) None
 not_made = refl

@@ -12,11 +12,11 @@ abbrev pub start_trimmed : List ℕ → List ℕ
 start_trimmed [] = []
 start_trimmed (c ∷ cs) = if is_blank c then start_trimmed cs else c ∷ cs
 
--- a text without those at its end
+-- a text without the spaces and tabs at its end
 abbrev pub end_trimmed : List ℕ → List ℕ
 end_trimmed text = reverse (start_trimmed (reverse text))
 
--- a text without those at both ends
+-- a text without the spaces and tabs at both ends
 abbrev pub trimmed : List ℕ → List ℕ
 trimmed text = end_trimmed (start_trimmed text)
 

@@ -6,7 +6,7 @@ use Rattle.hashbag_csv.specs.KeyForms.{trimmed}
 both : trimmed (codes " \t bolt  M4\t ") ≡ codes "bolt  M4"
 both = refl
 
--- nothing else, and nothing but them
+-- line ends are kept; a text of nothing but spaces and tabs becomes empty
 other : trimmed (codes "\nbolt\r") ≡ codes "\nbolt\r"
 other = refl
 

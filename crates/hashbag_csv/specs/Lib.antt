@@ -2,6 +2,7 @@ pub mod Alike
 pub mod ArticleLaws
 pub mod Articles
 pub mod BadLines
+pub mod Counts
 pub mod Decimals
 pub mod Faults
 pub mod FaultsExamples

@@ -30,26 +30,26 @@ line_by scale c r = line_of scale (form_of c) (key_places c) (number_place c) r
 abbrev pub line_bytes : {A : Type 0} → (A → Record) → A × ℕ → Record × ℕ
 line_bytes fields line = (fields line.0, line.1)
 
--- `before` is a record followed by `after`, and `line`, as bytes, is f of that record
+-- `before` is one record r and then `after`; `line`, as bytes, is `f r`
 abbrev pub IsNextLine : {A : Type 0} → (A → Record) → (Record → Record × ℕ) → List Record → List Record → A × ℕ → Type 0
 IsNextLine fields f before after line = (r : Record) × (before ≡ r ∷ after) × (line_bytes fields line ≡ f r)
 
--- the next record was read, as a line, or none was left
+-- the next record was read, and `next` is its line; or no record was left, and `next` is `None`
 abbrev pub ReadsNextLine : {A : Type 0} → (A → Record) → (Record → Record × ℕ) → Sheet → Option (A × ℕ) → Sheet → Type 0
 ReadsNextLine fields f old next new = MatchOption next (left old ≡ []) (λ line. IsNextLine fields f (left old) (left new) line)
 
--- a record has a number where these columns have one
+-- the record's field in the column of the number is a number; true without such a column
 abbrev pub HasNumberBy : Scale → LineColumns → Record → Type 0
 HasNumberBy scale c r = HasNumber scale (form_of c).number (number_place c) r
 
--- the error of the record that was read, which isn't read as a line
+-- the error of the record that was read last, which is no line
 abbrev pub IsLineErrorBy : Scale → LineColumns → Sheet → Sheet → SheetError → Type 0
 IsLineErrorBy scale c old new e = IsLineError scale (form_of c).number (number_place c) (fits_sheet old (read_last new)) (read_last new) e
 
--- what is said of a record of a sheet
+-- `None` if a record is read as a line with these columns, else its error
 abbrev pub IsSaidBy : Scale → LineColumns → Sheet → Record → Option SheetError → Type 0
 IsSaidBy scale c sheet = IsSaidOf scale (form_of c).number (number_place c) (is_short_allowed sheet) (width_of sheet)
 
--- the next record was read, and this is said of it; or none was left
+-- the next record was read, and `next` is what `IsSaidBy` says of it; or no record was left, and `next` is `None`
 abbrev pub SaysOfNext : Scale → LineColumns → Sheet → Option (Option SheetError) → Sheet → Type 0
 SaysOfNext scale c old next new = MatchOption next (left old ≡ []) (λ said. ReadsOne old new × IsSaidBy scale c old (read_last new) said)

@@ -12,7 +12,7 @@ use Rattle.hashbag_csv.specs.declared.line_form.LineForm.{LineForm}
 use Rattle.hashbag_csv.specs.declared.number_form.NumberForm.{NumberForm}
 use Rattle.hashbag_csv.specs.declared.scale.Scale.{Scale}
 
--- the place of a column, by its name in the header
+-- the place of the first field of the header that is this name; the number of fields if none is
 abbrev pub place_of : Record → List ℕ → ℕ
 place_of header name = position_or_len (bytes_eq name) header
 
@@ -28,7 +28,7 @@ number_in scale text = units (code_of scale.mark) scale.decimals text
 abbrev pub number_by : Scale → NumberForm → List ℕ → ℕ
 number_by scale form field = if form.blank_is_zero && (length field == 0) then 0 else number_in scale (ungrouped_if (code_of scale.mark) form.group field)
 
--- the number of a record, in units of the scale: that at this place; without a place, one
+-- the number of a record, in units of the scale: its field at this place; without a place, 10 ^ decimals
 abbrev pub number_at : Scale → NumberForm → Option ℕ → Record → ℕ
 number_at scale form (Some place) r = number_by scale form (get_or r place [])
 number_at scale form None r = 10 ^ scale.decimals
@@ -37,11 +37,11 @@ number_at scale form None r = 10 ^ scale.decimals
 abbrev pub line_of : Scale → LineForm → List ℕ → Option ℕ → Record → Record × ℕ
 line_of scale form keys number r = (fields_at form.key keys r, number_at scale form.number number r)
 
--- the lines of the records after the first one, which is their header: `keys` and `number` are the names of the columns
+-- the lines below a header, which is the first of these records; `keys` and `number` name its columns
 abbrev pub lines_under : Scale → LineForm → List (List ℕ) → Option (List ℕ) → List Record → List (Record × ℕ)
 lines_under scale form keys number [] = []
 lines_under scale form keys number (header ∷ records) = map (line_of scale form (map (place_of header) keys) (option_map (place_of header) number)) records
 
--- the lines of a text, whose columns have these names; if no name is given for numbers, each line counts as one
+-- the lines of a text; `keys` and `number` name its columns; without `number`, each line has the number 1
 abbrev pub lines_in : Reading → LineForm → List (List ℕ) → Option (List ℕ) → List ℕ → List (Record × ℕ)
 lines_in reading form keys number text = lines_under reading.scale form keys number (records_in reading.delimiter text)

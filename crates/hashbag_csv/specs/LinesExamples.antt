@@ -52,7 +52,7 @@ nothing : lines_in whole as_is (codes "a" ∷ []) (Some (codes "n")) (codes "") 
 unfolding csv_on_literals
 nothing = refl
 
--- without a column of numbers each line counts as one, which is 100 hundredths
+-- without a column of numbers each line has the number 1, which is 100 hundredths
 named : lines_in whole as_is (codes "a" ∷ []) None (codes "a,n\nx,7\ny,no number\nx,\n") ≡ (codes "x" ∷ [], 1) ∷ (codes "y" ∷ [], 1) ∷ (codes "x" ∷ [], 1) ∷ []
 unfolding csv_on_literals
 named = refl
@@ -61,12 +61,12 @@ one : lines_in hundredths as_is (codes "a" ∷ []) None (codes "a\nx\n") ≡ (co
 unfolding csv_on_literals
 one = refl
 
--- fields of key columns alone are trimmed, not the names of columns
+-- only fields of key columns are trimmed, not the names of columns
 trims : lines_in whole trimming (codes "a" ∷ codes " b" ∷ []) (Some (codes "n")) (codes "a, b,n\nx\t, y,1\n\"x \",y  ,2\n") ≡ (codes "x" ∷ codes "y" ∷ [], 1) ∷ (codes "x" ∷ codes "y" ∷ [], 2) ∷ []
 unfolding csv_on_literals
 trims = refl
 
--- an empty field of numbers is 0, and its line is a line
+-- an empty field of numbers is 0
 blanks : lines_in hundredths with_blanks (codes "a" ∷ []) (Some (codes "n")) (codes "a;n\nx;\ny;1,5\n") ≡ (codes "x" ∷ [], 0) ∷ (codes "y" ∷ [], 150) ∷ []
 unfolding csv_on_literals
 blanks = refl

@@ -1,4 +1,4 @@
--- Fields of numbers.
+-- Fields that are numbers.
 use Rattle.std.specs.Prelude.{◌≡◌, ℕ, ◌⊎◌, Bool, true, false, List, [], IsTrue, Option, ⊤}
 use Rattle.hashbag_csv.specs.Decimals.{IsDecimal}
 use Rattle.hashbag_csv.specs.Faults.{IsFaultOf}
@@ -13,7 +13,7 @@ use Rattle.hashbag_csv.specs.declared.groups.GroupMark.{GroupMark}
 use Rattle.hashbag_csv.specs.declared.number_form.NumberForm.{NumberForm}
 use Rattle.hashbag_csv.specs.declared.scale.Scale.{Scale}
 
--- an empty field, which is 0
+-- a field is empty, and an empty field is 0
 abbrev pub IsBlankZero : NumberForm → List ℕ → Type 0
 IsBlankZero form field = IsTrue form.blank_is_zero × (field ≡ [])
 
@@ -30,19 +30,19 @@ abbrev pub is_group_fault : Fault → Bool
 is_group_fault (BadGroups field) = true
 is_group_fault _ = false
 
--- what is wrong with a field that isn't read: its groups, or the number without them
+-- the fault of a field that isn't read: the whole part isn't in groups, or the number without group marks has this fault
 abbrev pub IsGroupedFault : Scale → Option GroupMark → List ℕ → Fault → Type 0
 IsGroupedFault scale group field fault =
     let mark = code_of scale.mark in
     ((fits_groups mark group field ≡ false) × (is_group_fault fault ≡ true))
     ⊎ ((fits_groups mark group field ≡ true) × IsFaultOf mark scale.decimals scale.most (ungrouped_if mark group field) fault)
 
--- the error of such a field in this line; an allocation may fail instead
+-- the error of a field that isn't read, in this line; or `Memory`
 abbrev pub IsGroupedError : Scale → Option GroupMark → ℕ → List ℕ → SheetError → Type 0
 IsGroupedError scale group line field (Line at fault) = (at ≡ line) × IsGroupedFault scale group field fault
 IsGroupedError scale group line field Memory = ⊤
 
--- the same, of a field that isn't 0 because it is empty
+-- the error of a field that isn't read in this form, in this line; an empty field that is 0 has no error
 abbrev pub IsErrorOfField : Scale → NumberForm → ℕ → List ℕ → SheetError → Type 0
 IsErrorOfField scale form line field e = ¬ (IsBlankZero form field) × IsGroupedError scale form.group line field e
 

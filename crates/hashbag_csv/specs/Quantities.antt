@@ -6,20 +6,20 @@ use Rattle.std.specs.Map.{keys_of}
 use Rattle.std.specs.declared.cmp.Ordering.{Ordering}
 use Rattle.hashbag.specs.Occurrences.{count}
 
--- how many articles a list names in all: the sum of its numbers
+-- the sum of all numbers of a list
 abbrev pub numbers : {T : Type 0} → List (T × ℕ) → ℕ
 numbers L = sum_by (λ e. e.1) L
 
 module _ {T : Type 0} (eq : T → T → Bool) where
-  -- how many of v a list names in all
+  -- the sum of the numbers that a list has for v
   abbrev pub quantity : T → List (T × ℕ) → ℕ
   quantity v L = sum_by (λ e. if eq v e.0 then e.1 else 0) L
 
-  -- how many entries of a list name v
+  -- how many entries of a list have v
   abbrev pub times : T → List (T × ℕ) → ℕ
   times v L = count eq v (keys_of L)
 
-  -- L names each article of which there are some, once, with how many there are, articles in ascending order
+  -- L has each article v for which `there v` isn't 0, once, with the number `there v`, in ascending order of articles
   pub record IsBalance (cmp : T → T → Ordering) (there : T → ℕ) (L : List (T × ℕ)) : Type 0 where
     pub rising : IsStrictlySortedBy cmp (keys_of L)
     pub counts : All (λ e. (e.1 ≡ there e.0) × (0 < e.1)) L

@@ -1,4 +1,4 @@
--- How the bytes of a CSV text read: its records, the header first.
+-- The records of a CSV text, from its bytes.
 use Rattle.std.specs.Prelude.{◌≡◌, ◌+◌, ℕ, Bool, true, false, List, [], ◌∷◌, length, Option, Some, None}
 use Rattle.std.specs.Borrow.{Bor}
 use Rattle.csv.specs.Reading.{default_config, is_flexible, names_headers, reader_config, reader_headers, reader_state, reader_trim, records, records_from, source_of, strip_bom, took_first}
@@ -15,7 +15,7 @@ byte_of Comma = 44
 byte_of Semicolon = 59
 byte_of Tab = 9
 
--- quotes around fields, two quotes for one in them, and `\n`, `\r` or both between records
+-- fields may be in quotes, two quotes in such a field are one, and `\n`, `\r` or both are between records
 abbrev pub config_of : Delimiter → Config
 config_of d = record default_config { delimiter = byte_of d }
 
@@ -23,16 +23,16 @@ config_of d = record default_config { delimiter = byte_of d }
 abbrev pub Record : Type 0
 Record = List (List ℕ)
 
--- the records of a text, the header first; one byte order mark at its front, or two, aren't read
+-- the records of a text, the header first; one or two byte order marks at its front are skipped
 abbrev pub records_in : Delimiter → List ℕ → List Record
 records_in d text = records (config_of d) (strip_bom (strip_bom text))
 
--- the records of what a reader has left
+-- the records in the rest of a text, for a parser in the state `s`; none if there is no text
 abbrev pub records_after : Config → State → Option (List ℕ) → List Record
 records_after cfg s None = []
 records_after cfg s (Some text) = records_from cfg (length text + 1) s text
 
--- the records that a reader of fields between these delimiters has left
+-- the records that a reader with this delimiter hasn't read
 abbrev pub records_left : Delimiter → Reader (Bor (List ℕ)) → List Record
 records_left d r = records_after (config_of d) (reader_state r) (source_of (λ b. Some b.now) r)
 
@@ -41,7 +41,7 @@ abbrev pub IsReader : Delimiter → Reader (Bor (List ℕ)) → Type 0
 IsReader d r = (reader_config r ≡ config_of d) × (reader_trim r ≡ trim.None) × (is_flexible r ≡ true) × (names_headers r ≡ false)
     × (took_first r ≡ false → reader_headers r ≡ None)
 
--- a read: `fields` are the next record, or no record was left
+-- true: `fields` is the first of the records `before`, and `after` are the others; false: `before` is empty
 abbrev pub IsNext : Bool → Record → List Record → List Record → Type 0
 IsNext true fields before after = before ≡ fields ∷ after
 IsNext false fields before after = before ≡ []

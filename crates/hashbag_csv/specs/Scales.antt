@@ -5,7 +5,7 @@ use Rattle.hashbag_csv.specs.Marks.{code_of}
 use Rattle.hashbag_csv.specs.declared.scale.Mark.{Mark}
 use Rattle.hashbag_csv.specs.declared.scale.Scale.{Scale}
 
--- a scale has these decimals behind this mark, and the greatest number of all
+-- a scale has this number of decimals after this mark, and the greatest number `usize.MAX`
 abbrev pub IsWidestScale : ℕ → Mark → Scale → Type 0
 IsWidestScale decimals mark scale = (scale.decimals ≡ decimals) × (scale.mark ≡ mark) × (scale.most ≡ 2 ^ 64 - 1)
 

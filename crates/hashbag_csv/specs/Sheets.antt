@@ -1,4 +1,4 @@
--- What a sheet has read, and what it has left.
+-- The record that a sheet read last, and the records that it hasn't read.
 use Rattle.std.specs.Prelude.{◌≡◌, ◌≢◌, ◌<◌, ◌==◌, ◌⊎◌, nat_le, if◌then◌else◌, ℕ, Bool, true, false, List, [], ◌∷◌, length, get_or, All, ⊤}
 use Rattle.csv.specs.Records.{fields_of}
 use Rattle.hashbag_csv.specs.Readers.{Record, records_left}
@@ -13,7 +13,7 @@ use Rattle.hashbag_csv.specs.declared.sheet.Sheet.{Sheet}
 abbrev pub read_last : Sheet → Record
 read_last s = fields_of s.record
 
--- the records not yet read, without the one read last
+-- the records that haven't been read
 abbrev pub left : Sheet → List Record
 left s = records_left s.delimiter s.reader
 
@@ -29,13 +29,13 @@ place c = c.place
 abbrev pub IsOnlyAt : List ℕ → Record → ℕ → Type 0
 IsOnlyAt name fields p = (p < length fields) × (get_or fields p [] ≡ name) × ((k : ℕ) → k < length fields → get_or fields k [] ≡ name → k ≡ p)
 
--- why a header has not exactly one column of a name
+-- the fault that no field of the header, or more than one, is this name
 abbrev pub IsNameFault : List ℕ → Record → Fault → Type 0
 IsNameFault name fields (NoColumn shown there) = (k : ℕ) → k < length fields → get_or fields k [] ≢ name
 IsNameFault name fields (TwoColumns shown) = (i : ℕ) × (j : ℕ) × (i < j) × (j < length fields) × (get_or fields i [] ≡ name) × (get_or fields j [] ≡ name)
 IsNameFault name fields _ = ⊥
 
--- the error for a header that has not exactly one column of a name; an allocation may fail instead
+-- the error that no field of the header, or more than one, is this name; or `Memory`
 abbrev pub IsColumnError : List ℕ → Record → SheetError → Type 0
 IsColumnError name fields (Line line fault) = IsNameFault name fields fault
 IsColumnError name fields Memory = ⊤
@@ -48,24 +48,24 @@ width_of s = s.width
 abbrev pub is_short_allowed : Sheet → Bool
 is_short_allowed s = s.allows_short
 
--- both are as before
+-- the header's width, and whether records may be shorter, are as before
 abbrev pub KeepsHeader : Sheet → Sheet → Type 0
 KeepsHeader old new = (width_of new ≡ width_of old) × (is_short_allowed new ≡ is_short_allowed old)
 
--- a record has as many fields as the header, which has `width`, or fewer if that is allowed
+-- whether a record has `width` fields, as the header has, or fewer if `short`
 abbrev pub fits_header : Bool → ℕ → Record → Bool
 fits_header short width r = if short then nat_le (length r) width else length r == width
 
--- the same of a sheet's header
+-- whether a record fits the header of a sheet
 abbrev pub fits_sheet : Sheet → Record → Bool
 fits_sheet s r = fits_header s.allows_short s.width r
 
--- each record after the header fits it
+-- the first of these records is the header, and each record after it fits the header
 abbrev pub FitHeader : Bool → List Record → Type 0
 FitHeader short [] = ⊤
 FitHeader short (header ∷ records) = All (λ r. fits_header short (length header) r ≡ true) records
 
--- whether a fault is that a record has another number of fields
+-- whether a fault is that a record has another number of fields than the header
 abbrev pub is_fields_fault : Fault → Bool
 is_fields_fault (Fields found header) = true
 is_fields_fault _ = false
@@ -77,8 +77,7 @@ is_quote_fault TextAfterQuote = true
 is_quote_fault StrayQuote = true
 is_quote_fault _ = false
 
--- the error of a record that isn't read, and that fits the header or doesn't: a quote is out of place, or it doesn't fit. An allocation may
--- fail instead
+-- `read` fails with this: a quote is misplaced, or the record doesn't fit the header (`fits` is false), or an allocation failed
 abbrev pub IsReadError : Bool → SheetError → Type 0
 IsReadError fits (Line line fault) = (is_quote_fault fault ≡ true) ⊎ ((is_fields_fault fault ≡ true) × (fits ≡ false))
 IsReadError fits Memory = ⊤

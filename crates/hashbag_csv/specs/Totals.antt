@@ -1,4 +1,4 @@
--- Totals that are too large, and what is said of them.
+-- Totals that are too large, and their errors.
 use Rattle.std.specs.Prelude.{◌≡◌, ℕ, Bool, true, false}
 use Rattle.std.specs.String.{string_bytes}
 use Rattle.hashbag_csv.specs.Decimals.{IsDecimal, units}
@@ -17,7 +17,7 @@ abbrev pub is_total : SheetError → Bool
 is_total (Line line fault) = is_total_fault fault
 is_total Memory = false
 
--- the fault that a total is past `most` units, of which there are 10^D in one
+-- the fault that a total is past `most` units of 10^-D
 abbrev pub IsTotalPast : ℕ → ℕ → ℕ → Fault → Type 0
 IsTotalPast mark D most (TotalPastMost greatest) = IsDecimal mark D (string_bytes greatest) × (units mark D (string_bytes greatest) ≡ most)
 IsTotalPast mark D most _ = ⊥

@@ -10,7 +10,7 @@ use std::collections::HashMap;
 use std::hash::BuildHasher;
 use unicode_normalization::to_nfc;
 
-// A field without the white space at both ends, with its case folded, in normal form C.
+// Returns a field without the white space at both ends, with its case folded, in normal form C.
 fn loose_field(alloc: Global, field: &str) -> Result<String, AllocError>
     ensures { IfOk result (λ text. string_bytes text ≡ loose field.now) }
 {
@@ -18,7 +18,7 @@ fn loose_field(alloc: Global, field: &str) -> Result<String, AllocError>
     to_nfc(alloc, folded.as_str())
 }
 
-// Fields in this form.
+// Returns each field in the form of `loose_field`.
 fn loose_fields(alloc: Global, fields: &[String]) -> Result<Vec<String>, AllocError>
     ensures { IfOk result (λ loose. map string_bytes loose.items ≡ loosely (map string_bytes fields.now)) }
 {
@@ -29,7 +29,7 @@ fn loose_fields(alloc: Global, fields: &[String]) -> Result<Vec<String>, AllocEr
     Ok(loose)
 }
 
-// Puts an article next to the first one with these loose fields, or notes that it is the first one.
+// If `seen` has an article with these loose fields, appends the pair of that article and `article`. Else inserts `article` into `seen`.
 fn pair_or_note<'a, A: Article, S: BuildHasher + Drop>(
     seen: &mut HashMap<Vec<String>, &'a A, S>,
     pairs: &mut Vec<(&'a A, &'a A)>,
@@ -52,8 +52,8 @@ fn pair_or_note<'a, A: Article, S: BuildHasher + Drop>(
     }
 }
 
-/// Returns pairs of articles that differ only in case, in white space at their ends, or in normal form: each article with the first that is
-/// so near it, at most `most` pairs. Each article should be in the list once.
+/// Pairs each article with the first of the list from which it differs only in case, in white space at the ends of fields, or in normal
+/// form. Returns at most `most` pairs. Each article should be in the list once.
 ///
 /// # Errors
 ///

@@ -1,4 +1,4 @@
-//! What an article is kept as.
+//! The types of an article: `String` and `Vec<String>`.
 ghost use Rattle.std.specs.Prelude.{◌≡◌, [], ◌∷◌, map, IfErr, IfOk};
 ghost use Rattle.std.specs.String.{string_bytes};
 ghost use Rattle.hashbag_csv.specs.Articles.{same_article};
@@ -16,17 +16,17 @@ use std::alloc::Global;
 use std::hash::Hash;
 use std::slice;
 
-/// The fields of an article, which `==` compares: those of the key columns, in their order. A `String` is the field of one column, and
-/// needs half the memory and time of a `Vec<String>`, which has the fields of any number of columns.
+/// An article: the fields of a line in the key columns, in the order of the columns. `==` compares the fields. A `String` is the field of
+/// one column. It needs half the memory and time of a `Vec<String>`, which has the fields of any number of columns.
 pub trait Article: Ord + Hash + Sized {
-    /// Its fields, as bytes.
+    /// The article's fields, as bytes.
     ghost fields: { Self → Record };
 
-    /// Returns the article of the record that was read last: its fields in these columns, in this form.
+    /// Returns the article of the record that was read last: the record's fields in `columns`, in the form `form`.
     ///
     /// # Errors
     ///
-    /// `Line` if a field isn't UTF-8. `Memory` if an allocation fails; of a `String` also if there isn't one column.
+    /// `Line` if a field isn't UTF-8. `Memory` if an allocation fails; for a `String` also if `columns` hasn't exactly one column.
     fn read(
         alloc: Global,
         sheet: &Sheet<'_>,
@@ -36,7 +36,7 @@ pub trait Article: Ord + Hash + Sized {
         ensures fields { IfOk result (λ article. fields article ≡ fields_at form (map place columns.now) (read_last sheet.now)) }
         ensures fault { IfErr result (λ e. IsTextError e) };
 
-    /// Returns its fields.
+    /// Returns the article's fields.
     fn texts(&self) -> &[String]
         ensures { map string_bytes result.now ≡ fields self.now };
 

@@ -49,12 +49,12 @@ fn bad_lines_left<A: Article + Drop>(
     sheet: &mut Sheet<'_>,
     columns: &LineColumns<'_>,
     scale: Scale,
-    most: usize,
+    max_errors: usize,
 ) -> Result<Vec<SheetError>, SheetError>
-    ensures { IfOk result (λ errors. AreBadLines (IsSaidBy scale columns.now sheet.old) most (left sheet.old) errors.items) }
+    ensures { IfOk result (λ errors. AreBadLines (IsSaidBy scale columns.now sheet.old) max_errors (left sheet.old) errors.items) }
 {
     let mut errors = Vec::new(alloc);
-    'lines: while errors.len() < most {
+    'lines: while errors.len() < max_errors {
         let Some(said) = said_of_next::<A>(alloc, sheet, columns, scale)? else {
             return Ok(errors);
         };
@@ -63,7 +63,7 @@ fn bad_lines_left<A: Article + Drop>(
     Ok(errors)
 }
 
-/// Returns the errors of the bad lines of a text, in the order of the lines: of all, or of the first `most`. A line is bad if it isn't read as
+/// Returns the errors of the bad lines of a text, in the order of the lines: of all, or of the first `max_errors`. A line is bad if it isn't read as
 /// a line with these columns, in this form. That a total is too large is no error of a line here.
 ///
 /// # Errors
@@ -80,12 +80,12 @@ pub fn bad_lines<A: Article + Drop>(
     number: Option<&str>,
     reading: Reading,
     form: LineForm,
-    most: usize,
+    max_errors: usize,
 ) -> Result<Vec<SheetError>, SheetError>
-    ensures { IfOk result (λ errors. AreBadLinesOf reading form (option_copied number.entry) most text.now errors.items) }
+    ensures { IfOk result (λ errors. AreBadLinesOf reading form (option_copied number.entry) max_errors text.now errors.items) }
 {
     let mut sheet = Sheet::open_lines(alloc, text, reading.delimiter, form.allows_short)?;
     let columns = LineColumns::named(alloc, &sheet, keys, number, form)?;
-    let errors = bad_lines_left::<A>(alloc, &mut sheet, &columns, reading.scale, most)?;
+    let errors = bad_lines_left::<A>(alloc, &mut sheet, &columns, reading.scale, max_errors)?;
     Ok(errors)
 }

@@ -1,10 +1,16 @@
 //! Lists of articles with quantities in CSV texts.
-ghost use Rattle.std.specs.Prelude.{◌≡◌, ◌+◌, ◌≤◌, IfOk};
+ghost use Rattle.std.specs.Prelude.{◌≡◌, ◌+◌, ◌≤◌, [], ◌∷◌, map, Some, IfOk};
+ghost use Rattle.hashbag_csv.specs.Counts.{count_line, counts_in, plain_form};
+ghost use Rattle.hashbag_csv.specs.LineColumns.{form_of, key_places, number_place};
+ghost use Rattle.hashbag_csv.specs.Lines.{place_of};
 ghost use Rattle.hashbag_csv.specs.Quantities.{numbers};
+ghost use Rattle.hashbag_csv.specs.Sheets.{read_last};
 
 use crate::delimiter::Delimiter;
 use crate::fault::SheetError;
-use crate::numbers::{scaled_number, total_too_large};
+use crate::line_form::LineForm;
+use crate::lines::LineColumns;
+use crate::numbers::total_too_large;
 use crate::scale::{Mark, Scale};
 use crate::sheet::Sheet;
 use std::alloc::{AllocError, Global};
@@ -47,7 +53,24 @@ impl Reading {
     }
 }
 
-// A total and the number of the record that was read last, if the sum is at most the greatest of the scale.
+// Returns the columns of these names in the header, which was read last.
+fn columns_of<'n>(
+    alloc: Global,
+    sheet: &Sheet<'_>,
+    article: &'n str,
+    number: &'n str,
+) -> Result<LineColumns<'n>, SheetError>
+    ensures article { IfOk result (λ columns. key_places columns ≡ place_of (read_last sheet.now) article.now ∷ []) }
+    ensures number { IfOk result (λ columns. number_place columns ≡ Some (place_of (read_last sheet.now) number.now)) }
+    ensures form { IfOk result (λ columns. form_of columns ≡ plain_form) }
+{
+    let articles = [article];
+    let form = LineForm::plain();
+    let columns = LineColumns::named(alloc, sheet, articles.as_slice(), Some(number), form)?;
+    Ok(columns)
+}
+
+// Returns a total with the number of the record that was read last, if that is at most the greatest of the scale.
 fn sum_of(
     alloc: Global,
     sheet: &Sheet<'_>,
@@ -74,39 +97,20 @@ pub fn read_counts_as(
     alloc: Global,
     text: &[u8],
     article: &str,
-    number_column: &str,
+    number: &str,
     reading: Reading,
 ) -> Result<Vec<(String, usize)>, SheetError>
+    // Its lines are those that the text has.
+    ensures lines { IfOk result (λ counts. map count_line counts.items ≡ counts_in reading article.now number.now text.now) }
     ensures fits { IfOk result (λ counts. numbers counts.items ≤ reading.scale.most) }
 {
     let mut sheet = Sheet::open_with(alloc, text, reading.delimiter)?;
-    let articles = sheet.column(article)?;
-    let numbers = sheet.column(number_column)?;
+    let columns = columns_of(alloc, &sheet, article, number)?;
     let mut counts = Vec::new(alloc);
     let mut total = 0usize;
-    'records: for _ in 0..u64::MAX {
-        if !sheet.read()? {
-            break;
-        }
-        let name = sheet.field(articles)?;
-        let digits = sheet.field(numbers)?;
-        let n = scaled_number(alloc, sheet.line(), digits, digits, reading.scale)?;
+    'lines: while let Some((name, n)) = columns.read::<String>(alloc, &mut sheet, reading.scale)? {
         total = sum_of(alloc, &sheet, total, n, reading.scale)?;
-        counts
-            .push((String::from_str(alloc, name)?, n))
-            .map_err(AllocError::from)?;
+        counts.push((name, n)).map_err(AllocError::from)?;
     }
     Ok(counts)
-}
-
-/// Reads a list as [`read_counts_as`] does, with commas between fields and whole numbers.
-pub fn read_counts(
-    alloc: Global,
-    text: &[u8],
-    article: &str,
-    number_column: &str,
-) -> Result<Vec<(String, usize)>, SheetError>
-    ensures fits { IfOk result (λ counts. numbers counts.items ≤ usize.MAX) }
-{
-    read_counts_as(alloc, text, article, number_column, Reading::plain())
 }

@@ -1,5 +1,5 @@
-//! Numbers with decimals: read exactly, and written with all their decimals. `IsSomeIfFits` says when a result is `None`, and which
-//! number it is else.
+//! Numbers with decimals: read exactly, and written with all decimals of the scale. In clauses, `IsSomeIfFits` says when a result is
+//! `None`, and else which number it has.
 ghost use Rattle.std.specs.Prelude.{◌≡◌, ◌≤◌, ◌<◌, ◌*◌, ◌^◌, Some, IfOk};
 ghost use Rattle.std.specs.String.{string_bytes};
 ghost use Rattle.std.specs.Str.Parse.{IsNumeral, digits_value};
@@ -10,7 +10,7 @@ ghost use Rattle.hashbag_csv.specs.Scales.{IsNumberIn};
 use crate::scale::Scale;
 use std::alloc::{AllocError, Global};
 
-// The number that a text is, if it has only digits and the number fits.
+// Returns the number of a text of digits. Returns `None` for any other text, or if the number is above `usize::MAX`.
 fn number_of(digits: &str) -> Option<usize>
     ensures { IsSomeIfFits result (IsNumeral 10 digits.now) (digits_value 10 digits.now) }
 {
@@ -20,7 +20,7 @@ fn number_of(digits: &str) -> Option<usize>
     digits.parse().ok()
 }
 
-// How many units one is.
+// Returns the number of units in 1.
 pub(crate) fn unit_of(decimals: u32) -> usize
     requires { decimals ≤ 9 }
     ensures { result ≡ 10 ^ decimals }
@@ -28,7 +28,7 @@ pub(crate) fn unit_of(decimals: u32) -> usize
     10usize.pow(decimals)
 }
 
-// The units of a whole number.
+// Returns how many units a whole number is. Returns `None` for any other text, or if the units are above `usize::MAX`.
 fn alone(digits: &str, decimals: u32) -> Option<usize>
     requires { decimals ≤ 9 }
     ensures { IsSomeIfFits result (IsNumeral 10 digits.now) (digits_value 10 digits.now * 10 ^ decimals) }
@@ -39,7 +39,8 @@ fn alone(digits: &str, decimals: u32) -> Option<usize>
     number.checked_mul(unit_of(decimals))
 }
 
-// The units of a whole part and the decimals after it.
+// Returns how many units a whole part and the decimals after it are. Returns `None` if one isn't digits, if `part` has more than `decimals`
+// digits, or if the units are above `usize::MAX`.
 fn joined(whole: &str, part: &str, decimals: u32) -> Option<usize>
     requires { decimals ≤ 9 }
     ensures { IsSomeIfFits result (ArePartsOf decimals whole.now part.now) (units_of decimals whole.now part.now) }
@@ -56,11 +57,11 @@ fn joined(whole: &str, part: &str, decimals: u32) -> Option<usize>
     ones.checked_add(parts)
 }
 
-/// Returns the number that a text is, in units of its scale. The text is digits, or digits, the mark and at least one decimal.
+/// Returns the number that a text is, in units of the scale. The text is digits; or digits, the mark, and at least one decimal.
 ///
 /// Returns `None` for another text, for more decimals than the scale has, and for a number of more than `usize::MAX` units.
 pub fn read_decimal(text: &str, scale: Scale) -> Option<usize>
-    // It is `None` exactly if the text is no such number, or one of more than `usize::MAX` units.
+    // The result is `None` exactly if the text is no such number, or a number of more than `usize::MAX` units.
     ensures { IsSomeIfFits result (IsNumberIn scale text.now) (number_in scale text.now) }
 {
     match text.split_once(scale.mark.character()) {
@@ -69,7 +70,7 @@ pub fn read_decimal(text: &str, scale: Scale) -> Option<usize>
     }
 }
 
-// The digits of a number, after as many zeros as there have to be for this width.
+// Returns the digits of a number, with zeros before them up to this width.
 fn padded(alloc: Global, number: usize, width: u32) -> Result<String, AllocError>
     requires fits { number < 10 ^ width }
     requires wide { 0 < width }
@@ -85,7 +86,7 @@ fn padded(alloc: Global, number: usize, width: u32) -> Result<String, AllocError
     Ok(text)
 }
 
-/// Writes a number of units with all decimals of the scale. [`read_decimal`] returns the number again.
+/// Returns a number of units as text, with all decimals of the scale. From that text [`read_decimal`] returns the number.
 pub fn write_decimal(alloc: Global, number: usize, scale: Scale) -> Result<String, AllocError>
     ensures { IfOk result (λ text. IsNumberIn scale (string_bytes text) × (number_in scale (string_bytes text) ≡ number)) }
 {
@@ -99,7 +100,7 @@ pub fn write_decimal(alloc: Global, number: usize, scale: Scale) -> Result<Strin
     Ok(text)
 }
 
-/// Writes a number of units, reads the text again, and returns what was read, which is the number.
+/// Converts a number of units into text, and returns what [`read_decimal`] returns for that text: the number.
 pub fn read_back(alloc: Global, number: usize, scale: Scale) -> Result<Option<usize>, AllocError>
     ensures { IfOk result (λ read. read ≡ Some number) }
 {

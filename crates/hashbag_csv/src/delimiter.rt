@@ -26,7 +26,7 @@ impl Delimiter {
         }
     }
 
-    /// Returns the delimiter of one of the names `,`, `;`, `tab` and `\t`, and a comma for another name.
+    /// Returns the delimiter with this name: `,`, `;`, `tab` or `\t`. Returns a comma for any other name.
     pub fn named(name: &str) -> Delimiter {
         match name {
             ";" => Delimiter::Semicolon,

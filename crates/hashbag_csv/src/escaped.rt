@@ -1,11 +1,11 @@
-//! Texts of the input as they are shown.
+//! Texts of the input, as messages show them.
 use std::alloc::{AllocError, Global};
 use std::fmt;
 
 // A message shows at most this many characters of a field.
 const SHOWN: usize = 60;
 
-/// A text with its control characters escaped, so that it stays on its line.
+/// Shows a text with its control characters escaped, so that the text stays on one line.
 #[derive(Clone, Copy)]
 pub struct Escaped<'a>(pub &'a str);
 
@@ -22,7 +22,7 @@ impl fmt::Display for Escaped<'_> {
     }
 }
 
-/// Returns the beginning of a field, as a message shows it.
+/// Returns the first 60 characters of a field, with control characters escaped, and `..` if the field is longer.
 pub fn shown(alloc: Global, field: &str) -> Result<String, AllocError> {
     match field.char_indices().nth(SHOWN) {
         Some((end, _)) => format!(in alloc; "{}..", Escaped(&field[..end])),

@@ -11,15 +11,15 @@ pub enum Fault {
     /// The text has no record.
     #[error("no header")]
     NoHeader,
-    /// The text is UTF-16, as its mark says.
+    /// The text begins with a byte order mark of UTF-16.
     #[error("UTF-16; `--encoding UTF-16` reads it")]
     Utf16,
     /// The header has no column of this name.
     #[error("no column `{name}`; there are: {there}")]
     NoColumn {
-        /// The name.
+        /// The name that was looked for.
         name: String,
-        /// The names that it has, and one of them that is near, or another delimiter if they look like one name.
+        /// The names in the header, at most 12, and a hint: a name near `name`, or another delimiter that the only name contains.
         there: String,
     },
     /// The header has several columns of this name.
@@ -39,10 +39,10 @@ pub enum Fault {
     Fields {
         /// How many fields the record has.
         found: u64,
-        /// How many the header has.
+        /// How many fields the header has.
         header: u64,
     },
-    /// A field isn't UTF-8.
+    /// A field of this column isn't UTF-8.
     #[error("column `{0}` is not UTF-8; if it is Windows-1252, `--encoding Windows-1252`")]
     NotText(String),
     /// A field is no number.
@@ -54,18 +54,18 @@ pub enum Fault {
     /// A mark between groups of digits is in another place than before every third digit.
     #[error("groups of three digits wanted: `{0}`")]
     BadGroups(String),
-    /// A number has more decimals than are read.
+    /// A number has more decimals than the scale.
     #[error("more than {most} decimals: `{field}`")]
     TooManyDecimals {
-        /// How many are read.
+        /// The number of decimals of the scale.
         most: u32,
         /// The field.
         field: String,
     },
-    /// A number is past the greatest that is read.
+    /// A number is above the greatest that is read.
     #[error("number past {most}: `{field}`")]
     PastMost {
-        /// The greatest number, with its decimals.
+        /// The greatest number that is read, as text with all decimals of the scale.
         most: String,
         /// The field.
         field: String,
@@ -73,7 +73,7 @@ pub enum Fault {
     /// A field names no kind of movement.
     #[error("neither `in` nor `out`: `{0}`")]
     NoKind(String),
-    /// With this line the total is past the greatest number that is read, which is shown with its decimals.
+    /// With this line the total is above the greatest number that is read. The text is that number, with all decimals of the scale.
     #[error("total past {0}")]
     TotalPastMost(String),
 }
@@ -81,12 +81,12 @@ pub enum Fault {
 /// Why a CSV text wasn't read.
 #[derive(Debug, Drop, Error)]
 pub enum SheetError {
-    /// A line is bad. Lines are counted from 1, line ends within quotes too.
+    /// A line is bad. Lines are counted from 1, and a line end within quotes counts too.
     #[error("{line}: {fault}")]
     Line {
         /// The line on which the record begins.
         line: u64,
-        /// What is wrong with it.
+        /// What is wrong with the record.
         fault: Fault,
     },
     /// An allocation failed.
@@ -97,7 +97,7 @@ pub enum SheetError {
 impl SheetError {
     ghost use Rattle.hashbag_csv.specs.Totals.{is_total};
 
-    /// Returns whether a total is too large.
+    /// Returns whether the error is that a total is too large ([`Fault::TotalPastMost`]).
     pub fn is_total(&self) -> bool
         ensures { result ≡ is_total self.now }
     {
@@ -121,7 +121,7 @@ impl From<AllocError> for SheetError {
     }
 }
 
-// The trouble of a file that has this error.
+// Returns the trouble that names the file and has this error.
 fn trouble_of<'a>(
     alloc: Global,
     file: &'a str,
@@ -138,7 +138,7 @@ fn trouble_of<'a>(
     }
 }
 
-/// Names the file in which a line is bad.
+/// Returns the value that was read. An error becomes a [`Trouble`] that names the file.
 ///
 /// # Errors
 ///

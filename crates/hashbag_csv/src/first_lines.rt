@@ -1,4 +1,4 @@
-//! What the first line with an article has in other columns.
+//! For each article, the fields that its first line has in other columns.
 ghost use Rattle.std.specs.Prelude.{◌≡◌, ◌∷◌, [], List, map, IfOk, OnOk};
 ghost use Rattle.std.specs.String.{string_bytes};
 ghost use Rattle.hashbag_csv.specs.FirstLines.{AddsFirsts, Carried, HasFirsts, carried_by, carried_named, first_of};
@@ -15,18 +15,19 @@ use std::alloc::{AllocError, Global};
 use std::collections::HashMap;
 use std::hash::BuildHasher;
 
-/// The names of columns.
+/// The names of the columns that [`add_first_lines`] reads.
 #[derive(Clone, Copy)]
 pub struct Names<'n> {
-    /// Those of an article.
+    /// The key columns.
     pub keys: &'n [&'n str],
-    /// Those whose fields are carried along.
+    /// The columns whose fields are kept with the article (`--carry`).
     pub carried: &'n [&'n str],
-    /// Whether the header may lack some of the latter, whose fields are empty then.
+    /// Whether the header may lack columns of `carried`. Their fields are then empty.
     pub may_lack: bool,
 }
 
-// The columns of these names in the header, which must be the record that was read last. Those that it lacks are empty in each record.
+// Returns the columns with these names in the header. A column that the header lacks is empty in each record. Call it before the first
+// `Sheet::read`, which replaces the header.
 fn columns_or_empty<'n>(
     alloc: Global,
     sheet: &Sheet<'_>,
@@ -42,7 +43,8 @@ fn columns_or_empty<'n>(
     Ok(columns)
 }
 
-// The columns that are carried along.
+// Returns the columns `names.carried`. If `names.may_lack`, a column that the header lacks is empty in each record. Call it before the
+// first `Sheet::read`, which replaces the header.
 fn carried_columns<'n>(
     alloc: Global,
     sheet: &Sheet<'_>,
@@ -57,7 +59,7 @@ fn carried_columns<'n>(
     Ok(columns)
 }
 
-// Adds the record that was read last: the fields that are carried along with its article, if that isn't there yet.
+// If `firsts` lacks the article of the record that was read last, inserts the article with its carried fields.
 fn add_line<A: Article + Drop, S: BuildHasher + Drop>(
     alloc: Global,
     sheet: &Sheet<'_>,
@@ -83,7 +85,7 @@ fn add_line<A: Article + Drop, S: BuildHasher + Drop>(
     }
 }
 
-// Adds the lines that are left of a sheet.
+// Does what `add_line` does for each record that hasn't been read.
 fn add_lines<A: Article + Drop, S: BuildHasher + Drop>(
     alloc: Global,
     sheet: &mut Sheet<'_>,
@@ -100,17 +102,23 @@ fn add_lines<A: Article + Drop, S: BuildHasher + Drop>(
     Ok(())
 }
 
-/// Adds the lines of a text: of each article that isn't there yet the fields of the columns that are carried along, as they are in the first
-/// line that has it. Articles are read in this form.
+/// Inserts each article of a text that `firsts` lacks, with the carried fields of the first line that has the article. Articles are read in
+/// the form `form`, carried fields as they are.
 ///
 /// # Errors
 ///
-/// `Line` for the first bad line: of a wrong number of fields, or with a field in one of these columns that isn't UTF-8. Also if the header
-/// has more than one column of a name, or none, unless it may lack it. `Memory` if an allocation fails. After an error some lines are added.
+/// `Line` for the first of these:
+///
+/// - the text is UTF-16, or has no header;
+/// - more than one column of the header has one of the names, or none has it (a carried name: only without `may_lack`);
+/// - a quote is misplaced, or a record has the wrong number of fields;
+/// - a key field, or a carried field of a new article, isn't UTF-8.
+///
+/// `Memory` if an allocation fails. After an error the lines before it have been added.
 ///
 /// # Complexity
 ///
-/// Allocates the article of each line. Keeps new ones with their fields, and drops the others. Hashes each article once or twice.
+/// Allocates the article of each line, and drops it unless it is new. Hashes each article once, and a new one twice.
 pub fn add_first_lines<A: Article + Drop, S: BuildHasher + Drop>(
     alloc: Global,
     text: &[u8],
@@ -129,11 +137,12 @@ pub fn add_first_lines<A: Article + Drop, S: BuildHasher + Drop>(
     Ok(())
 }
 
-/// Returns the fields that are carried along with an article: those of the first line that has it, or none if no line has it.
+/// Returns the carried fields of an article: the fields of the first line that has it, or none if no line has it.
 pub fn first_fields<'f, A: Article + Drop, S: BuildHasher + Drop>(
     firsts: &'f HashMap<A, Vec<String>, S>,
     article: &A,
 ) -> &'f [String]
+    // `K` lists the lines that were added.
     ensures { (K : List Carried) → HasFirsts A.eq A.fields K firsts.now
         → map string_bytes result.now ≡ first_of (A.fields article.now) K }
 {

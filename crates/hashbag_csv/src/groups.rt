@@ -8,7 +8,7 @@ ghost use Rattle.hashbag_csv.specs.Marks.{code_of};
 use crate::scale::Mark;
 use std::alloc::{AllocError, Global};
 
-/// What is between groups of three digits.
+/// The mark between groups of three digits.
 #[derive(Clone, Copy, PartialEq, Eq, Debug)]
 pub enum GroupMark {
     /// `.`
@@ -22,7 +22,7 @@ pub enum GroupMark {
 }
 
 impl GroupMark {
-    /// Returns the mark of one of the names `.`, `,`, `'`, `space` and a space, and `None` for another name.
+    /// Returns the mark with this name: `.`, `,`, `'`, `space` or a space. Returns `None` for any other name.
     pub fn named(name: &str) -> Option<GroupMark> {
         match name {
             "." => Some(GroupMark::Point),
@@ -33,7 +33,7 @@ impl GroupMark {
         }
     }
 
-    /// Returns the mark itself.
+    /// Returns the mark as a byte.
     pub fn byte(self) -> u8
         ensures byte { result ≡ group_code self }
         ensures ascii { result < 128 }
@@ -54,7 +54,7 @@ fn has_none(text: &[u8], group: u8) -> bool
     text.iter().all(|byte| *byte != group)
 }
 
-// Whether a byte with `behind` bytes after it is what it should be there: the mark, or a digit.
+// Returns whether a byte is right with `behind` bytes after it: the mark if a whole number of groups follows, else a digit.
 fn fits(byte: u8, behind: usize, group: u8) -> bool
     ensures { result ≡ fits_place group byte behind }
 {
@@ -75,7 +75,7 @@ fn push_digit(digits: &mut String, byte: u8, group: u8) -> Result<(), AllocError
     digits.push(char::from(byte))
 }
 
-// The digits of groups of three, which the mark is between, or `None` if a byte is in another place.
+// Returns the digits of groups of three with the mark between them, or `None` if a byte isn't right at its place (`fits`).
 fn digits_of_groups(alloc: Global, whole: &[u8], group: u8) -> Result<Option<String>, AllocError>
     requires ascii { group < 128 }
     ensures { IfOk result (λ digits. IsTextIf (marks_fit group whole.now) (without group whole.now) digits) }
@@ -92,7 +92,7 @@ fn digits_of_groups(alloc: Global, whole: &[u8], group: u8) -> Result<Option<Str
     Ok(Some(digits))
 }
 
-// A text without the mark, or `None` if it has the mark in another place than between groups of three digits.
+// Returns a text without the mark. Returns `None` if the text has the mark, but isn't groups of three digits with the mark between them.
 fn digits_of(alloc: Global, whole: &str, group: u8) -> Result<Option<String>, AllocError>
     requires ascii { group < 128 }
     ensures { IfOk result (λ digits. IsTextIf (is_in_groups group whole.now) (without group whole.now) digits) }
@@ -106,8 +106,8 @@ fn digits_of(alloc: Global, whole: &str, group: u8) -> Result<Option<String>, Al
     digits_of_groups(alloc, whole.as_bytes(), group)
 }
 
-/// Returns a number without the marks between the groups of its whole part, or `None` if the whole part has the mark in another place than
-/// before every third digit, counted from its end.
+/// Returns a number without the group marks of its whole part. Returns `None` if the whole part has the mark, but isn't groups of three
+/// digits with the mark between them. The first group may have one or two digits.
 pub fn ungrouped_text(
     alloc: Global,
     text: &str,

@@ -5,6 +5,6 @@
 pub struct KeyForm {
     /// The spaces and tabs at both ends are removed.
     pub trim: bool,
-    /// Upper and lower case become one, after that.
+    /// After that the case is folded: upper and lower case become one.
     pub fold: bool,
 }

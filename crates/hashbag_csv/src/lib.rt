@@ -1,4 +1,4 @@
-//! Lists of articles with quantities: read from CSV texts, put into bags, taken out of them again, and written.
+//! Lists of articles with quantities: read from CSV texts, converted into bags and back, and written.
 #![tactic(auto)]
 
 pub mod alike;

@@ -9,14 +9,14 @@ use crate::number_form::NumberForm;
 pub struct LineForm {
     /// In which form the fields of an article are compared, and shown.
     pub key: KeyForm,
-    /// What a field of numbers may be.
+    /// How the field of a number may be written.
     pub number: NumberForm,
-    /// Whether fields may be missing at the end of a record, which are empty then.
+    /// Whether a record may have fewer fields than the header. The missing fields are empty.
     pub allows_short: bool,
 }
 
 impl LineForm {
-    /// Returns the form of fields that are compared as they are, and of numbers that are written out.
+    /// Returns the form in which fields are compared as they are, numbers are never empty and have no group marks, and no field is missing.
     pub fn plain() -> LineForm
         ensures trim { result.key.trim ≡ false }
         ensures fold { result.key.fold ≡ false }

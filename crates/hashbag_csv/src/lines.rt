@@ -1,5 +1,6 @@
-//! The lines of a sheet: an article, which is the fields of its key columns, and a number.
-ghost use Rattle.std.specs.Prelude.{◌≡◌, ◌≢◌, ◌⊎◌, ◌∷◌, ℕ, [], true, map, get_or, option_map, IfErr, IfOk, IfSome, OnOk};
+//! The lines of a sheet: an article, which is the fields of the key columns, and a number. A number is in units of the scale: with two
+//! decimals `1.50` is 150.
+ghost use Rattle.std.specs.Prelude.{◌≡◌, ◌≢◌, ◌⊎◌, [], true, map, get_or, option_map, IfErr, IfOk, IfSome, OnOk};
 ghost use Rattle.std.specs.String.{string_bytes};
 ghost use Rattle.hashbag_csv.specs.BadLines.{HasNumber, IsNumberError, IsTextError};
 ghost use Rattle.hashbag_csv.specs.KeyForms.{field_in, trimmed_if};
@@ -18,7 +19,7 @@ use crate::sheet::{Column, Sheet};
 use caseless::default_case_fold_str;
 use std::alloc::{AllocError, Global};
 
-/// The columns of a line: those of the article's fields, and that of its number. Without the latter each line counts as one.
+/// The key columns, which name the article, and the column of the number. Without that column, each line has the number 1.
 #[derive(Drop)]
 pub struct LineColumns<'n> {
     article: Vec<Column<'n>>,
@@ -26,20 +27,20 @@ pub struct LineColumns<'n> {
     form: LineForm,
 }
 
-/// Returns the column of this name in the header, which must be the record that was read last.
+/// Returns the column with this name in the header. Call it before the first [`Sheet::read`], which replaces the header.
 ///
 /// # Errors
 ///
-/// `Line` if it is the name of no column, or of more than one. `Memory` if an allocation fails.
+/// `Line` if no column of the header, or more than one, has the name. `Memory` if an allocation fails.
 pub fn column_of<'n>(sheet: &Sheet<'_>, name: &'n str) -> Result<Column<'n>, SheetError>
-    // It is the first that has the name.
+    // `place_of` is the first place with the name. Here that is the only one.
     ensures { IfOk result (λ column. place column ≡ place_of (read_last sheet.now) name.now) }
 {
     let column = sheet.column(name)?;
     Ok(column)
 }
 
-// The columns of these names in the header, which must be the record that was read last.
+// Returns the columns with these names in the header, as `column_of` does.
 pub(crate) fn columns_of<'n>(
     alloc: Global,
     sheet: &Sheet<'_>,
@@ -55,7 +56,7 @@ pub(crate) fn columns_of<'n>(
     Ok(columns)
 }
 
-// The column of this name, if there is a name, in the header, which must be the record that was read last.
+// Returns the column with this name in the header, as `column_of` does, or `None` without a name.
 fn number_column_of<'n>(
     sheet: &Sheet<'_>,
     name: Option<&'n str>,
@@ -68,7 +69,7 @@ fn number_column_of<'n>(
     }
 }
 
-// The text of this column in the record that was read last, trimmed if that is asked for.
+// Returns the field of this column in the record that was read last, trimmed if `trim`.
 fn text_of<'s>(sheet: &'s Sheet<'_>, column: Column<'_>, trim: bool) -> Result<&'s str, SheetError>
     ensures value { IfOk result (λ text. text.now ≡ trimmed_if trim (get_or (read_last sheet.now) (place column.entry) [])) }
     ensures fault { IfErr result (λ e. IsTextError e) }
@@ -79,7 +80,7 @@ fn text_of<'s>(sheet: &'s Sheet<'_>, column: Column<'_>, trim: bool) -> Result<&
     sheet.field(column)
 }
 
-// The field of this column, in this form, of the record that was read last.
+// Returns the field of this column in the record that was read last, in the form `form`.
 pub(crate) fn key_field(
     alloc: Global,
     sheet: &Sheet<'_>,
@@ -96,7 +97,7 @@ pub(crate) fn key_field(
     Ok(String::from_str(alloc, text)?)
 }
 
-// The fields of several columns in the record that was read last, in this form.
+// Returns the fields of these columns in the record that was read last, in the form `form`.
 pub(crate) fn fields_of(
     alloc: Global,
     sheet: &Sheet<'_>,
@@ -114,7 +115,8 @@ pub(crate) fn fields_of(
     Ok(fields)
 }
 
-// The number in this column of the record that was read last, in units of the scale. Without a column it is one.
+// Returns the number in this column of the record that was read last, in units of the scale. Without a column it is 10^decimals units,
+// which is 1.
 fn number_of(
     alloc: Global,
     sheet: &Sheet<'_>,
@@ -136,12 +138,12 @@ fn number_of(
 }
 
 impl<'n> LineColumns<'n> {
-    /// Returns the columns of these names in the header, which must be the record that was read last. Lines will be read in this form. If
-    /// `number` is `None`, each line counts as one.
+    /// Returns the columns with these names in the header, for lines in the form `form`. If `number` is `None`, each line has the number 1.
+    /// Call it before the first [`Sheet::read`], which replaces the header.
     ///
     /// # Errors
     ///
-    /// `Line` if a name is that of no column, or of more than one. `Memory` if an allocation fails.
+    /// `Line` if no column of the header, or more than one, has one of the names. `Memory` if an allocation fails.
     pub fn named(
         alloc: Global,
         sheet: &Sheet<'_>,
@@ -166,21 +168,23 @@ impl<'n> LineColumns<'n> {
     ///
     /// # Errors
     ///
-    /// `Line` if the record is bad, and what is wrong with it. `Memory` if an allocation fails.
+    /// `Line` if a quote is misplaced, the number of fields is wrong, a field isn't UTF-8, or [`field_number`] fails. `Memory` if an
+    /// allocation fails.
     pub fn read<A: Article + Drop>(
         &self,
         alloc: Global,
         sheet: &mut Sheet<'_>,
         scale: Scale,
     ) -> Result<Option<(A, usize)>, SheetError>
-        // `left` are the records not yet read. The line is that of the next one; or none was left.
+        // `next` is the line of the first record that hadn't been read, or `None` if all had been.
         ensures line { IfOk result (λ next. ReadsNextLine A.fields (line_by scale self.now) sheet.old next sheet.new) }
 
-        // The next record has as many fields as the header, or fewer if that is allowed.
+        // The record that was read has as many fields as the header, or fewer if that is allowed.
         ensures fits { IfOk result (λ next. IfSome next (λ _. ReadsOne sheet.old sheet.new × (fits_sheet sheet.old (read_last sheet.new) ≡ true))) }
         ensures number { IfOk result (λ next. IfSome next (λ _. HasNumberBy scale self.now (read_last sheet.new))) }
 
-        // What is wrong with the next record, which was read.
+        // `fault`: the error is of the record that was read. `reads_on`: after any error but `Memory` the record has been read, so the next
+        // call reads the one after it.
         ensures fault { IfErr result (λ e. IsLineErrorBy scale self.now sheet.old sheet.new e) }
         ensures reads_on { IfErr result (λ e. e ≢ SheetError.Memory → ReadsOne sheet.old sheet.new) }
         ensures same { KeepsHeader sheet.old sheet.new }

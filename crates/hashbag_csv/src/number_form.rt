@@ -1,4 +1,4 @@
-//! Fields of numbers.
+//! Fields that are numbers.
 ghost use Rattle.std.specs.Prelude.{◌≡◌, ◌≤◌, IfErr, IfOk};
 ghost use Rattle.hashbag_csv.specs.Lines.{number_by};
 ghost use Rattle.hashbag_csv.specs.NumberForms.{IsErrorOfField, IsGroupedError, IsGroupedNumber, IsNumberField, grouped_number_in};
@@ -10,16 +10,16 @@ use crate::numbers::scaled_number;
 use crate::scale::Scale;
 use std::alloc::Global;
 
-/// What a field of numbers may be.
+/// How the field of a number may be written.
 #[derive(Clone, Copy, PartialEq, Eq, Debug)]
 pub struct NumberForm {
     /// Whether an empty field is 0.
     pub blank_is_zero: bool,
-    /// What may be before every third digit, counted from the decimal mark.
+    /// The mark that may be between groups of three digits, in the part before the decimal mark.
     pub group: Option<GroupMark>,
 }
 
-// The number of a field that may have this mark between groups of three digits, in units of this scale.
+// Returns the number of a field that may have this mark between groups of three digits, in units of the scale.
 fn grouped_number(
     alloc: Global,
     line: u64,
@@ -45,10 +45,10 @@ fn grouped_number(
 ///
 /// # Errors
 ///
-/// `Line` with this line, unless the field is empty and that is 0:
+/// `Line` with this line, unless the field is empty and an empty field is 0:
 ///
-/// - `BadGroups` exactly if the whole part has the form's mark in another place than before every third digit, counted from its end;
-/// - else the fault of [`scaled_number`] of the text without these marks.
+/// - `BadGroups` exactly if the whole part has the form's mark, but isn't groups of three digits with the mark between them;
+/// - else the fault that [`scaled_number`] returns for the text without these marks.
 ///
 /// `Memory` if a text can't be allocated.
 pub fn field_number(
@@ -58,11 +58,11 @@ pub fn field_number(
     scale: Scale,
     form: NumberForm,
 ) -> Result<usize, SheetError>
-    // The field is a number in this form, which is n units and at most the greatest of the scale.
+    // The field is a number of n units in this form, and n is at most the greatest number of the scale.
     ensures number { IfOk result (λ n. IsNumberField scale form field.now × (n ≡ number_by scale form field.now)) }
     ensures most { IfOk result (λ n. n ≤ scale.most) }
 
-    // The error is in this line, and has the fault that the field has; or it is `Memory`.
+    // The error has this line and the field's fault, or is `Memory`.
     ensures fault { IfErr result (λ e. IsErrorOfField scale form line field.now e) }
 {
     if form.blank_is_zero && field.is_empty() {

@@ -33,14 +33,14 @@ fn are_digits(text: &str) -> bool
     has_digits_alone(text.as_bytes())
 }
 
-// The text before the first mark, and the text after it.
+// Returns the text before the first mark and the text after the mark, or `None` if the text has no mark.
 fn cut(text: &str, mark: Mark) -> Option<(&str, &str)>
     ensures { IsCutAtMark (code_of mark) text.now result }
 {
     text.split_once(mark.character())
 }
 
-// The number of decimals of a text that is digits, the mark, and digits.
+// Returns the number of decimals of a text that is digits, the mark, and digits. Returns `None` for any other text.
 #[tactic(auto, unfolding(crate::specs::Faults::HasParts))]
 fn decimals_in(text: &str, mark: Mark) -> Option<usize>
     ensures { IsNumberOfDecimals (code_of mark) text.now result }
@@ -57,7 +57,7 @@ fn decimals_in(text: &str, mark: Mark) -> Option<usize>
     Some(part.len())
 }
 
-// Whether a text is digits, single marks between them.
+// Whether a text is digits with single marks between them.
 #[tactic(auto, using(crate::proofs::NumberLemmas::grouped_step, crate::proofs::NumberLemmas::grouped_end))]
 fn are_groups(text: &[u8], mark: u8) -> bool
     ensures { result ≡ is_grouped mark false text.now }
@@ -73,7 +73,7 @@ fn are_groups(text: &[u8], mark: u8) -> bool
     after_digit
 }
 
-// Whether a text is a number with decimals behind this mark, and the other one between groups of the digits before it.
+// Whether a text is a number with decimals after `mark`, and with single marks `other`, or none, between the digits before `mark`.
 #[tactic(auto, unfolding(crate::specs::Faults::HasGroups))]
 fn has_groups(text: &str, mark: Mark, other: u8) -> bool
     ensures { IsTrue result ↔ HasGroups (code_of mark) other text.now }
@@ -87,7 +87,7 @@ fn has_groups(text: &str, mark: Mark, other: u8) -> bool
     are_digits(part)
 }
 
-// Whether a text is a number with decimals behind a point or a comma, such as `1,234.5` or `1.234,5`. Only the message depends on it.
+// Whether a text is a number with decimals after a point or a comma, such as `1,234.5` or `1.234,5`. Only the error depends on this.
 #[tactic(auto, unfolding(crate::specs::Faults::IsFraction))]
 fn is_fraction(text: &str) -> bool
     ensures { IsTrue result ↔ IsFraction text.now }
@@ -98,7 +98,7 @@ fn is_fraction(text: &str) -> bool
     has_groups(text, Mark::Comma, b'.')
 }
 
-// What is wrong with a text that isn't read at this scale. `digits` is it without its group marks, `field` the whole field, which an error shows.
+// Returns the fault of a field that isn't read at this scale. `digits` is the field without group marks. The error shows `field`.
 #[tactic(auto, using(crate::proofs::NumberLemmas::parts_decimal, crate::proofs::NumberLemmas::past))]
 fn fault_of(alloc: Global, digits: &str, field: &str, scale: Scale) -> Result<Fault, AllocError>
     requires { ¬ (IsNumberIn scale digits.now × (number_in scale digits.now ≤ scale.most)) }
@@ -136,9 +136,9 @@ fn fault_of(alloc: Global, digits: &str, field: &str, scale: Scale) -> Result<Fa
 /// `Line` with this line:
 ///
 /// - `PastMost` exactly if the text is a number of more than `scale.most` units;
-/// - `TooManyDecimals` exactly if it has digits on both sides of the mark, and more decimals than the scale, which has some;
-/// - `NotWhole` exactly if the scale has no decimals, and the text has some behind a point or a comma. The other of these two marks may
-///   be between groups of the digits before;
+/// - `TooManyDecimals` exactly if the scale has decimals, and the text is digits, the mark, and more decimals than the scale has;
+/// - `NotWhole` exactly if the scale has no decimals, and the text is a number with decimals after a point or a comma. Single marks of the
+///   other kind may be between the digits before;
 /// - `NoNumber` for any other text.
 ///
 /// `Memory` if the message can't be allocated.
@@ -149,11 +149,11 @@ pub fn scaled_number(
     field: &str,
     scale: Scale,
 ) -> Result<usize, SheetError>
-    // `digits` is a number of n units in the scale, and n is at most its greatest number.
+    // `digits` is a number of n units in the scale, and n is at most the greatest number of the scale.
     ensures number { IfOk result (λ n. IsNumberIn scale digits.now × (number_in scale digits.now ≡ n)) }
     ensures most { IfOk result (λ n. n ≤ scale.most) }
 
-    // The error is in this line, and has the fault that the text has; or it is `Memory`.
+    // The error has this line and the text's fault, or is `Memory`.
     ensures fault { IfErr result (λ e. IsErrorOf (code_of scale.mark) scale.decimals scale.most line digits.now e) }
 {
     match read_decimal(digits, scale) {
@@ -178,7 +178,7 @@ pub fn number(alloc: Global, line: u64, digits: &str, field: &str) -> Result<usi
     scaled_number(alloc, line, digits, field, Scale::whole())
 }
 
-/// Returns the fault of a line with which a total is past the greatest of this scale.
+/// Returns the fault of a line that takes a total past the greatest number of the scale.
 pub fn total_too_large(alloc: Global, scale: Scale) -> Result<Fault, AllocError>
     ensures { IfOk result (λ fault. IsTotalPast (code_of scale.mark) scale.decimals scale.most fault) }
 {

@@ -1,4 +1,4 @@
-//! Lists of articles with quantities, as values: put into bags, and taken out of them.
+//! Conversions between a list of articles with quantities and a bag.
 ghost use Rattle.std.specs.Prelude.{◌≡◌, ◌≤◌, [], length, IfOk, IfErr, OnOk};
 ghost use Rattle.hashbag.specs.Occurrences.{count};
 ghost use Rattle.hashbag_csv.specs.Quantities.{numbers, quantity, IsBalance};
@@ -7,16 +7,16 @@ use hashbag::{BagError, HashBag};
 use std::alloc::{AllocError, Global};
 use std::hash::{BuildHasher, Hash};
 
-/// Returns the bag of a list, under this hash state. It has as many of each article as the list names in all. Nothing is left to be
-/// carried, so each look-up probes one table.
+/// Returns the bag of a list, under this hash state. The count of each article is the sum of its quantities. The carry is finished, so a
+/// look-up probes one table.
 ///
 /// # Errors
 ///
-/// `TooMany` if the numbers of the list are more than `usize::MAX` together. Else only `Memory`, if an allocation fails.
+/// `TooMany` if the sum of all quantities is above `usize::MAX`. `Memory` if an allocation fails.
 ///
 /// # Complexity
 ///
-/// Hashes each entry of the list once, and each value that is carried into a larger table once more.
+/// Hashes each entry once, and a value again each time it is carried into another table.
 pub fn bag_of<T: Eq + Hash + Drop, S: BuildHasher + Drop>(
     alloc: Global,
     state: S,
@@ -34,8 +34,8 @@ pub fn bag_of<T: Eq + Hash + Drop, S: BuildHasher + Drop>(
     Ok(bag)
 }
 
-/// Returns the balance of a bag: each article that it has, once, with its count, articles in ascending order. The list names as many of each as
-/// the bag has, so [`bag_of`] returns an equal bag.
+/// Returns the balance of a bag: each article once, with its count, in ascending order of articles. [`bag_of`] converts the list into an
+/// equal bag.
 ///
 /// # Errors
 ///
@@ -43,7 +43,7 @@ pub fn bag_of<T: Eq + Hash + Drop, S: BuildHasher + Drop>(
 ///
 /// # Complexity
 ///
-/// Allocates the list, and compares as often as a sort of n pairs does.
+/// Allocates the list, and sorts it.
 pub fn balance_of<T: Ord + Hash + Drop, S: BuildHasher + Drop>(
     alloc: Global,
     bag: HashBag<T, S>,

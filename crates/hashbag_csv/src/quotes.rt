@@ -15,7 +15,7 @@ enum Place {
     Bare,
     // In a field in quotes.
     Quoted,
-    // After a quote in such a field: its end, or the first of two.
+    // After a quote within a field in quotes: the quote ends the field, or is the first of two.
     Closed,
 }
 
@@ -31,7 +31,7 @@ pub enum Misplaced {
 }
 
 impl Misplaced {
-    /// Returns the fault of its line.
+    /// Returns the fault of a line with this quote.
     pub fn fault(self) -> Fault
         ensures { is_quote_fault result ≡ true }
     {
@@ -43,7 +43,7 @@ impl Misplaced {
     }
 }
 
-// Returns the state after a byte, or its fault.
+// Returns the place after a byte, or why a quote is misplaced.
 fn next_place(place: Place, byte: u8, delimiter: u8) -> Result<Place, Misplaced> {
     let ends_field = byte == delimiter || byte == b'\n' || byte == b'\r';
     match place {
@@ -57,8 +57,8 @@ fn next_place(place: Place, byte: u8, delimiter: u8) -> Result<Place, Misplaced>
     }
 }
 
-/// Returns the first quote of a record that is out of place, by its index in the bytes of the record, and what is wrong with it. For
-/// a field in quotes that is the quote that opens it.
+/// Returns the index of a record's first misplaced quote, and why it is misplaced, or `None`. If a field in quotes isn't closed, or text
+/// follows its end, the index is that of its opening quote.
 pub fn misplaced_quote(record: &[u8], delimiter: u8) -> Option<(usize, Misplaced)> {
     let mut place = Place::Start;
     // The quote that opens the present field, or a stray one.

@@ -1,4 +1,4 @@
-//! CSV texts that are written.
+//! Writing of CSV texts.
 use crate::delimiter::Delimiter;
 use csv::{Writer, WriterBuilder};
 use std::alloc::{AllocError, Global};

@@ -1,4 +1,4 @@
-//! How numbers with decimals are written, and the greatest that is read.
+//! How numbers with decimals are written, and the greatest number that is read.
 ghost use Rattle.std.specs.Prelude.{◌≡◌, ◌≤◌, ◌<◌, MatchOption};
 ghost use Rattle.hashbag_csv.specs.Decimals.{most_decimals};
 
@@ -14,7 +14,7 @@ pub enum Mark {
 impl Mark {
     ghost use Rattle.hashbag_csv.specs.Marks.{code_of};
 
-    /// Returns the mark itself.
+    /// Returns the mark as a character.
     pub fn character(self) -> char
         ensures { result ≡ code_of self }
     {
@@ -25,12 +25,13 @@ impl Mark {
     }
 }
 
-/// The number of decimals, 0 to 9, the mark before them, and the greatest number. Numbers are counted in units of the last decimal.
+/// The number of decimals, 0 to 9, the mark before the decimals, and the greatest number. Numbers are in units of the last decimal: with
+/// two decimals `1.50` is 150.
 #[derive(Clone, Copy, PartialEq, Eq, Debug)]
 pub struct Scale {
     /// The number of decimals.
     pub decimals: u32,
-    /// The mark before them.
+    /// The mark before the decimals.
     pub mark: Mark,
     /// The greatest number that is read, and the greatest total.
     pub most: usize,
@@ -53,7 +54,7 @@ impl Scale {
         }
     }
 
-    /// Returns the scale with this number of decimals after this mark, or `None` if there are more than 9. The greatest number is
+    /// Returns the scale with this number of decimals after this mark, or `None` for more than 9 decimals. The greatest number is
     /// `usize::MAX` units.
     pub fn new(decimals: u32, mark: Mark) -> Option<Scale>
         ensures { MatchOption result (most_decimals < decimals) (λ scale. IsWidestScale decimals mark scale) }

@@ -14,13 +14,13 @@ use std::alloc::{AllocError, Global};
 use std::fmt::Write;
 use std::str;
 
-// What some programs write at the beginning of a text: a byte order mark.
+// A byte order mark, which some programs write at the beginning of a text.
 const BYTE_ORDER_MARK: &[u8] = b"\xef\xbb\xbf";
 
 // A message names at most this many columns.
 const NAMED: usize = 12;
 
-// Names the first delimiter other than `own` that is found in these bytes, if there is one.
+// Returns the name of the first delimiter other than `own` in these bytes, or `None`.
 fn delimiter_in(bytes: &[u8], own: u8) -> Option<&'static str> {
     for byte in bytes {
         match *byte {
@@ -34,12 +34,12 @@ fn delimiter_in(bytes: &[u8], own: u8) -> Option<&'static str> {
     None
 }
 
-// Returns whether a text has a mark of UTF-16.
+// Returns whether a text begins with a byte order mark of UTF-16.
 fn is_utf16(text: &[u8]) -> bool {
     text.starts_with(b"\xff\xfe") || text.starts_with(b"\xfe\xff")
 }
 
-// How many lines end in these bytes.
+// Returns the number of line feeds in these bytes.
 fn lines_in(bytes: &[u8]) -> u64 {
     let mut lines = 0u64;
     for byte in bytes {
@@ -50,8 +50,8 @@ fn lines_in(bytes: &[u8]) -> u64 {
     lines
 }
 
-// Returns the line where the record read at `position` begins. The position is before the empty lines that the reader skips, so they are counted
-// here.
+// Returns the line where the record read at `position` begins. The position is before the empty lines that the reader skips, so this
+// function counts the empty lines.
 fn line_of(text: &[u8], position: Position) -> u64 {
     let mut line = position.line();
     let rest = text.get(position.byte() as usize..).unwrap_or(&[]);
@@ -69,13 +69,14 @@ fn line_of(text: &[u8], position: Position) -> u64 {
 #[derive(Clone, Copy)]
 pub struct Column<'n> {
     name: &'n str,
+    // The index of the column's field; the number of fields of the header if the header lacks the column.
     place: usize,
 }
 
 /// A CSV text whose records are read one after the other.
 ///
-/// Its first record is the header, and each other one has as many fields, or fewer if that is allowed. A byte order mark, the ends of lines
-/// as `\n` or `\r\n`, fields in quotes and empty lines are read as most programs write them. A quote that is out of place is an error.
+/// The first record is the header. Each other record has as many fields, or fewer if that is allowed. A byte order mark, the ends of lines
+/// as `\n` or `\r\n`, fields in quotes and empty lines are read as most programs write them. A misplaced quote is an error.
 #[derive(Drop)]
 pub struct Sheet<'a> {
     alloc: Global,
@@ -84,8 +85,9 @@ pub struct Sheet<'a> {
     reader: Reader<&'a [u8]>,
     // The record that was read last, the header at first.
     record: ByteRecord,
-    // How many fields the header has, and whether another record may have fewer.
+    // The number of fields of the header.
     width: usize,
+    // Whether a later record may have fewer fields.
     allows_short: bool,
     ghost reads: { has_failed reader ≡ false → IsReader delimiter reader },
 }
@@ -100,7 +102,7 @@ impl<'a> Sheet<'a> {
 
     /// Opens the sheet of a text with commas between fields, and reads its header.
     pub fn open(alloc: Global, text: &'a [u8]) -> Result<Sheet<'a>, SheetError>
-        // The header was read last, and the records after it are left.
+        // The header was read last. `left` are the records after it.
         ensures { IfOk result (λ sheet. records_in Delimiter.Comma text.now ≡ read_last sheet ∷ left sheet) }
     {
         Sheet::open_with(alloc, text, Delimiter::Comma)
@@ -112,21 +114,22 @@ impl<'a> Sheet<'a> {
         text: &'a [u8],
         delimiter: Delimiter,
     ) -> Result<Sheet<'a>, SheetError>
-        // The header was read last, and the records after it are left.
+        // The header was read last. `left` are the records after it.
         ensures { IfOk result (λ sheet. records_in delimiter text.now ≡ read_last sheet ∷ left sheet) }
     {
         let sheet = Sheet::open_lines(alloc, text, delimiter, false)?;
         Ok(sheet)
     }
 
-    /// Opens the sheet of a text with this delimiter between fields, and reads its header. If `allows_short`, a record may have fewer fields.
+    /// Opens the sheet of a text with this delimiter between fields, and reads its header. If `allows_short`, a record may have fewer
+    /// fields than the header.
     pub fn open_lines(
         alloc: Global,
         text: &'a [u8],
         delimiter: Delimiter,
         allows_short: bool,
     ) -> Result<Sheet<'a>, SheetError>
-        // The header was read last, and the records after it are left.
+        // The header was read last. `left` are the records after it.
         ensures records { IfOk result (λ sheet. records_in delimiter text.now ≡ read_last sheet ∷ left sheet) }
         ensures width { IfOk result (λ sheet. (width_of sheet ≡ length (read_last sheet)) × (is_short_allowed sheet ≡ allows_short)) }
     {
@@ -159,10 +162,12 @@ impl<'a> Sheet<'a> {
 
     /// Reads the next record, and returns whether there was one.
     pub fn read(&mut self) -> Result<bool, SheetError>
-        // The next of the records that were left was read; or none was left.
+        // If `found`, the first record of `left` was read; else `left` was empty.
         ensures next { IfOk result (λ found. IsNext found (read_last self.new) (left self.old) (left self.new)) }
 
-        // It has as many fields as the header, or fewer if that is allowed. If the error is about the number of fields, it doesn't.
+        // `fits`: the record has as many fields as the header, or fewer if that is allowed. `fault`: an error about the number of fields is
+        // returned only if it hasn't. `reads_on`: after any error but `Memory` the record has been read, so the next call reads the one
+        // after it.
         ensures fits { IfOk result (λ found. found ≡ true → fits_sheet self.old (read_last self.new) ≡ true) }
         ensures fault { IfErr result (λ e. IsReadError (fits_sheet self.old (read_last self.new)) e) }
         ensures reads_on { IfErr result (λ e. e ≢ SheetError.Memory → ReadsOne self.old self.new) }
@@ -186,7 +191,7 @@ impl<'a> Sheet<'a> {
         found == self.width
     }
 
-    // The error for the last record, whose number of fields isn't the header's.
+    // Returns the error that the record that was read last doesn't fit the header.
     fn fields_error(&self) -> SheetError
         ensures { (fits : Bool) → fits ≡ false → IsReadError fits result }
     {
@@ -213,7 +218,8 @@ impl<'a> Sheet<'a> {
         }
     }
 
-    // Reads the next record, whose quotes may be anywhere, and returns whether there was one. The text is in memory, so no read of it fails.
+    // Reads the next record, whose quotes may be anywhere, and returns whether there was one. The text is in memory, so only an allocation
+    // fails.
     fn take_record(&mut self) -> Result<bool, SheetError>
         ensures next { IfOk result (λ found. IsNext found (read_last self.new) (left self.old) (left self.new)) }
         ensures fault { IfErr result (λ e. e ≡ SheetError.Memory) }
@@ -225,7 +231,7 @@ impl<'a> Sheet<'a> {
         }
     }
 
-    // The error that a quote of the record that was read last is out of place.
+    // Returns the error of the first misplaced quote in the record that was read last, or `None`.
     fn quote_error(&self) -> Option<SheetError>
         ensures { IfSome result (λ e. (fits : Bool) → IsReadError fits e) }
     {
@@ -251,7 +257,7 @@ impl<'a> Sheet<'a> {
         }
     }
 
-    // The bytes of the field at this place in the record that was read last, and none if there is no such field.
+    // Returns the bytes of the field at this place in the record that was read last, or no bytes if the record has no such field.
     fn bytes_at(&self, place: usize) -> &[u8]
         ensures { result.now ≡ get_or (read_last self.now) place [] }
     {
@@ -273,7 +279,7 @@ impl<'a> Sheet<'a> {
         }
     }
 
-    // Appends the first name of the header that is near to this one, if there is one.
+    // Appends a hint with the first name in the header that is near `name`, if there is one.
     fn push_near(&self, text: &mut String, name: &str) -> Result<(), AllocError> {
         for place in 0..self.record.len() {
             if let Ok(there) = str::from_utf8(self.bytes_at(place))
@@ -285,8 +291,8 @@ impl<'a> Sheet<'a> {
         Ok(())
     }
 
-    // Returns the names of the columns of the header; and one that is near to this name, or another delimiter, if that is in the name of the
-    // only column.
+    // Returns the names in the header, at most 12, and a hint. If the only name contains another delimiter, the hint is that delimiter;
+    // else it is the first name near `name`, if there is one.
     fn names_shown(&self, name: &str) -> Result<String, AllocError> {
         let mut text = String::new(self.alloc);
         let columns = self.record.len();
@@ -309,9 +315,9 @@ impl<'a> Sheet<'a> {
         Ok(text)
     }
 
-    /// Returns the column of this name in the header, which must be the record that was read last.
+    /// Returns the column with this name in the header. Call it before the first [`Sheet::read`], which replaces the header.
     pub fn column<'n>(&self, name: &'n str) -> Result<Column<'n>, SheetError>
-        // Its field, and no other, has this name. Else there is none, there are two, or the error is `Memory`.
+        // The column's field, and no other, is this name. The error is that no field is, that more than one is, or `Memory`.
         ensures column { IfOk result (λ column. IsOnlyAt name.now (read_last self.now) (place column)) }
         ensures fault { IfErr result (λ e. IsColumnError name.now (read_last self.now) e) }
     {
@@ -335,8 +341,8 @@ impl<'a> Sheet<'a> {
         }
     }
 
-    /// Returns the column of this name in the header, which must be the record that was read last. If the header has none, returns a column
-    /// whose field is empty in each record.
+    /// Returns the column with this name in the header. If the header lacks it, returns a column whose field is empty in each record. Call
+    /// it before the first [`Sheet::read`], which replaces the header.
     pub fn column_or_empty<'n>(&self, name: &'n str) -> Result<Column<'n>, SheetError>
         ensures { IfOk result (λ column. place column ≡ place_of (read_last self.now) name.now) }
     {
@@ -355,7 +361,7 @@ impl<'a> Sheet<'a> {
         }
     }
 
-    // The text of these bytes, which are from the field of this column in the record that was read last.
+    // Returns `bytes` as text. An error names `column`, whose field they are from.
     fn text_of<'s>(&'s self, column: Column<'_>, bytes: &'s [u8]) -> Result<&'s str, SheetError>
         ensures value { IfOk result (λ text. text.now ≡ bytes.now) }
         ensures fault { IfErr result (λ e. IsTextError e) }
@@ -369,7 +375,7 @@ impl<'a> Sheet<'a> {
         }
     }
 
-    /// Returns the text of a column in the record that was read last.
+    /// Returns the field of a column in the record that was read last, as text.
     pub fn field(&self, column: Column<'_>) -> Result<&str, SheetError>
         ensures value { IfOk result (λ text. text.now ≡ get_or (read_last self.now) (place column.entry) []) }
         ensures fault { IfErr result (λ e. IsTextError e) }
@@ -377,7 +383,7 @@ impl<'a> Sheet<'a> {
         self.text_of(column, self.bytes_at(column.place))
     }
 
-    /// Returns the text of a column in the record that was read last, without the spaces and tabs at both ends.
+    /// Returns the field of a column in the record that was read last, as text, without the spaces and tabs at both ends.
     pub fn trimmed_field(&self, column: Column<'_>) -> Result<&str, SheetError>
         ensures value { IfOk result (λ text. text.now ≡ trimmed (get_or (read_last self.now) (place column.entry) [])) }
         ensures fault { IfErr result (λ e. IsTextError e) }
@@ -385,7 +391,7 @@ impl<'a> Sheet<'a> {
         self.text_of(column, trim(self.bytes_at(column.place)))
     }
 
-    /// Returns an error with this fault at the current record, the one read last.
+    /// Returns an error with this fault, at the line on which the record that was read last begins.
     pub fn bad_line(&self, fault: Fault) -> SheetError
         ensures { (line : ℕ) × (result ≡ SheetError.Line line fault) }
     {

@@ -9,7 +9,7 @@ fn is_space(byte: u8) -> bool
     byte == b' ' || byte == b'\t'
 }
 
-// The bytes without the spaces and tabs at their start.
+// Returns the bytes without the spaces and tabs at their start.
 fn trim_start(bytes: &[u8]) -> &[u8]
     ensures { result.now ≡ start_trimmed bytes.now }
 {
@@ -23,7 +23,7 @@ fn trim_start(bytes: &[u8]) -> &[u8]
     rest
 }
 
-// The bytes without the spaces and tabs at their end.
+// Returns the bytes without the spaces and tabs at their end.
 fn trim_end(bytes: &[u8]) -> &[u8]
     ensures { result.now ≡ end_trimmed bytes.now }
 {

@@ -1,6 +1,6 @@
--- How far a work is.
+-- How far work has come.
 use Rattle.std.specs.Prelude.{ℕ, Option, None, Some, if◌then◌else◌, ◌==◌, ◌*◌, ◌/◌}
 
--- the share of n that a part has if the whole has all of n, rounded down; there is none of nothing
+-- n * part / whole, rounded down; `None` if the whole is 0
 abbrev pub share : ℕ → ℕ → ℕ → Option ℕ
 share n part whole = if whole == 0 then None else Some (n * part / whole)

@@ -1,7 +1,7 @@
 //! The temporary file of an output: `.hashbag-0.tmp`, or a higher number, in the folder of the output.
 //!
-//! The program that writes it has it locked. The system unlocks it when the program ends, whatever ends it. So a file of such a name that
-//! nobody has locked was left by a program that was killed, and the next output in that folder removes it.
+//! The program that writes the file locks it. The system unlocks the file when the program ends, for whatever reason. So an unlocked file
+//! of such a name was left by a program that was killed, and the next output in that folder removes the file.
 use std::fs::{self, File, OpenOptions, TryLockError};
 use std::io::{self, ErrorKind};
 use std::os::unix::fs::MetadataExt;
@@ -10,7 +10,7 @@ use std::rt::Files;
 // The greatest number of names that are tried.
 const NAMES: u32 = 1000;
 
-// Returns whether the file of this name is the open one, and no link to it.
+// Returns whether this name is the open file itself, and no link to the file.
 fn is_named<R: Files>(rt: &R, file: &File, name: &str) -> bool {
     match (file.metadata(), fs::symlink_metadata(rt, name)) {
         (Ok(one), Ok(other)) => one.dev() == other.dev() && one.ino() == other.ino(),
@@ -18,12 +18,12 @@ fn is_named<R: Files>(rt: &R, file: &File, name: &str) -> bool {
     }
 }
 
-// Removes the file of this name if nobody has it locked. While it is locked here, nobody else removes it, and its name isn't used again.
+// Removes the file of this name if no program has locked it. While it is locked here, no other program removes it or uses its name again.
 fn remove_left<R: Files<File = File>>(rt: &R, name: &str) {
     let Ok(found) = fs::symlink_metadata(rt, name) else {
         return;
     };
-    // To open a pipe could wait for its writer.
+    // Opening a pipe could block until another program writes to the pipe.
     if !found.is_file() {
         return;
     }
@@ -35,8 +35,8 @@ fn remove_left<R: Files<File = File>>(rt: &R, name: &str) {
     }
 }
 
-// Creates a file, and locks it if the system can lock files. Returns `None` if there is one of that name, or if another program removed it
-// before it was locked.
+// Creates a file, locks it if the system can lock files, and returns it. Returns `None` if a file of that name exists, or if another
+// program removed or locked the new file first.
 fn create_locked<R: Files<File = File>>(rt: &R, name: &str) -> io::Result<Option<File>> {
     let file = match OpenOptions::new()
         .write(true)
@@ -55,11 +55,11 @@ fn create_locked<R: Files<File = File>>(rt: &R, name: &str) -> io::Result<Option
     })
 }
 
-/// Creates a file in the folder of an output, and returns it with its name. A file that a killed program left there is removed first.
+/// Creates a file in the folder of an output, and returns the file with its name. A file that a killed program left there is removed first.
 ///
 /// # Errors
 ///
-/// The system's error: the folder doesn't exist or may not be written, or too many files are open.
+/// The system's error: the folder doesn't exist or may not be written, or too many files are open. `AlreadyExists` if all names are in use.
 pub fn create_beside<R: Files<File = File> + AllocGlobal>(
     rt: &R,
     output: &str,

@@ -4,15 +4,15 @@ use crate::trouble::Trouble;
 use std::fs;
 use std::io::Read;
 
-// How many bytes are read before that is reported.
+// How many bytes are read before the progress is reported.
 const PART: u64 = 1 << 24;
 
-/// Returns what messages call the input of this name.
+/// Returns the name of an input in messages: `standard input` for `-`.
 pub fn said(name: &str) -> &str {
     if name == "-" { "standard input" } else { name }
 }
 
-// Reads all that is left of a reader.
+// Reads a reader to its end, reports the progress, and returns the bytes.
 fn read_all<'a, F: Read>(
     rt: &HostRuntime,
     progress: &mut Progress,
@@ -31,11 +31,11 @@ fn read_all<'a, F: Read>(
     Ok(text)
 }
 
-/// Reads a whole file, or standard input, which is named `-`, and reports the progress.
+/// Returns the bytes of a file, or of standard input, which is named `-`. Reports the progress.
 ///
 /// # Errors
 ///
-/// `File` if it can't be opened or read, `Memory` if an allocation fails.
+/// `File` if the file can't be opened or read, `Memory` if an allocation fails.
 pub fn read_file<'a>(
     rt: &HostRuntime,
     progress: &mut Progress,

@@ -3,9 +3,9 @@ use std::fs;
 use std::os::unix::fs::MetadataExt;
 use std::rt::Files;
 
-/// Returns whether two names are of one regular file, however they are written: `a`, `./a` and a link to it are.
+/// Returns whether two names are of one regular file, however they are written: `a`, `./a` and a link to `a` are.
 ///
-/// The numbers of the device and of the file on it decide. `-` is standard input. A name without a file is that of no other file.
+/// The device number and the inode number decide. `-` is standard input. If one of the names has no file, returns false.
 pub fn is_one_file<R: Files>(rt: &R, first: &str, second: &str) -> bool {
     match (
         fs::metadata(rt, path_of(first)),
@@ -18,7 +18,7 @@ pub fn is_one_file<R: Files>(rt: &R, first: &str, second: &str) -> bool {
     }
 }
 
-/// Returns the path behind the name of an input.
+/// Returns the path of an input: `/dev/stdin` for `-`, else the name.
 pub fn path_of(name: &str) -> &str {
     if name == "-" { "/dev/stdin" } else { name }
 }

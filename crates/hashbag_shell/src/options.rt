@@ -13,7 +13,7 @@ pub static DELIMITERS: [&str; 4] = [",", ";", "tab", "\\t"];
 /// The numbers of decimals that numbers may have.
 pub static SCALES: [&str; 10] = ["0", "1", "2", "3", "4", "5", "6", "7", "8", "9"];
 
-/// What may be before decimals.
+/// The marks that may be before decimals.
 pub static MARKS: [&str; 2] = [".", ","];
 
 /// Adds an argument.
@@ -21,7 +21,7 @@ pub fn with<'a>(command: CommandResult<'a>, arg: Arg<'a>) -> CommandResult<'a> {
     command?.arg(arg)
 }
 
-/// Adds a heading in the help: that of the options that are added next.
+/// Sets the heading in the help for the options that are added next.
 pub fn with_heading<'a>(command: CommandResult<'a>, heading: &'a str) -> CommandResult<'a> {
     Ok(command?.next_help_heading(heading))
 }
@@ -70,7 +70,7 @@ pub fn encoding_arg<'a>(alloc: Global, name: &'a str, help: &'a str) -> Arg<'a> 
         .help(help)
 }
 
-/// Returns the encoding that is given to this argument, and `None` for UTF-8.
+/// Returns the encoding that is given to this argument, or `None` for UTF-8.
 pub fn encoding<'a>(given: &ArgMatches<'a>, name: &str) -> Option<Encoding> {
     Encoding::named(word(given, name, "UTF-8"))
 }
@@ -94,7 +94,7 @@ pub fn with_progress<'a>(
     with(with(command, progress), quiet)
 }
 
-/// Returns when progress is reported, by `--progress` and `--quiet`.
+/// Returns when progress is reported, as `--progress` and `--quiet` decide.
 pub fn reports(given: &ArgMatches<'_>) -> Reports {
     if given.get_flag("quiet") {
         return Reports::Never;
@@ -119,7 +119,7 @@ pub fn with_output<'a>(
     with(command, output)
 }
 
-/// Returns the word that is given to an argument, or the default.
+/// Returns the value that is given to an argument, or the default.
 pub fn word<'a>(given: &ArgMatches<'a>, name: &str, default: &'a str) -> &'a str {
     given.get_str(name).unwrap_or(default)
 }

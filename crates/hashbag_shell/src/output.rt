@@ -1,30 +1,28 @@
-//! Where a text is written: to standard output, or to the file of a name.
+//! Where a text is written: to standard output, or to a named file.
 use crate::output_file::OutputFile;
 use crate::trouble::Trouble;
 use std::fs::File;
 use std::io::{self, Read, Write};
 use std::rt::Files;
 
-/// Writes a whole text to a writer.
-pub fn write_text<'a, W: Write>(output: &mut W, text: &[u8]) -> Result<(), Trouble<'a>> {
-    if let Err(error) = output.write_all(text) {
-        return Err(Trouble::Write(error));
-    }
-    match output.flush() {
+// Flushes a writer if `given` is `Ok`. Returns an error of either as `Write`.
+fn flushed<'a, W: Write>(output: &mut W, given: io::Result<()>) -> Result<(), Trouble<'a>> {
+    match given.and_then(|()| output.flush()) {
         Ok(()) => Ok(()),
         Err(error) => Err(Trouble::Write(error)),
     }
 }
 
-// Copies all that there is to read to a writer.
+/// Writes a whole text to a writer.
+pub fn write_text<'a, W: Write>(output: &mut W, text: &[u8]) -> Result<(), Trouble<'a>> {
+    let given = output.write_all(text);
+    flushed(output, given)
+}
+
+// Copies the rest of a reader to a writer.
 fn copy_text<'a, W: Write, I: Read>(output: &mut W, from: &mut I) -> Result<(), Trouble<'a>> {
-    if let Err(error) = io::copy(from, output) {
-        return Err(Trouble::Write(error));
-    }
-    match output.flush() {
-        Ok(()) => Ok(()),
-        Err(error) => Err(Trouble::Write(error)),
-    }
+    let given = io::copy(from, output).map(|_| ());
+    flushed(output, given)
 }
 
 /// An output that has been opened, and not yet written.
@@ -37,7 +35,7 @@ pub enum Output<'a> {
 }
 
 impl<'a> Output<'a> {
-    /// Opens the file of this name, or standard output if there is none, before there is anything to write.
+    /// Opens the file of this name, or standard output if `name` is `None`. Nothing is written yet.
     ///
     /// # Errors
     ///
@@ -70,11 +68,11 @@ impl<'a> Output<'a> {
         }
     }
 
-    /// Writes all that there is to read.
+    /// Copies the rest of a reader to the output.
     ///
     /// # Errors
     ///
-    /// As of [`Output::write`], also if a read fails.
+    /// Same as [`Output::write`], also if a read fails.
     pub fn copy<R: Files + Print, I: Read>(self, rt: &R, from: &mut I) -> Result<(), Trouble<'a>> {
         match self {
             Output::Standard => copy_text(&mut io::writer(rt), from),
@@ -85,18 +83,18 @@ impl<'a> Output<'a> {
         }
     }
 
-    /// Writes nothing: a named file is unchanged.
+    /// Drops the output. Nothing is written, and a named file is unchanged.
     pub fn abandon<R: Files>(self, rt: &R) {
         if let Output::Named(_, file) = self {
             file.abandon(rt);
         }
     }
 
-    /// Writes the text that was made, and returns what was made with it. If none was made, a named file is unchanged.
+    /// If `made` is `Ok((text, with))`, writes the text and returns `with`. If `made` is an error, a named file is unchanged.
     ///
     /// # Errors
     ///
-    /// Why no text was made. Else as [`Output::write`].
+    /// The error in `made`. Else same as [`Output::write`].
     pub fn finish<R: Files + Print, T: Drop>(
         self,
         rt: &R,

@@ -1,7 +1,7 @@
 //! A file that is written whole or not at all.
 //!
-//! The text goes into a temporary file in the same folder, which is renamed onto the name of the output at the end. So a failed write,
-//! a signal or a second writer leaves the file of that name as it was.
+//! The text is written to a temporary file in the same folder. At the end that file is renamed to the output's name. So a failed write or a
+//! signal leaves the output as it was, and the texts of two writers are never mixed.
 use crate::beside::create_beside;
 use std::alloc::{AllocError, Global};
 use std::fs::{self, File, Metadata, OpenOptions};
@@ -9,15 +9,15 @@ use std::io::{self, ErrorKind, Read, Write};
 use std::os::unix::fs::{MetadataExt, fchown};
 use std::rt::Files;
 
-// How many links are followed, one after the other.
+// The greatest number of links that are followed.
 const LINKS: u32 = 40;
 
-// What is renamed onto what.
+// The two names of the rename at the end.
 #[derive(Drop)]
 struct Names {
     // The name of the temporary file.
     temporary: String,
-    // The name of the output, with its links resolved.
+    // The name of the output, with links resolved.
     output: String,
 }
 
@@ -25,7 +25,7 @@ struct Names {
 #[derive(Drop)]
 pub struct OutputFile {
     file: File,
-    // `None` if it isn't a regular file, for example a terminal. It is then written directly.
+    // `None` if the output isn't a regular file, for example a terminal. The output is then written directly.
     names: Option<Names>,
 }
 
@@ -39,8 +39,8 @@ fn open_beside<R: Files<File = File> + AllocGlobal>(
     Ok(OutputFile { file, names })
 }
 
-// Gives a new file the owner, the group and the permissions of the one that it replaces. If the system doesn't let this user change the owner,
-// the new file keeps its own, and perhaps its own group.
+// Gives a new file the owner, the group and the permissions of the file that it replaces. If this user may not set the owner, only the
+// permissions are set, and the group if the user may set that.
 fn keep_owner_and_mode(file: &File, former: &Metadata) -> io::Result<()> {
     let group = Some(former.gid());
     if fchown(file, Some(former.uid()), group).is_err() {
@@ -49,7 +49,8 @@ fn keep_owner_and_mode(file: &File, former: &Metadata) -> io::Result<()> {
     file.set_permissions(former.permissions())
 }
 
-// Opens an output that exists: one that may not be written is rejected here. A regular file gets a temporary file with its owner and permissions.
+// Opens an output that exists. Returns an error if it may not be written. For a regular file, opens a temporary file with the same owner
+// and permissions.
 fn open_existing<R: Files<File = File> + AllocGlobal>(
     rt: &R,
     name: &str,
@@ -70,7 +71,7 @@ fn open_existing<R: Files<File = File> + AllocGlobal>(
     }
 }
 
-// Returns the path that a link's text means: from the folder of the link, unless it begins with `/`.
+// Returns the path to which a link with this text points: from the folder of the link, unless the text begins with `/`.
 fn target_of(alloc: Global, link: &str, text: &str) -> Result<String, AllocError> {
     match link.rsplit_once('/') {
         Some((folder, _)) if !text.starts_with('/') => format!(in alloc; "{folder}/{text}"),
@@ -78,7 +79,7 @@ fn target_of(alloc: Global, link: &str, text: &str) -> Result<String, AllocError
     }
 }
 
-// Returns the name at the end of links: the name itself, if it isn't one of a link.
+// Follows symbolic links, at most 40, and returns the last target, or `name` if it is no link.
 fn end_of_links<R: Files + AllocGlobal>(rt: &R, name: &str) -> io::Result<String> {
     let mut end = name.to_string(rt.alloc())?;
     for _ in 0..LINKS {
@@ -92,11 +93,11 @@ fn end_of_links<R: Files + AllocGlobal>(rt: &R, name: &str) -> io::Result<String
 }
 
 impl OutputFile {
-    /// Opens the output of that name, before there is anything to write.
+    /// Opens the output of this name. Nothing is written yet.
     ///
     /// # Errors
     ///
-    /// What the system says: the folder doesn't exist, or the file may not be written. Then nothing is left behind.
+    /// The system's error: the folder doesn't exist, or the file may not be written. Then no temporary file is left.
     pub fn open<R: Files<File = File> + AllocGlobal>(rt: &R, name: &str) -> io::Result<OutputFile> {
         match fs::metadata(rt, name) {
             Ok(found) => open_existing(rt, name, found.is_file()),
@@ -137,17 +138,17 @@ impl OutputFile {
     ///
     /// # Errors
     ///
-    /// What the system says of a write. Then the temporary file is removed, and a file of that name is as it was.
+    /// The system's error. Then the temporary file is removed, and a regular file of the output's name is unchanged.
     pub fn write_whole<R: Files>(mut self, rt: &R, text: &[u8]) -> io::Result<()> {
         let written = self.file.write_all(text);
         self.end(rt, written)
     }
 
-    /// Writes all that `from` has left, and renames the temporary file to the output.
+    /// Copies the rest of `from`, and renames the temporary file to the output.
     ///
     /// # Errors
     ///
-    /// As for [`OutputFile::write_whole`], also of a read.
+    /// Same as [`OutputFile::write_whole`], also if a read fails.
     pub fn copy_whole<R: Files, I: Read>(mut self, rt: &R, from: &mut I) -> io::Result<()> {
         let copied = io::copy(from, &mut self.file);
         let written = match copied {
@@ -157,7 +158,7 @@ impl OutputFile {
         self.end(rt, written)
     }
 
-    /// Removes the temporary file, if there is nothing to write after all.
+    /// Removes the temporary file, if the output has one.
     pub fn abandon<R: Files>(self, rt: &R) {
         if let Some(names) = &self.names {
             let _ = fs::remove_file(rt, names.temporary.as_str());

@@ -1,11 +1,11 @@
-//! How far a work is.
+//! How far work has come.
 ghost use Rattle.std.specs.Prelude.{◌≡◌};
 ghost use Rattle.hashbag_shell.specs.Paces.{share};
 
-/// Returns the share of `n` that a part has if the whole has all of `n`, rounded down. `None` if the whole is 0.
+/// Returns `n * part / whole`, rounded down, or `None` if `whole` is 0.
 ///
-/// Of 100 it is how many percent of the work are done. Of the seconds so far it is how many are left: the part is the work that is left, and
-/// the whole is the work that is done.
+/// If `n` is 100, `part` the work done and `whole` all work, that is the percentage done. If `n` is the seconds so far, `part` the work
+/// left and `whole` the work done, that is the seconds left.
 pub fn share_of(n: u64, part: u64, whole: u64) -> Option<u128>
     ensures { result ≡ share n part whole }
 {

@@ -1,4 +1,4 @@
-//! A program from its words to its status.
+//! A program, from its arguments to its exit status.
 use crate::options::CommandResult;
 use crate::status::{BAD_INPUT, DONE, IO_FAILED};
 use crate::tips::without_far_tip;
@@ -9,7 +9,7 @@ use std::alloc::AllocError;
 use std::rt::Env;
 use std::{env, io};
 
-/// Returns the words of the command line, the program's name first.
+/// Returns the words of the command line; the program's name is the first.
 pub fn words_of<'a, R: Env + AllocGlobal>(rt: &R) -> Result<Vec<String>, Trouble<'a>> {
     match env::args(rt) {
         Ok(words) => Ok(words.collect(rt.alloc())?),
@@ -18,7 +18,7 @@ pub fn words_of<'a, R: Env + AllocGlobal>(rt: &R) -> Result<Vec<String>, Trouble
     }
 }
 
-// Writes what is wrong with the words to standard error, and returns the trouble with its status.
+// Writes the parser's error to standard error, and returns `Printed` with the exit status.
 fn mistake<'a, R: Eprint + AllocGlobal>(rt: &R, error: &Error) -> Result<Trouble<'a>, AllocError> {
     let alloc = rt.alloc();
     let message = error.to_string(alloc)?;
@@ -29,7 +29,7 @@ fn mistake<'a, R: Eprint + AllocGlobal>(rt: &R, error: &Error) -> Result<Trouble
     }))
 }
 
-/// Prints the help, the version, or what is wrong with the words.
+/// Prints the help, the version or the parser's error, and returns `Printed` with the exit status, or `Memory` if an allocation failed.
 pub fn printed<'a, R: Print + Eprint + AllocGlobal>(rt: &R, error: &Error) -> Trouble<'a> {
     if error.kind() == ErrorKind::OutOfMemory {
         return Trouble::Memory;
@@ -44,11 +44,11 @@ pub fn printed<'a, R: Print + Eprint + AllocGlobal>(rt: &R, error: &Error) -> Tr
     })
 }
 
-/// Returns what the words give to the arguments of a command.
+/// Returns the values that the words give to the arguments of a command.
 ///
 /// # Errors
 ///
-/// `Printed` after the help, the version, or what is wrong with the words was printed. `Memory` if an allocation fails.
+/// `Printed` if the words ask for the help or the version, or are bad. That was printed. `Memory` if an allocation fails.
 pub fn given_to<'a, R: Print + Eprint + AllocGlobal>(
     rt: &R,
     command: CommandResult<'a>,
@@ -60,10 +60,23 @@ pub fn given_to<'a, R: Print + Eprint + AllocGlobal>(
     }
 }
 
-/// Reports the trouble of a program, if it has one, and returns its status.
+/// Returns the exit status of a program. If `ended` is a trouble, reports that first.
 pub fn status_of<R: Eprint>(rt: &R, program: &str, ended: Result<u8, Trouble<'_>>) -> u8 {
     match ended {
         Ok(status) => status,
         Err(trouble) => trouble.report(rt, program),
+    }
+}
+
+/// Runs a program of this name, which does this with the words of the command line. Reports its trouble, if it has one, and returns its status.
+pub fn program<R, F>(rt: &R, name: &str, answer: F) -> u8
+where
+    R: Env + Eprint + AllocGlobal,
+    F: FnOnce(&[String]) -> Result<u8, Trouble<'_>>,
+    requires { F.IsAlwaysCallable answer }
+{
+    match words_of(rt) {
+        Ok(words) => status_of(rt, name, answer(words.as_slice())),
+        Err(trouble) => trouble.report(rt, name),
     }
 }

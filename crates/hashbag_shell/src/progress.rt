@@ -9,7 +9,7 @@ use std::time::{Duration, Instant};
 // How many characters of a name a terminal shows.
 const NAME: usize = 20;
 
-// How many bytes inputs have at least for which a report is shown at once, since the work on what was read takes long.
+// If the inputs have at least this many bytes, a report is shown as soon as one is read whole, since the work after that takes long.
 const LARGE: u64 = 1 << 26;
 
 // Puts the cursor of a terminal at the beginning of its line, and erases the line.
@@ -20,7 +20,7 @@ const ERASE: &str = "\r\x1b[K";
 pub enum Reports {
     /// Never.
     Never,
-    /// If standard error is a terminal, and no input is typed on one.
+    /// If standard error is a terminal, and no input is typed on a terminal.
     OnTerminal,
     /// Always.
     Always,
@@ -29,13 +29,13 @@ pub enum Reports {
 /// What was read, and when it was reported.
 #[derive(Clone, Copy)]
 pub struct Progress {
-    // When the work began, and when it was last reported; `None` if it isn't reported.
+    // When the work began, and when it was last reported, or the beginning again; `None` if the work isn't reported.
     times: Option<(Instant, Instant)>,
-    // Whether a report overwrites the one before, on a terminal. Else each is a line.
+    // Whether a report overwrites the report before, on a terminal. Else each report is a line.
     overwrites: bool,
     // Whether a terminal shows a report.
     is_shown: bool,
-    // How many bytes the inputs have, if all are files.
+    // How many bytes the inputs have; `None` if one of them is no file.
     whole: Option<u64>,
     // How many bytes were read.
     done: u64,
@@ -59,7 +59,7 @@ fn whole_of(rt: &HostRuntime, names: &[&str]) -> Option<u64> {
     Some(whole)
 }
 
-// Returns the end of a path, as much as a line of a terminal has room for. A character that could move the cursor is shown as `?`.
+// Returns the first 20 characters of the last component of a path. A control character becomes `?`, since it could move the cursor.
 fn short_name(alloc: Global, name: &str) -> Result<String, AllocError> {
     let last = name.rsplit_once('/').map_or(name, |parts| parts.1);
     let mut short = String::new(alloc);
@@ -108,8 +108,8 @@ impl Progress {
         }
     }
 
-    // Returns how much was read, and at which rate. If the whole is known, also how many percent of it, and how many seconds are left. In the
-    // first second there is no rate.
+    // Returns how much was read, and at which rate. If the whole is known, also how much that is, the percentage read, and the seconds
+    // left; in the first second without the rate and the seconds left.
     fn text(&self, alloc: Global, seconds: u64) -> Result<String, AllocError> {
         let done = megabytes(alloc, self.done)?;
         let rate = megabytes(alloc, self.done / seconds.max(1))?;
@@ -128,7 +128,7 @@ impl Progress {
         format!(in alloc; "{done} of {whole}, {percent}%, {rate}/s, {left} s left")
     }
 
-    // Reports the progress. What can't be written, or for which no memory is left, isn't reported.
+    // Reports the progress. A report that can't be built or written is dropped.
     fn report(&mut self, rt: &HostRuntime, name: &str, seconds: u64) {
         let alloc = rt.alloc();
         let Ok(text) = self.text(alloc, seconds) else {
@@ -144,8 +144,8 @@ impl Progress {
         }
     }
 
-    /// Adds bytes that were read of the input of this name. Reports the progress if the last report is at least a second old, on a terminal
-    /// not before two seconds.
+    /// Adds bytes that were read from the input of this name. Reports the progress if the last report is at least a second old. On a
+    /// terminal the first two seconds aren't reported.
     pub fn tell(&mut self, rt: &HostRuntime, name: &str, bytes: usize) {
         self.done = self.done.saturating_add(bytes as u64);
         let Some((start, last)) = self.times else {
@@ -163,8 +163,8 @@ impl Progress {
         self.times = Some((start, now));
     }
 
-    /// Reports, before the work on it, that the input of this name was read whole. On a terminal it does so if the work has taken two seconds, or
-    /// if the inputs are large.
+    /// Reports the progress when the input of this name was read whole. On a terminal it is reported only if the work has taken two
+    /// seconds, or if the inputs are large.
     pub fn tell_whole(&mut self, rt: &HostRuntime, name: &str) {
         let Some((start, _)) = self.times else {
             return;
@@ -181,7 +181,7 @@ impl Progress {
         self.times = Some((start, now));
     }
 
-    /// Erases the report that a terminal shows.
+    /// Erases the report on the terminal, if one is shown.
     pub fn erase(&mut self, rt: &HostRuntime) {
         if self.is_shown {
             let _ = eprint!(rt; "{ERASE}");

@@ -1,16 +1,16 @@
 //! Temporary files that have no name once they are open.
 //!
-//! Nothing is left of one when the program ends, whatever ends it. Only a signal before the name is removed leaves an empty file.
+//! When the program ends, for whatever reason, nothing is left of the file. Only a signal before the name is removed leaves an empty file.
 use std::fs::{self, OpenOptions};
 use std::io::{self, ErrorKind};
 use std::os::unix::fs::OpenOptionsExt;
 use std::rt::Files;
 
-// How many names are tried.
+// The greatest number of names that are tried.
 const NAMES: u32 = 1000;
 
-/// Creates a file in a folder, open to write and to read, and removes its name. Until then only its owner may open it. `number`, which is
-/// the number of the process, is a part of the name.
+/// Creates a file in a folder, removes its name, and returns the file, open to write and to read. Before that only the owner may open the
+/// file. `number`, which is the number of the process, is a part of the name.
 ///
 /// # Errors
 ///

@@ -2,8 +2,6 @@
 ghost use Rattle.std.specs.Prelude.{◌≡◌, Some, IfOk};
 ghost use Rattle.hashbag_text.specs.Encodings.{text_in};
 
-use crate::input::read_file;
-use crate::progress::Progress;
 use crate::trouble::Trouble;
 use hashbag_text::encoding::Encoding;
 use hashbag_text::fault::DecodeError;
@@ -11,7 +9,8 @@ use hashbag_text::whole::decode;
 use memchr::{memchr, memchr_iter};
 use std::alloc::Global;
 
-// Returns on which line it is seen that these bytes are no text, and what they are. UTF-16 with its mark is left to those that read the text.
+// Returns the first line that shows that these bytes aren't text, and what they are, or `None`. UTF-16 with a byte order mark
+// is left to the readers of the text.
 fn no_text(bytes: &[u8]) -> Option<(u64, &'static str)> {
     if bytes.starts_with(b"\x1f\x8b") {
         return Some((1, "gzip; `zcat` makes it text"));
@@ -27,26 +26,31 @@ fn no_text(bytes: &[u8]) -> Option<(u64, &'static str)> {
     ))
 }
 
-// Returns the bytes, if nothing shows that they are no text.
+// Returns the bytes, or `BadLine` if `no_text` shows that they aren't text.
 fn checked<'a>(alloc: Global, file: &'a str, bytes: Vec<u8>) -> Result<Vec<u8>, Trouble<'a>>
     ensures { IfOk result (λ text. text ≡ bytes) }
 {
     match no_text(&bytes) {
         None => Ok(bytes),
-        Some((line, what)) => Err(Trouble::BadLine {
-            file,
-            line,
-            what: what.to_string(alloc)?,
-            is_total: false,
-        }),
+        Some((line, what)) => Err(Trouble::of_line(file, line, what.to_string(alloc))),
     }
 }
 
-/// Returns the text of the bytes of a file. They are returned as they are if no encoding is named, for UTF-8.
+/// Returns the trouble of a file whose bytes aren't text in its encoding.
+pub fn of_decoding<'a>(alloc: Global, file: &'a str, error: DecodeError) -> Trouble<'a> {
+    match error {
+        DecodeError::Line { line, fault } => {
+            Trouble::of_line(file, line, format!(in alloc; "{fault}"))
+        }
+        DecodeError::Memory => Trouble::Memory,
+    }
+}
+
+/// Returns the text of a file's bytes. Without an encoding, which is UTF-8, the bytes are returned as they are.
 ///
 /// # Errors
 ///
-/// `BadLine` if they aren't text in the encoding, are compressed, or have a NUL byte; `Memory` if an allocation fails.
+/// `BadLine` if the bytes aren't text in the encoding, are compressed, or have a NUL byte; `Memory` if an allocation fails.
 pub fn text_of<'a>(
     alloc: Global,
     file: &'a str,
@@ -60,26 +64,6 @@ pub fn text_of<'a>(
     };
     match decode(alloc, encoding, bytes.as_slice()) {
         Ok(text) => checked(alloc, file, text.into_bytes()),
-        Err(DecodeError::Memory) => Err(Trouble::Memory),
-        Err(DecodeError::Line { line, fault }) => Err(Trouble::BadLine {
-            file,
-            line,
-            what: format!(in alloc; "{fault}")?,
-            is_total: false,
-        }),
+        Err(error) => Err(of_decoding(alloc, file, error)),
     }
-}
-
-/// Reads the text of a whole file, or of standard input, which is named `-`, and reports the progress.
-///
-/// # Errors
-///
-/// What is wrong with the file or its text. `Memory` if an allocation fails.
-pub fn read_text<'a>(
-    rt: &HostRuntime,
-    progress: &mut Progress,
-    file: &'a str,
-    encoding: Option<Encoding>,
-) -> Result<Vec<u8>, Trouble<'a>> {
-    text_of(rt.alloc(), file, encoding, read_file(rt, progress, file)?)
 }

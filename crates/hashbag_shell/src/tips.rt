@@ -1,16 +1,16 @@
-//! Names that are near to a word, and the tips of the argument parser without those that mislead.
+//! Names that are near to a word, and messages of the argument parser without misleading tips.
 use std::alloc::{AllocError, Global};
 use strsim::osa_distance;
 
-// Returns what is between the first quotes of a text.
+// Returns the text between the first two quotes.
 fn quoted(text: &str) -> Option<&str> {
     let (_, behind) = text.split_once('\'')?;
     let (name, _) = behind.split_once('\'')?;
     Some(name)
 }
 
-/// Returns whether at most a third of a word has to be changed to make it this name. Two characters in the wrong order are one change. Hyphens
-/// before them don't count.
+/// Returns whether changes to at most a third of a word's characters turn the word into the name. Two characters in the wrong order are one
+/// change. Hyphens at the beginning of either don't count.
 ///
 /// # Errors
 ///
@@ -21,8 +21,8 @@ pub fn is_near(alloc: Global, word: &str, name: &str) -> Result<bool, AllocError
     Ok(changes.saturating_mul(3) <= word.chars().count())
 }
 
-/// Returns a message of the parser. If it has a tip whose name isn't near the word that was given, the tip is left out, and so is a usage,
-/// which would show that name too.
+/// Returns a message of the parser. If the message has a tip whose name isn't near the word that was given, the tip is left out, and so is
+/// the usage, which would show that name too.
 ///
 /// # Errors
 ///

@@ -10,21 +10,21 @@ use thiserror::Error;
 /// Why a program failed.
 #[derive(Debug, Drop, Error)]
 pub enum Trouble<'a> {
-    /// The words ask for the help or the version, or are bad. That was printed, and this is the status.
+    /// The arguments ask for help or the version, or are bad. That was printed; this is the exit status.
     #[error("printed")]
     Printed(u8),
-    /// A word isn't UTF-8.
+    /// An argument isn't UTF-8.
     #[error("an argument is not UTF-8")]
     NotText,
-    /// The words don't fit together.
+    /// The arguments don't fit together.
     #[error("{0}")]
     Words(String),
     /// A file wasn't opened, read or written.
     #[error("{file}: {error}")]
     File {
-        /// Its name.
+        /// The name of the file.
         file: &'a str,
-        /// Why.
+        /// The system's error.
         error: io::Error,
     },
     /// A line is bad.
@@ -34,24 +34,45 @@ pub enum Trouble<'a> {
         file: &'a str,
         /// The line, from 1.
         line: u64,
-        /// What is wrong with it.
+        /// What is wrong with the line.
         what: String,
-        /// Whether with this line a total is too large.
+        /// Whether this line takes a total past its limit.
         is_total: bool,
+    },
+    /// Any other failure.
+    #[error("{what}")]
+    Other {
+        /// The message.
+        what: String,
+        /// The exit status.
+        status: u8,
     },
     /// An allocation failed.
     #[error("no memory")]
     Memory,
+    /// An allocation failed while a file was read.
+    #[error("{file}: no memory after {lines} line{}", plural(.lines))]
+    MemoryIn {
+        /// The name of the file.
+        file: &'a str,
+        /// How many of its lines were read.
+        lines: u64,
+    },
     /// The system gives no random numbers.
     #[error("random numbers: {0}")]
     Random(io::Error),
-    /// A write to a standard stream failed.
-    #[error("{0}")]
+    /// A write to standard output or standard error failed. The message says standard output: if standard error fails, no message is shown.
+    #[error("standard output: {0}")]
     Write(io::Error),
 }
 
+/// Returns the plural ending for a count of `n`: nothing for 1, else `s`.
+pub fn plural(n: &u64) -> &'static str {
+    if *n == 1 { "" } else { "s" }
+}
+
 impl<'a> Trouble<'a> {
-    /// Returns the trouble of a file that wasn't opened, read or written.
+    /// Returns `File`, or `Memory` if the error is out of memory.
     pub fn of_file(file: &'a str, error: io::Error) -> Trouble<'a> {
         match error.kind() {
             ErrorKind::OutOfMemory => Trouble::Memory,
@@ -59,7 +80,28 @@ impl<'a> Trouble<'a> {
         }
     }
 
-    /// Returns whether a message is written: not if it was printed before, and not if nobody reads the output any more.
+    /// Returns `BadLine` with this text, or `Memory` if the text wasn't allocated.
+    pub fn of_line(file: &'a str, line: u64, what: Result<String, AllocError>) -> Trouble<'a> {
+        match what {
+            Ok(what) => Trouble::BadLine {
+                file,
+                line,
+                what,
+                is_total: false,
+            },
+            Err(_) => Trouble::Memory,
+        }
+    }
+
+    /// Returns `Other` with this message and exit status, or `Memory` if the message wasn't allocated.
+    pub fn with_status(what: Result<String, AllocError>, status: u8) -> Trouble<'a> {
+        match what {
+            Ok(what) => Trouble::Other { what, status },
+            Err(_) => Trouble::Memory,
+        }
+    }
+
+    /// Returns whether a message is written: not for `Printed`, and not for a write to a pipe that nobody reads any more.
     pub fn is_said(&self) -> bool
         ensures { IsTrue result ↔ IsSaid self.now }
     {
@@ -75,20 +117,22 @@ impl<'a> Trouble<'a> {
     /// - 2: a word or a line is bad;
     /// - 3: an allocation failed;
     /// - 4: a file wasn't opened, read or written, or the system gives no random numbers;
-    /// - 5: a total is too large.
+    /// - 5: a total is too large;
+    /// - the status in a `Printed` or an `Other`.
     pub fn status(&self) -> u8
         ensures { result ≡ status_of self.now }
     {
         match self {
-            Trouble::Printed(status) => *status,
+            Trouble::Printed(status) | Trouble::Other { status, .. } => *status,
             Trouble::BadLine { is_total, .. } if *is_total => TOTAL_TOO_LARGE,
             Trouble::NotText | Trouble::Words(_) | Trouble::BadLine { .. } => BAD_INPUT,
-            Trouble::Memory => NO_MEMORY,
+            Trouble::Memory | Trouble::MemoryIn { .. } => NO_MEMORY,
             Trouble::File { .. } | Trouble::Random(_) | Trouble::Write(_) => IO_FAILED,
         }
     }
 
-    /// Writes it to standard error in a line that begins with the program's name, if it is said, and returns the exit status.
+    /// Writes the message to standard error, in a line that begins with the program's name, unless [`Trouble::is_said`] is
+    /// false. Returns the exit status.
     pub fn report<R: Eprint>(&self, rt: &R, program: &str) -> u8
         ensures { result ≡ status_of self.now }
     {

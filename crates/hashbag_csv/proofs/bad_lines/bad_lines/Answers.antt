@@ -18,7 +18,7 @@ returns g c =
     let header = place_of (read_last sheet) in
     let form_is : (form_of columns).number ≡ c.args.form.number = λ i. (c.in_ok-columns.ensures.form i).number in
     let number_is : number_place columns ≡ option_map header (option_copied c.args.number) = c.in_ok-columns.ensures.number ∙ sym (map_copied header c.args.number) in
-    under_header scale c.args.form (option_copied c.args.number) c.args.most (records_in c.args.reading.delimiter c.args.text.now) (read_last sheet) (left sheet) c.in_ok-errors.errors.items c.in_ok-sheet.ensures.records
-    (at_equal (λ (f : NumberForm) (n : Option ℕ) (s : Bool) (w : ℕ). AreBadLines (IsSaidOf scale f n s w) c.args.most (left sheet) c.in_ok-errors.errors.items)
+    under_header scale c.args.form (option_copied c.args.number) c.args.max_errors (records_in c.args.reading.delimiter c.args.text.now) (read_last sheet) (left sheet) c.in_ok-errors.errors.items c.in_ok-sheet.ensures.records
+    (at_equal (λ (f : NumberForm) (n : Option ℕ) (s : Bool) (w : ℕ). AreBadLines (IsSaidOf scale f n s w) c.args.max_errors (left sheet) c.in_ok-errors.errors.items)
     (form_of columns).number c.args.form.number (number_place columns) (option_map header (option_copied c.args.number)) (is_short_allowed sheet) c.args.form.allows_short (width_of sheet) (length (read_last sheet))
     form_is number_is c.in_ok-sheet.ensures.width.1 c.in_ok-sheet.ensures.width.0 c.in_ok-errors.ensures)

@@ -36,7 +36,7 @@ lines-preserved g c =
       each = said_more (IsSaidOf c.args.scale form.number number short width) inv.read inv.said (read_last after) v inv.each
           (said_by c.args.scale form.number number short (is_short_allowed before) width (width_of before) (read_last after) v inv.short inv.width is);
       named = named_more c.lines.errors.items c.push_said.new.errors.items inv.said v c.in_ok-push_said.ensures inv.named;
-      few = errors_fit c.lines.errors.items c.push_said.new.errors.items v c.args.most c.in_ok-push_said.ensures (let below = c.lines-test.true in let long = c.len.ensures in omega (arith, below, long));
+      few = errors_fit c.lines.errors.items c.push_said.new.errors.items v c.args.max_errors c.in_ok-push_said.ensures (let below = c.lines-test.true in let long = c.len.ensures in omega (arith, below, long));
       width = c.said_of_next.ensures.same.0 ∙ inv.width;
       short = c.said_of_next.ensures.same.1 ∙ inv.short;
     }

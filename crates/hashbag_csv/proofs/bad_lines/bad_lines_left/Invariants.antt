@@ -14,7 +14,7 @@ invariant-lines g l = record {
   all : left l.fn.sheet ≡ read ++ left l.sheet;
   each : AreSaidOf (IsSaidOf l.scale (form_of l.columns).number (number_place l.columns) (is_short_allowed l.fn.sheet) (width_of l.fn.sheet)) read said;
   named : l.errors.items ≡ errors_in said;
-  few : length l.errors.items ≤ l.most;
+  few : length l.errors.items ≤ l.max_errors;
   width : width_of l.sheet ≡ width_of l.fn.sheet;
   short : is_short_allowed l.sheet ≡ is_short_allowed l.fn.sheet;
 }

@@ -1,0 +1,19 @@
+-- The lines of a list of articles, each with a number.
+use Rattle.std.specs.Prelude.{ℕ, List, [], ◌∷◌, String, string_bytes, Some, None, false}
+use Rattle.std.specs.Global.{Global}
+use Rattle.hashbag_csv.specs.Lines.{lines_in}
+use Rattle.hashbag_csv.specs.Readers.{Record}
+use Rattle.hashbag_csv.specs.declared.counts.Reading.{Reading}
+use Rattle.hashbag_csv.specs.declared.line_form.LineForm.{LineForm}
+
+-- articles are compared as they are, and numbers are written out
+abbrev pub plain_form : LineForm
+plain_form = record { key = record { trim = false; fold = false }; number = record { blank_is_zero = false; group = None }; allows_short = false }
+
+-- a line as bytes: its article, and its number
+abbrev pub count_line : String Global × ℕ → Record × ℕ
+count_line line = (string_bytes line.0 ∷ [], line.1)
+
+-- the lines of a text, whose columns of articles and of numbers have these names
+abbrev pub counts_in : Reading → List ℕ → List ℕ → List ℕ → List (Record × ℕ)
+counts_in reading article number text = lines_in reading plain_form (article ∷ []) (Some number) text
