@@ -3,20 +3,17 @@
 
 mod command;
 mod request;
-mod texts;
 
 use crate::command::{PROGRAM, command};
 use crate::request::Request;
-use crate::texts::HostTexts;
 use hashbag_csv::fault::{SheetError, in_file};
 use hashbag_match_lib::files::{Unmatched, match_files};
 use hashbag_match_lib::texts::Findings;
+use hashbag_shell::inputs::HostInputs;
 use hashbag_shell::output::Output;
-use hashbag_shell::program::{given_to, status_of, words_of};
-use hashbag_shell::progress::Progress;
+use hashbag_shell::program::{given_to, program};
 use hashbag_shell::status::BAD_INPUT;
 use hashbag_shell::trouble::Trouble;
-use std::cell::Cell;
 use std::hash::RandomState;
 use std::process::ExitCode;
 
@@ -36,20 +33,17 @@ fn matched<'a>(
 ) -> Result<(Vec<u8>, Findings), Trouble<'a>> {
     let state = RandomState::new(rt).map_err(|error| Trouble::Random(error))?;
     let files = [request.ordered, request.delivered];
-    let texts = HostTexts {
-        rt,
-        progress: Cell::new(Progress::new(rt, request.reports, &files)),
-    };
+    let inputs = HostInputs::new(rt, request.reports, &files);
     let made = match_files(
         rt.alloc(),
         state,
-        &texts,
+        &inputs,
         &request.ask,
         request.ordered,
         request.delivered,
         request.encodings,
     );
-    texts.progress.into_inner().erase(rt);
+    inputs.end();
     match made {
         Ok(made) => Ok(made),
         Err(Unmatched::Trouble(trouble)) => Err(trouble),
@@ -72,14 +66,6 @@ fn answer<'a>(rt: &HostRuntime, words: &'a [String]) -> Result<u8, Trouble<'a>> 
     Ok(findings.status)
 }
 
-// Returns the status.
-fn run(rt: &HostRuntime) -> u8 {
-    match words_of(rt) {
-        Ok(words) => status_of(rt, PROGRAM, answer(rt, words.as_slice())),
-        Err(trouble) => trouble.report(rt, PROGRAM),
-    }
-}
-
 fn main(rt: HostRuntime) -> ExitCode {
-    ExitCode::from(run(&rt))
+    ExitCode::from(program(&rt, PROGRAM, |words| answer(&rt, words)))
 }

@@ -1,12 +1,13 @@
 -- Articles by the bytes of their fields.
 use Rattle.std.proofs.Common.{◌≡◌, ℕ, ◌+◌, ◌↔◌, ◌⊎◌, Bool, cond, List, [], ◌∷◌, map, IsTrue, inl, inr, refl, sym, ◌∙◌, subst}
 use Rattle.std.specs.Bool.{Decides}
+use Rattle.std.specs.Map.{keys_of}
 use Rattle.std.proofs.lemmas.Bool.{cases_Bool}
 use Rattle.std.proofs.lemmas.List.Sums.{sum_by-cons}
 use Rattle.std.proofs.lemmas.Slice.Eq.{bytes_eq-Decides, slice_eq-Decides}
 use Rattle.hashbag_csv.specs.Articles.{same_article}
 use Rattle.hashbag_csv.specs.LineColumns.{line_bytes}
-use Rattle.hashbag_csv.specs.Quantities.{quantity}
+use Rattle.hashbag_csv.specs.Quantities.{quantity, times}
 use Rattle.hashbag_csv.specs.Readers.{Record}
 use Rattle.hashbag_match_lib.specs.Matched.{HaveSameQuantities, IsStatusOf}
 
@@ -34,6 +35,24 @@ module _ {T K : Type 0} {eq : T → T → Bool} {eq' : K → K → Bool} (f : T 
     ]
   ]
 
+  pub times_of : (v : T) (L : List (T × ℕ)) → times eq v L ≡ times eq' (f v) (map entry L)
+  times_of v [] = refl
+  times_of v (e ∷ L) =
+      sum_by-cons (λ (x : T). cond {A = ℕ} (eq v x) 1 0) e.0 (keys_of L)
+      ∙ (λ i. cond {A = ℕ} (same v e.0 i) 1 0 + times_of v L i)
+      ∙ sym (sum_by-cons (λ (x : K). cond {A = ℕ} (eq' (f v) x) 1 0) (f e.0) (keys_of (map entry L)))
+
+  -- an entry has a key as the bytes of its article, or none has it
+  pub named_times : (k : K) (L : List (T × ℕ)) → ((v : T) × (f v ≡ k)) ⊎ (times eq' k (map entry L) ≡ 0)
+  named_times k [] = inr refl
+  named_times k (e ∷ L) = elim (cases_Bool (eq' k (f e.0))) [
+    | inl y ↦ inl (e.0, sym ((decides k (f e.0)).0 y))
+    | inr n ↦ elim (named_times k L) [
+      | inl v ↦ inl v
+      | inr none ↦ inr (sum_by-cons (λ (x : K). cond {A = ℕ} (eq' k x) 1 0) (f e.0) (keys_of (map entry L)) ∙ (λ i. cond {A = ℕ} (n i) 1 0 + none i))
+    ]
+  ]
+
   -- lists agree on articles if they do on keys
   pub agree_of : (L M : List (T × ℕ)) → ((v : T) → quantity eq v L ≡ quantity eq v M) ↔ ((k : K) → quantity eq' k (map entry L) ≡ quantity eq' k (map entry M))
   agree_of L M = (
@@ -49,7 +68,7 @@ module _ {T K : Type 0} {eq : T → T → Bool} {eq' : K → K → Bool} (f : T 
 
 -- ---- articles, as the bytes of their fields
 
-articles_decide : (x y : Record) → Decides (same_article x y) (x ≡ y)
+pub articles_decide : (x y : Record) → Decides (same_article x y) (x ≡ y)
 articles_decide x y = slice_eq-Decides bytes_eq-Decides x y (same_article x y) refl
 
 -- lists agree on articles exactly if they do on the bytes of their fields

@@ -5,3 +5,5 @@ pub mod LineLemmas
 pub mod RowLemmas
 pub mod SumLemmas
 pub mod TallyLemmas
+pub mod TextLemmas
+pub mod WrittenLemmas

@@ -5,7 +5,7 @@ use Rattle.std.specs.Cmp.{IsEquivalence, IsTotalOrder, IsStrictWeakOrder}
 use Rattle.std.specs.Ordering.{ordering_then}
 use Rattle.std.specs.List.{Contains, IsDistinct}
 use Rattle.std.specs.List.Sorted.{IsPermutation, IsSorted, IsStrictlySortedBy}
-use Rattle.std.proofs.lemmas.List.{append-nil, map-append, map-id}
+use Rattle.std.proofs.lemmas.List.{append-nil, map-id}
 use Rattle.std.proofs.lemmas.List.Elements.{All-contains}
 use Rattle.std.proofs.lemmas.List.Sorted.{Contains-permutation, IsPermutation-map, IsPermutation-sym, sum_by-IsPermutation}
 use Rattle.std.proofs.lemmas.List.Sums.{sum_by-cons}
@@ -164,7 +164,3 @@ equal_exactly laws a b ordered delivered has_ordered has_delivered =
       λ equal v. sym (has_ordered v) ∙ decides.0 equal v ∙ has_delivered v,
       λ same. decides.1 (λ v. has_ordered v ∙ same v ∙ sym (has_delivered v)),
     )
-
--- two lists that are mapped to one, with an element more each
-pub mapped_more : {X Y Z : Type 0} (f : X → Z) (h : Y → Z) (xs : List X) (x : X) (ys : List Y) (y : Y) → map f xs ≡ map h ys → f x ≡ h y → map f (xs ++ x ∷ []) ≡ map h (ys ++ y ∷ [])
-mapped_more f h xs x ys y before this = map-append f xs (x ∷ []) ∙ (λ i. before i ++ this i ∷ []) ∙ sym (map-append h ys (y ∷ []))

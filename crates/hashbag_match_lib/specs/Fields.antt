@@ -1,17 +1,11 @@
 -- Articles as the fields of their key columns.
-use Rattle.std.specs.Prelude.{◌≡◌, ℕ, Bool, List, [], ◌∷◌, ◌++◌, map, String}
-use Rattle.std.specs.Borrow.{Bor}
-use Rattle.std.specs.Global.{Global, Vec}
-use Rattle.std.specs.HashMap.{HashMap}
-use Rattle.std.specs.String.{string_bytes}
+use Rattle.std.specs.Prelude.{◌≡◌, ℕ, Bool, List, [], ◌∷◌, ◌++◌, map}
 use Rattle.hashbag.specs.Bag.{Bag}
-use Rattle.hashbag_csv.specs.FirstLines.{Carried, HasFirsts, first_of}
 use Rattle.hashbag_csv.specs.LineColumns.{line_bytes}
 use Rattle.hashbag_csv.specs.Readers.{Record}
 use Rattle.hashbag_match_lib.specs.Asks.{Lines}
 use Rattle.hashbag_match_lib.specs.Matched.{HaveSameQuantities, IsStatusOf}
 use Rattle.hashbag_match_lib.specs.Tallies.{IsTallyOf}
-use Rattle.hashbag_match_lib.specs.declared.matching.Row.{Row}
 use Rattle.hashbag_match_lib.specs.declared.tally.Tally.{Tally}
 
 module _ {A : Type 0} (eq : A → A → Bool) where
@@ -36,8 +30,3 @@ module _ {A : Type 0} (eq : A → A → Bool) where
   abbrev pub IsStatusOfLines : {S H : Type 0} → (A → Record) → Tally A S H → Tally A S H → ℕ → Type 0
   IsStatusOfLines fields ordered delivered status =
       (L M : Lines) → IsTallyOfLines fields L ordered.counts ordered.zeros → IsTallyOfLines fields M delivered.counts delivered.zeros → IsStatusOf (HaveSameQuantities L M) status
-
--- each row has the fields that are carried along with its article, whatever lines the map is of
-abbrev pub CarriesFirsts : {A S : Type 0} → (A → A → Bool) → (A → Record) → HashMap A (Vec (String Global)) S → List (Row (Bor A)) → List (Bor (List (String Global))) → Type 0
-CarriesFirsts eq fields firsts rows carried =
-    (K : List Carried) → HasFirsts eq fields K firsts → map (λ t. map string_bytes t.now) carried ≡ map (λ row. first_of (fields row.article.now) K) rows

@@ -3,5 +3,9 @@ pub mod Fields
 pub mod Files
 pub mod Matched
 pub mod Matching
+pub mod Shown
 pub mod Tallies
+pub mod Texts
 pub mod Widths
+pub mod Written
+pub mod WrittenExamples

@@ -1,6 +1,7 @@
 //! What is asked for: how two lists are read, and what is written of them.
 use crate::keys::{names_in, repeated};
-use crate::output::{Form, Only, is_reserved};
+use crate::output::{Form, is_reserved};
+use crate::shown::Only;
 use hashbag_csv::counts::Reading;
 use hashbag_csv::escaped::Escaped;
 use hashbag_csv::groups::GroupMark;

@@ -1,8 +1,9 @@
-//! Two lists in two files: read one after the other, and matched. What is read of which file is decided here, whatever has the files.
-ghost use Rattle.std.specs.Prelude.{◌≡◌, ℕ, List, IfErr, IfOk, IfSome};
+//! Two lists in two files: read one after the other, and matched. What is read of which file is decided here, wherever `Inputs` has them from.
+ghost use Rattle.std.specs.Prelude.{◌≡◌, IfErr, IfOk, IfSome};
 ghost use Rattle.hashbag_match_lib.specs.Asks.{lines_asked};
 ghost use Rattle.hashbag_match_lib.specs.Fields.{TalliesLines};
-ghost use Rattle.hashbag_match_lib.specs.Files.{AreErrorsIn, AreListsOf, IsListOf, IsStatusOfFiles, NamesLines, NamesLinesIn, NamesLinesOf};
+ghost use Rattle.hashbag_match_lib.specs.Files.{AreErrorsIn, AreListsOf, AreMatchedFiles, IsListOf, NamesLinesOfEither, NamesLinesOfSource, NamesLinesOfText};
+ghost use Rattle.hashbag_match_lib.specs.Texts.{Rise, RiseAs};
 
 use crate::ask::{Ask, Columns};
 use crate::tally::Tally;
@@ -10,24 +11,12 @@ use crate::texts::{Findings, Lists, carry_lines, match_lists, tally_of};
 use hashbag_csv::article::Article;
 use hashbag_csv::bad_lines::bad_lines;
 use hashbag_csv::fault::{SheetError, in_file};
+use hashbag_shell::inputs::{Inputs, read_text};
 use hashbag_shell::trouble::Trouble;
+use hashbag_text::encoding::Encoding;
 use std::alloc::{AllocError, Global};
 use std::collections::HashMap;
 use std::hash::BuildHasher;
-
-/// The texts of files, each in an encoding.
-pub trait Texts<E> {
-    /// Holds of the name of a file, its encoding and its text.
-    ghost gives: { Self → List ℕ → E → List ℕ → Type 0 };
-
-    /// Returns the text of a file.
-    ///
-    /// # Errors
-    ///
-    /// Why it can't be read.
-    fn text<'a>(&self, file: &'a str, encoding: E) -> Result<Vec<u8>, Trouble<'a>>
-        ensures { IfOk result (λ text. gives self.now file.now encoding text.items) };
-}
 
 /// Why two files aren't matched.
 #[derive(Debug, Drop)]
@@ -66,11 +55,11 @@ impl From<AllocError> for Unmatched<'_> {
 
 // A list in a file.
 #[derive(Clone, Copy)]
-struct Source<'a, 'k, E> {
+struct Source<'a, 'k> {
     // The name of the file.
     file: &'a str,
-    // Its encoding.
-    encoding: E,
+    // Its encoding, `None` for UTF-8.
+    encoding: Option<Encoding>,
     // The columns of the list.
     columns: &'k Columns<'k>,
     // Whether its header may lack a column that is carried along, whose fields are empty then.
@@ -109,9 +98,10 @@ fn tally_in<'a, A: Article + Drop, S: BuildHasher + Copy + Drop>(
     ask: &Ask<'_>,
 ) -> Result<Tally<A, S>, Unmatched<'a>>
     ensures tally { IfOk result (λ tally. TalliesLines A.eq A.fields (lines_asked ask.now columns.now text.now) tally) }
-    ensures bad_lines { IfErr result (NamesLines ask.now columns.now file.now text.now) }
+    ensures bad_lines { IfErr result (NamesLinesOfText ask.now columns.now file.now text.now) }
 {
     let read = tally_of(alloc, state, text, columns, ask);
+    // A total that is too large isn't the error of one line.
     if let Err(error) = &read
         && ask.max_errors > 1
         && !error.is_total()
@@ -122,20 +112,20 @@ fn tally_in<'a, A: Article + Drop, S: BuildHasher + Copy + Drop>(
     Ok(in_file(alloc, file, read)?)
 }
 
-// Reads the list in a file, whose text is dropped then. Adds what is carried along.
-fn read_list<'a, A: Article + Drop, S: BuildHasher + Copy + Drop, E: Copy, T: Texts<E>>(
+// Reads the list in a file, whose text is dropped then. `firsts`: what the first line with each article carries along.
+fn read_list<'a, A: Article + Drop, S: BuildHasher + Copy + Drop, I: Inputs>(
     alloc: Global,
     state: S,
-    texts: &T,
-    source: Source<'a, '_, E>,
+    inputs: &I,
+    source: Source<'a, '_>,
     ask: &Ask<'_>,
     firsts: &mut HashMap<A, Vec<String>, S>,
 ) -> Result<Tally<A, S>, Unmatched<'a>>
-    ensures list { IfOk result (IsListOf A.eq A.fields (T.gives texts.now) ask.now source.entry firsts.old firsts.new) }
-    ensures bad_lines { IfErr result (NamesLinesOf (T.gives texts.now) ask.now source.entry) }
+    ensures list { IfOk result (IsListOf A.eq A.fields (I.gives inputs.now) ask.now source.entry firsts.old firsts.new) }
+    ensures bad_lines { IfErr result (NamesLinesOfSource (I.gives inputs.now) ask.now source.entry) }
 {
     let file = source.file;
-    let text = texts.text(file, source.encoding)?;
+    let text = read_text(alloc, inputs, file, source.encoding)?;
     let tally = tally_in(alloc, state, file, &text, source.columns, ask)?;
     let carried = carry_lines(alloc, &text, source.columns, source.may_lack, ask, firsts);
     in_file(alloc, file, carried)?;
@@ -143,17 +133,17 @@ fn read_list<'a, A: Article + Drop, S: BuildHasher + Copy + Drop, E: Copy, T: Te
 }
 
 // Reads both lists, that of what was ordered first.
-fn read_lists<'a, A: Article + Drop, S: BuildHasher + Copy + Drop, E: Copy, T: Texts<E>>(
+fn read_lists<'a, A: Article + Drop, S: BuildHasher + Copy + Drop, I: Inputs>(
     alloc: Global,
     state: S,
-    texts: &T,
+    inputs: &I,
     ask: &Ask<'_>,
     ordered: &'a str,
     delivered: &'a str,
-    encodings: (E, E),
+    encodings: (Option<Encoding>, Option<Encoding>),
 ) -> Result<Lists<A, S>, Unmatched<'a>>
-    ensures lists { IfOk result (AreListsOf A.eq A.fields (T.gives texts.now) encodings ask.now ordered.now delivered.now) }
-    ensures bad_lines { IfErr result (NamesLinesIn (T.gives texts.now) encodings ask.now ordered.now delivered.now) }
+    ensures lists { IfOk result (AreListsOf A.eq A.fields (I.gives inputs.now) encodings ask.now ordered.now delivered.now) }
+    ensures bad_lines { IfErr result (NamesLinesOfEither (I.gives inputs.now) encodings ask.now ordered.now delivered.now) }
 {
     let first = Source {
         file: ordered,
@@ -168,8 +158,8 @@ fn read_lists<'a, A: Article + Drop, S: BuildHasher + Copy + Drop, E: Copy, T: T
         may_lack: true,
     };
     let mut firsts = HashMap::with_hasher(alloc, state);
-    let ordered = read_list(alloc, state, texts, first, ask, &mut firsts)?;
-    let delivered = read_list(alloc, state, texts, second, ask, &mut firsts)?;
+    let ordered = read_list(alloc, state, inputs, first, ask, &mut firsts)?;
+    let delivered = read_list(alloc, state, inputs, second, ask, &mut firsts)?;
     Ok(Lists {
         ordered,
         delivered,
@@ -178,50 +168,53 @@ fn read_lists<'a, A: Article + Drop, S: BuildHasher + Copy + Drop, E: Copy, T: T
 }
 
 // Matches two files, whose articles are kept as this type.
-fn match_as<'a, A: Article + Drop, S: BuildHasher + Copy + Drop, E: Copy, T: Texts<E>>(
+fn match_as<'a, A: Article + Drop, S: BuildHasher + Copy + Drop, I: Inputs>(
     alloc: Global,
     state: S,
-    texts: &T,
+    inputs: &I,
     ask: &Ask<'_>,
     ordered: &'a str,
     delivered: &'a str,
-    encodings: (E, E),
+    encodings: (Option<Encoding>, Option<Encoding>),
 ) -> Result<(Vec<u8>, Findings), Unmatched<'a>>
-    ensures status { IfOk result (λ made. IsStatusOfFiles (T.gives texts.now) encodings ask.now ordered.now delivered.now made.1.status) }
-    ensures bad_lines { IfErr result (NamesLinesIn (T.gives texts.now) encodings ask.now ordered.now delivered.now) }
+    ensures matched { IfOk result (λ made. AreMatchedFiles (RiseAs A.cmp A.fields) (I.gives inputs.now) encodings ask.now
+        ordered.now delivered.now made.0.items made.1.status) }
+    ensures bad_lines { IfErr result (NamesLinesOfEither (I.gives inputs.now) encodings ask.now ordered.now delivered.now) }
 {
-    let lists = read_lists::<A, S, E, T>(alloc, state, texts, ask, ordered, delivered, encodings)?;
+    let lists = read_lists::<A, S, I>(alloc, state, inputs, ask, ordered, delivered, encodings)?;
     Ok(match_lists(alloc, state, &lists, ask)?)
 }
 
 /// Matches what was ordered with what was delivered: the lists of two files. Only one file's text is in memory at a time. Returns what is
-/// written, and the exit status: 0 if as many of each article were delivered as ordered, else 1.
+/// written, and the findings, with the exit status: 0 if as many of each article were delivered as ordered, else 1.
 ///
 /// # Errors
 ///
-/// What is wrong with the first file that is bad, that of what was ordered first. `Memory` if an allocation fails.
+/// What is wrong with the first bad file; what was ordered is read first. `Memory` if an allocation fails.
 ///
 /// # Complexity
 ///
 /// Reads each file once, and its text once, or twice if fields are carried along, or several bad lines are to be named. Else same as
 /// [`match_lists`].
-pub fn match_files<'a, S: BuildHasher + Copy + Drop, E: Copy, T: Texts<E>>(
+pub fn match_files<'a, S: BuildHasher + Copy + Drop, I: Inputs>(
     alloc: Global,
     state: S,
-    texts: &T,
+    inputs: &I,
     ask: &Ask<'_>,
     ordered: &'a str,
     delivered: &'a str,
-    encodings: (E, E),
+    encodings: (Option<Encoding>, Option<Encoding>),
 ) -> Result<(Vec<u8>, Findings), Unmatched<'a>>
-    // The two files have texts, and it is 0 exactly if these name as many of each article; else 1.
-    ensures status { IfOk result (λ made. IsStatusOfFiles (T.gives texts.now) encodings ask.now ordered.now delivered.now made.1.status) }
+    // The status is 0 exactly if the texts of both files name as many of each article, else 1. What is written has a row for each article of either
+    // text, articles in ascending order, as far as these rows are asked for.
+    ensures matched { IfOk result (λ made. AreMatchedFiles Rise (I.gives inputs.now) encodings ask.now
+        ordered.now delivered.now made.0.items made.1.status) }
 
-    // Several bad lines are those of the text of the file that is named.
-    ensures bad_lines { IfErr result (NamesLinesIn (T.gives texts.now) encodings ask.now ordered.now delivered.now) }
+    // If the error is `BadLines`, it has bad lines of the file that it names.
+    ensures bad_lines { IfErr result (NamesLinesOfEither (I.gives inputs.now) encodings ask.now ordered.now delivered.now) }
 {
     if ask.ordered.keys.len() == 1 {
-        return match_as::<String, S, E, T>(alloc, state, texts, ask, ordered, delivered, encodings);
+        return match_as::<String, S, I>(alloc, state, inputs, ask, ordered, delivered, encodings);
     }
-    match_as::<Vec<String>, S, E, T>(alloc, state, texts, ask, ordered, delivered, encodings)
+    match_as::<Vec<String>, S, I>(alloc, state, inputs, ask, ordered, delivered, encodings)
 }

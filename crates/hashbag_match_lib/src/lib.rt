@@ -2,13 +2,15 @@
 #![tactic(auto)]
 
 pub mod ask;
-pub mod carrying;
+mod csv_text;
 pub mod files;
+mod json_text;
 pub mod keys;
 pub mod matching;
 pub mod near;
 pub mod output;
 pub mod reading;
+pub mod shown;
 mod table;
 pub mod tally;
 pub mod texts;

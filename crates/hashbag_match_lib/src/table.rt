@@ -3,10 +3,10 @@ ghost use Rattle.std.specs.Prelude.{map, IfOk};
 ghost use Rattle.std.specs.String.{string_bytes};
 ghost use Rattle.hashbag_match_lib.specs.Widths.{AreWidened};
 
-use crate::matching::{Matched, Row};
-use crate::output::{Layout, fields_along, numbers_of};
+use crate::matching::Row;
+use crate::output::{Layout, numbers_of};
+use crate::shown::Fields;
 use crate::totals::Totals;
-use hashbag_csv::article::Article;
 use hashbag_csv::decimals::write_decimal;
 use hashbag_csv::escaped::Escaped;
 use hashbag_csv::scale::Scale;
@@ -49,15 +49,10 @@ fn push_fields(
 }
 
 // The cells of a row: the fields of its article, and those that are carried along, then its numbers.
-fn cells_of<A: Article>(
-    alloc: Global,
-    row: &Row<&A>,
-    carried: &[String],
-    scale: Scale,
-) -> Result<Vec<String>, AllocError> {
+fn cells_of(alloc: Global, row: &Row<Fields<'_>>, scale: Scale) -> Result<Vec<String>, AllocError> {
     let mut cells = Vec::new(alloc);
-    push_fields(alloc, &mut cells, row.article.texts())?;
-    push_fields(alloc, &mut cells, carried)?;
+    push_fields(alloc, &mut cells, row.article.article)?;
+    push_fields(alloc, &mut cells, row.article.carried)?;
     for number in numbers_of(alloc, row, scale)? {
         cells.push(number)?;
     }
@@ -136,29 +131,25 @@ fn push_totals(
 }
 
 /// Returns the rows in columns, articles and what is carried along at the left, and the sums of all rows below them.
-pub fn table_of<A: Article>(
+pub fn table_of(
     alloc: Global,
-    matched: &Matched<&A>,
-    carried: &[&[String]],
+    rows: &[Row<Fields<'_>>],
+    totals: &Totals,
     layout: Layout<'_>,
 ) -> Result<Vec<u8>, AllocError> {
     let fields = layout.keys.len().saturating_add(layout.carried.len());
     let titles = titles_of(alloc, layout)?;
     let mut widths = widened(alloc, &Vec::new(alloc), &titles)?;
-    for (place, row) in matched.rows.iter().enumerate() {
-        if layout.only.shows(row) {
-            let cells = cells_of(alloc, row, fields_along(carried, place), layout.scale)?;
-            widths = widened(alloc, &widths, &cells)?;
-        }
+    for row in rows {
+        let cells = cells_of(alloc, row, layout.scale)?;
+        widths = widened(alloc, &widths, &cells)?;
     }
     let mut table = String::new(alloc);
     push_line(&mut table, &titles, &widths, fields)?;
-    for (place, row) in matched.rows.iter().enumerate() {
-        if layout.only.shows(row) {
-            let cells = cells_of(alloc, row, fields_along(carried, place), layout.scale)?;
-            push_line(&mut table, &cells, &widths, fields)?;
-        }
+    for row in rows {
+        let cells = cells_of(alloc, row, layout.scale)?;
+        push_line(&mut table, &cells, &widths, fields)?;
     }
-    push_totals(alloc, &mut table, &matched.totals, layout.scale)?;
+    push_totals(alloc, &mut table, totals, layout.scale)?;
     Ok(table.into_bytes())
 }

@@ -4,13 +4,14 @@ ghost use Rattle.hashbag_csv.specs.FirstLines.{AddsFirsts};
 ghost use Rattle.hashbag_match_lib.specs.Asks.{carried_along, lines_asked};
 ghost use Rattle.hashbag_match_lib.specs.Fields.{IsStatusOfLines, TalliesLines};
 ghost use Rattle.hashbag_match_lib.specs.Matched.{IsStatusOf};
+ghost use Rattle.hashbag_match_lib.specs.Texts.{IsTextOfLists};
 
 use crate::ask::{Ask, Columns};
-use crate::carrying::carried_rows;
 use crate::matching::match_tallies;
 use crate::near::near_articles;
 use crate::output::{Layout, text_of};
 use crate::reading::read_tally;
+use crate::shown::shown_rows;
 use crate::tally::Tally;
 use hashbag_csv::article::Article;
 use hashbag_csv::fault::SheetError;
@@ -132,21 +133,17 @@ pub fn match_lists<A: Article + Drop, S: BuildHasher + Copy + Drop>(
     ask: &Ask<'_>,
 ) -> Result<(Vec<u8>, Findings), AllocError>
     ensures status { IfOk result (λ made. IsStatusOfLines A.eq A.fields lists.now.ordered lists.now.delivered made.1.status) }
+    ensures text { IfOk result (λ made. IsTextOfLists A.eq A.cmp A.fields ask.now lists.now made.0.items) }
 {
     let matched = match_tallies(alloc, &lists.ordered, &lists.delivered)?;
-    let carried = if ask.carried.is_empty() {
-        Vec::new(alloc)
-    } else {
-        carried_rows(alloc, &matched.rows, &lists.firsts)?
-    };
+    let shown = shown_rows(alloc, ask.only, &matched.rows, &lists.firsts)?;
     let layout = Layout {
         keys: &ask.ordered.keys,
         carried: &ask.carried,
-        only: ask.only,
         scale: ask.reading.scale,
         delimiter: ask.reading.delimiter,
     };
-    let text = text_of(alloc, &matched, &carried, layout, ask.form)?;
+    let text = text_of(alloc, &shown, &matched.totals, layout, ask.form)?;
     let near = if ask.quiet {
         Vec::new(alloc)
     } else {

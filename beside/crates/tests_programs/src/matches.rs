@@ -4,9 +4,11 @@ use hashbag::{BagError, FixedState};
 use hashbag_csv::delimiter::Delimiter;
 use hashbag_csv::scale::{Mark, Scale};
 use hashbag_match_lib::matching::match_tallies;
-use hashbag_match_lib::output::{Form, Layout, Only, text_of};
+use hashbag_match_lib::output::{Form, Layout, text_of};
+use hashbag_match_lib::shown::{Only, shown_rows};
 use hashbag_match_lib::tally::{Tally, empty_tally};
 use std::alloc::{AllocError, Global};
+use std::collections::HashMap;
 use std::hash::{BuildHasher, RandomState};
 use std::test::Fail;
 
@@ -222,13 +224,17 @@ fn tally_of<S: BuildHasher + Copy + Drop>(
 // What is written of two tallies that are matched.
 fn text_of_match<S: BuildHasher + Copy + Drop>(
     alloc: Global,
+    state: S,
     ordered: &Tally<Vec<String>, S>,
     delivered: &Tally<Vec<String>, S>,
+    only: Only,
     layout: Layout<'_>,
     form: Form,
 ) -> Result<Vec<u8>, BagError> {
     let matched = match_tallies(alloc, ordered, delivered)?;
-    Ok(text_of(alloc, &matched, &[], layout, form)?)
+    let firsts: HashMap<Vec<String>, Vec<String>, S> = HashMap::with_hasher(alloc, state);
+    let shown = shown_rows(alloc, only, &matched.rows, &firsts)?;
+    Ok(text_of(alloc, &shown, &matched.totals, layout, form)?)
 }
 
 // What is written of two lists that are matched under this hash state.
@@ -237,12 +243,13 @@ fn written<S: BuildHasher + Copy + Drop>(
     state: S,
     ordered: &[(&str, usize)],
     delivered: &[(&str, usize)],
+    only: Only,
     layout: Layout<'_>,
     form: Form,
 ) -> Result<Vec<u8>, BagError> {
     let ordered = tally_of(alloc, state, ordered)?;
     let delivered = tally_of(alloc, state, delivered)?;
-    text_of_match(alloc, &ordered, &delivered, layout, form)
+    text_of_match(alloc, state, &ordered, &delivered, only, layout, form)
 }
 
 fn only_of(word: &str) -> Only {
@@ -272,11 +279,11 @@ fn is_written<S: BuildHasher + Copy + Drop>(
     let layout = Layout {
         keys,
         carried: &[],
-        only: only_of(only),
         scale: Scale::new(decimals, Mark::Point).unwrap_or(Scale::whole()),
         delimiter: Delimiter::Semicolon,
     };
-    let text = written(alloc, state, ordered, delivered, layout, form_of(form))?;
+    let only = only_of(only);
+    let text = written(alloc, state, ordered, delivered, only, layout, form_of(form))?;
     are_text(&text, wanted)
 }
 

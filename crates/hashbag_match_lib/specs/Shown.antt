@@ -1,0 +1,43 @@
+-- Which rows are written, and the bytes of their fields.
+use Rattle.std.specs.Prelude.{Bool, true, List, filter, map, nat_lt, not}
+use Rattle.std.specs.Borrow.{Bor}
+use Rattle.std.specs.String.{string_bytes}
+use Rattle.hashbag_csv.specs.FirstLines.{Carried, first_of}
+use Rattle.hashbag_csv.specs.Readers.{Record}
+use Rattle.hashbag_match_lib.specs.Matching.{agrees, missing_of, surplus_of}
+use Rattle.hashbag_match_lib.specs.declared.matching.Row.{Row}
+use Rattle.hashbag_match_lib.specs.declared.shown.Fields.{Fields}
+use Rattle.hashbag_match_lib.specs.declared.shown.Only.{Only}
+use Rattle.hashbag_match_lib.specs.declared.shown.Only.TheVariants as only
+
+module _ {T : Type 0} where
+  -- whether a row is written
+  abbrev pub shows : Only → Row T → Bool
+  shows only.Missing row = nat_lt 0 (missing_of row)
+  shows only.Surplus row = nat_lt 0 (surplus_of row)
+  shows only.Differing row = not (agrees row)
+  shows only.All row = true
+
+  -- the rows that are written
+  abbrev pub shown_rows : Only → List (Row T) → List (Row T)
+  shown_rows which rows = filter (shows which) rows
+
+-- the row of an article, with the bytes of its fields
+abbrev pub bytes_row : {A : Type 0} → (A → Record) → Row (Bor A) → Row Record
+bytes_row fields row = record { article = fields row.article.now; ordered = row.ordered; delivered = row.delivered }
+
+-- a row of fields, as bytes: those of its article, and those that are carried along
+abbrev pub Entry : Type 0
+Entry = Row Carried
+
+-- the bytes of the fields of a row
+abbrev pub entry_of : Row Fields → Entry
+entry_of row = record {
+  article = (map string_bytes row.article.article.now, map string_bytes row.article.carried.now);
+  ordered = row.ordered;
+  delivered = row.delivered;
+}
+
+-- a row with what the first line with its article carries along
+abbrev pub with_first : List Carried → Row Record → Entry
+with_first K row = record { article = (row.article, first_of row.article K); ordered = row.ordered; delivered = row.delivered }

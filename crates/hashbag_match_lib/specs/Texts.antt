@@ -1,0 +1,63 @@
+-- The text that is written of the lines of two lists.
+use Rattle.std.specs.Prelude.{◌≡◌, ℕ, ◌+◌, ◌<◌, Bool, List, ◌++◌, map, All}
+use Rattle.std.specs.Cmp.Lexicographic.{slice_cmp}
+use Rattle.std.specs.List.{Contains}
+use Rattle.std.specs.List.Sorted.{IsStrictlySortedBy}
+use Rattle.std.specs.Ordering.{nat_cmp}
+use Rattle.std.specs.declared.cmp.Ordering.{Ordering}
+use Rattle.hashbag_csv.specs.Articles.{same_article}
+use Rattle.hashbag_csv.specs.FirstLines.{Carried, HasFirsts}
+use Rattle.hashbag_csv.specs.Quantities.{quantity, times}
+use Rattle.hashbag_csv.specs.Readers.{Record}
+use Rattle.hashbag_match_lib.specs.Asks.{Lines, carried_along, delivered_in, names_of, ordered_in}
+use Rattle.hashbag_match_lib.specs.Fields.{IsTallyOfLines}
+use Rattle.hashbag_match_lib.specs.Shown.{shown_rows, with_first}
+use Rattle.hashbag_match_lib.specs.Written.{IsTextOf, Look}
+use Rattle.hashbag_match_lib.specs.declared.ask.Ask.{Ask}
+use Rattle.hashbag_match_lib.specs.declared.matching.Row.{Row}
+use Rattle.hashbag_match_lib.specs.declared.texts.Lists.{Lists}
+
+-- articles, as bytes, are in ascending order: by their first fields that differ
+abbrev pub Rise : List Record → Type 0
+Rise articles = IsStrictlySortedBy (slice_cmp (slice_cmp nat_cmp)) articles
+
+-- the same by the order of the type that articles are kept as
+abbrev pub RiseAs : {A : Type 0} → (A → A → Ordering) → (A → Record) → List Record → Type 0
+RiseAs {A} cmp fields articles = (kept : List A) × IsStrictlySortedBy cmp kept × (articles ≡ map fields kept)
+
+module _ (Rising : List Record → Type 0) where
+  -- the rows of the articles that lines of either list name: each in one row, with what each list names of it in all, in this order
+  pub record AreRowsOfLines (L M : Lines) (rows : List (Row Record)) : Type 0 where
+    pub rising : Rising (map (λ row. row.article) rows)
+    pub ordered : All (λ row. row.ordered ≡ quantity same_article row.article L) rows
+    pub delivered : All (λ row. row.delivered ≡ quantity same_article row.article M) rows
+    pub named : All (λ row. 0 < times same_article row.article L + times same_article row.article M) rows
+    pub each : (v : Record) → 0 < times same_article v L + times same_article v M → Contains (map (λ row. row.article) rows) v
+
+-- how the rows are written that are asked for
+abbrev pub look_asked : Ask → Look
+look_asked ask = record {
+  keys = names_of ask.ordered;
+  carried = map (λ n. n.now) ask.carried.items;
+  scale = ask.reading.scale;
+  delimiter = ask.reading.delimiter;
+}
+
+module _ (Rising : List Record → Type 0) (ask : Ask) where
+  -- the text is what is written of the rows of these lines. With a row goes what the first line with its article carries along
+  pub record IsTextOfLines (L M : Lines) (K : List Carried) (text : List ℕ) : Type 0 where
+    pub rows : List (Row Record)
+    pub are : AreRowsOfLines Rising L M rows
+    pub is : IsTextOf ask.form (look_asked ask) (map (with_first K) (shown_rows ask.only rows)) text
+
+  -- the same of the lines of two texts, of which the first one comes first
+  abbrev pub IsTextOfTexts : List ℕ → List ℕ → List ℕ → Type 0
+  IsTextOfTexts ordered delivered text =
+      IsTextOfLines (ordered_in ask ordered) (delivered_in ask delivered) (carried_along ask ask.ordered ordered ++ carried_along ask ask.delivered delivered) text
+
+-- the same, whatever lines two lists were read from
+abbrev pub IsTextOfLists : {A S H : Type 0} → (A → A → Bool) → (A → A → Ordering) → (A → Record) → Ask → Lists A S H → List ℕ → Type 0
+IsTextOfLists eq cmp fields ask lists text =
+    (L M : Lines) (K : List Carried) → IsTallyOfLines eq fields L lists.ordered.counts lists.ordered.zeros
+    → IsTallyOfLines eq fields M lists.delivered.counts lists.delivered.zeros → HasFirsts eq fields K lists.firsts
+    → IsTextOfLines (RiseAs cmp fields) ask L M K text

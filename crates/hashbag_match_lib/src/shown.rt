@@ -1,0 +1,107 @@
+//! The rows that are written.
+ghost use Rattle.std.specs.Prelude.{◌≡◌, List, map, IfOk};
+ghost use Rattle.std.specs.String.{string_bytes};
+ghost use Rattle.hashbag_csv.specs.FirstLines.{Carried, HasFirsts, first_of};
+ghost use Rattle.hashbag_match_lib.specs.Shown.{bytes_row, entry_of, shown_rows as rows_shown, shows as is_shown, with_first};
+
+use crate::matching::Row;
+use hashbag_csv::article::Article;
+use hashbag_csv::first_lines::first_fields;
+use std::alloc::{AllocError, Global};
+use std::collections::HashMap;
+use std::hash::BuildHasher;
+
+/// Which rows are written.
+#[derive(Clone, Copy, PartialEq, Eq, Debug)]
+pub enum Only {
+    /// Those of articles of which some are missing.
+    Missing,
+    /// Those of articles of which there is a surplus.
+    Surplus,
+    /// Those of articles that differ.
+    Differing,
+    /// All.
+    All,
+}
+
+impl Only {
+    /// Returns the choice of one of the names `missing`, `surplus`, `differing` and `all`, and all for another name.
+    pub fn named(name: &str) -> Only {
+        match name {
+            "missing" => Only::Missing,
+            "surplus" => Only::Surplus,
+            "differing" => Only::Differing,
+            _ => Only::All,
+        }
+    }
+
+    /// Returns whether the row is written.
+    pub fn shows<T>(self, row: &Row<T>) -> bool
+        ensures { result ≡ is_shown self row.now }
+    {
+        match self {
+            Only::Missing => row.missing() > 0,
+            Only::Surplus => row.surplus() > 0,
+            Only::Differing => !row.agrees(),
+            Only::All => true,
+        }
+    }
+}
+
+/// The fields of a row.
+#[derive(Clone, Copy)]
+pub struct Fields<'a> {
+    /// Those of its article.
+    pub article: &'a [String],
+    /// Those that are carried along with it.
+    pub carried: &'a [String],
+}
+
+// Returns the fields that are carried along with an article. No article is hashed if nothing is carried along.
+fn fields_along<'f, A: Article + Drop, S: BuildHasher + Drop>(
+    firsts: &'f HashMap<A, Vec<String>, S>,
+    article: &A,
+) -> &'f [String]
+    ensures { (K : List Carried) → HasFirsts A.eq A.fields K firsts.now
+        → map string_bytes result.now ≡ first_of (A.fields article.now) K }
+{
+    if firsts.is_empty() {
+        return &[];
+    }
+    first_fields(firsts, article)
+}
+
+/// Returns the rows that are written, in the order of `rows`: their fields, with those that are carried along, which are those of the first line
+/// with the article.
+///
+/// # Errors
+///
+/// An allocation fails.
+///
+/// # Complexity
+///
+/// Copies no field. Hashes the article of each row that is written once, if fields are carried along.
+pub fn shown_rows<'a, A: Article + Drop, S: BuildHasher + Drop>(
+    alloc: Global,
+    only: Only,
+    rows: &[Row<&'a A>],
+    firsts: &'a HashMap<A, Vec<String>, S>,
+) -> Result<Vec<Row<Fields<'a>>>, AllocError>
+    ensures { IfOk result (λ shown. (K : List Carried) → HasFirsts A.eq A.fields K firsts.now
+        → map entry_of shown.items ≡ map (with_first K) (rows_shown only (map (bytes_row A.fields) rows.now))) }
+{
+    let mut shown = Vec::new(alloc);
+    for row in rows {
+        if only.shows(row) {
+            shown.push(Row {
+                article: Fields {
+                    article: row.article.texts(),
+                    carried: fields_along(firsts, row.article),
+                },
+                ordered: row.ordered,
+                delivered: row.delivered,
+            })?;
+        }
+    }
+    Ok(shown)
+}
