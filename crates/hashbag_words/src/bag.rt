@@ -1,90 +1,44 @@
-//! The bag that tokens are counted in, and what counts in it.
-ghost use Rattle.std.specs.Prelude.{IfOk};
-ghost use Rattle.hashbag_words_lib.specs.Counted.{IsWithin};
+//! The bag that tokens are counted in, and the runs that are written when it is full.
+ghost use Rattle.hashbag_words_lib.specs.RowText.{bytes_left};
 
-use crate::failure::Failure;
-use hashbag::{BagError, HashBag};
-use hashbag_words_lib::counter::{Fed, TextCounter};
-use hashbag_words_lib::errors::InputFault;
-use hashbag_words_lib::lines::LinesRead;
-use hashbag_words_lib::row_counter::RowCounter;
+use crate::runs::Runs;
+use hashbag::HashBag;
+use hashbag_shell::trouble::Trouble;
+use hashbag_words_lib::feeding::KeepsRuns;
 use hashbag_words_lib::row_text::RowText;
+use hashbag_words_lib::tape::Tape;
+use hashbag_words_lib::trace::Trace;
 use std::hash::RandomState;
 
 /// A bag of texts. Strangers choose the texts, so each run hashes with random keys.
 pub type Bag = HashBag<String, RandomState>;
 
-/// Counts what inputs have, which are fed in blocks. Its bag may be emptied into runs.
-pub trait Counter {
-    /// Counts what a block brings, as far as the bag has room.
-    fn feed(&mut self, block: &[u8]) -> Result<Fed, InputFault>
-        ensures within { IfOk result (λ fed. IsWithin fed block.now) };
-
-    /// Ends an input. Returns how its lines were read.
-    fn end(&mut self) -> Result<LinesRead, InputFault>;
-
-    /// Returns how the lines of the present input were read.
-    fn reading(&self) -> LinesRead;
-
-    /// Returns whether the bag is full.
-    fn is_full(&mut self) -> bool;
-
-    /// Returns the text of a run of the bag.
-    fn run(&self) -> Result<RowText<'_>, BagError>;
-
-    /// Empties the bag, since its run was written.
-    fn end_run(&mut self);
+/// The runs of a bag, in temporary files.
+#[derive(Drop)]
+pub struct BagRuns<'s, 'a> {
+    /// The files.
+    pub runs: Runs<'s, 'a>,
+    // What was written of each run.
+    texts: Trace<Tape>,
 }
 
-impl Counter for TextCounter<'_, RandomState> {
-    fn feed(&mut self, block: &[u8]) -> Result<Fed, InputFault> {
-        TextCounter::feed(self, block)
-    }
-
-    fn end(&mut self) -> Result<LinesRead, InputFault> {
-        self.end_text()
-    }
-
-    fn reading(&self) -> LinesRead {
-        TextCounter::reading(self)
-    }
-
-    fn is_full(&mut self) -> bool {
-        TextCounter::is_full(self)
-    }
-
-    fn run(&self) -> Result<RowText<'_>, BagError> {
-        TextCounter::run(self)
-    }
-
-    fn end_run(&mut self) {
-        TextCounter::end_run(self)
+impl<'s, 'a> BagRuns<'s, 'a> {
+    /// Returns these files, which have no run.
+    pub fn new(runs: Runs<'s, 'a>) -> BagRuns<'s, 'a> {
+        BagRuns {
+            runs,
+            texts: Trace::empty(),
+        }
     }
 }
 
-impl Counter for RowCounter<RandomState> {
-    fn feed(&mut self, block: &[u8]) -> Result<Fed, InputFault> {
-        RowCounter::feed(self, block)
-    }
+impl<'a> KeepsRuns<'a> for BagRuns<'_, 'a> {
+    ghost kept = { λ runs. runs.texts };
 
-    fn end(&mut self) -> Result<LinesRead, InputFault> {
-        self.end_file()
-    }
-
-    fn reading(&self) -> LinesRead {
-        RowCounter::reading(self)
-    }
-
-    fn is_full(&mut self) -> bool {
-        RowCounter::is_full(self)
-    }
-
-    fn run(&self) -> Result<RowText<'_>, BagError> {
-        RowCounter::run(self)
-    }
-
-    fn end_run(&mut self) {
-        RowCounter::end_run(self)
+    fn keep(&mut self, text: &mut RowText<'_>) -> Result<(), Trouble<'a>> {
+        let tape = self.runs.write(text)?;
+        self.texts.push(&tape);
+        Ok(())
     }
 }
 
@@ -92,10 +46,10 @@ impl Counter for RowCounter<RandomState> {
 ///
 /// # Errors
 ///
-/// `NotRandom` if the system gives no random keys.
-pub fn empty<'a>(rt: &HostRuntime) -> Result<Bag, Failure<'a>> {
+/// `Random` if the system gives no random keys.
+pub fn empty<'a>(rt: &HostRuntime) -> Result<Bag, Trouble<'a>> {
     match RandomState::new(rt) {
         Ok(state) => Ok(HashBag::with_hasher(rt.alloc(), state)),
-        Err(error) => Err(Failure::NotRandom(error)),
+        Err(error) => Err(Trouble::Random(error)),
     }
 }

@@ -1,5 +1,6 @@
 //! Folders: the files in them.
-use crate::failure::Failure;
+use hashbag_shell::status::IO_FAILED;
+use hashbag_shell::trouble::Trouble;
 use std::alloc::{AllocError, Global};
 use std::{fs, io};
 
@@ -39,8 +40,16 @@ fn list_folder(
     Ok(())
 }
 
+// Returns the trouble of a folder that can't be read.
+fn of_folder<'a>(alloc: Global, name: &str, error: io::Error) -> Trouble<'a> {
+    if error.kind() == io::ErrorKind::OutOfMemory {
+        return Trouble::Memory;
+    }
+    Trouble::with_status(format!(in alloc; "{name}: {error}"), IO_FAILED)
+}
+
 // Appends the paths of the files in a folder and in the folders in it, in ascending order of their bytes.
-fn walk<'a>(rt: &HostRuntime, top: &str, into: &mut Vec<String>) -> Result<(), Failure<'a>> {
+fn walk<'a>(rt: &HostRuntime, top: &str, into: &mut Vec<String>) -> Result<(), Trouble<'a>> {
     let mut files = Vec::new(rt.alloc());
     let mut folders = Vec::new(rt.alloc());
     push_path(rt.alloc(), &mut folders, top)?;
@@ -49,7 +58,7 @@ fn walk<'a>(rt: &HostRuntime, top: &str, into: &mut Vec<String>) -> Result<(), F
             break;
         };
         if let Err(error) = list_folder(rt, name.as_str(), &mut folders, &mut files) {
-            return Err(Failure::of_folder(name, error));
+            return Err(of_folder(rt.alloc(), name.as_str(), error));
         }
     }
     push_sorted(into, files)?;
@@ -71,8 +80,8 @@ pub fn is_folder(rt: &HostRuntime, name: &str) -> bool {
 ///
 /// # Errors
 ///
-/// `Folder` if a folder can't be read, `NoMemoryLeft` if an allocation fails.
-pub fn files_of<'a>(rt: &HostRuntime, names: &[&str]) -> Result<Vec<String>, Failure<'a>> {
+/// Which folder can't be read, and why. `Memory` if an allocation fails.
+pub fn files_of<'a>(rt: &HostRuntime, names: &[&str]) -> Result<Vec<String>, Trouble<'a>> {
     let mut files = Vec::new(rt.alloc());
     for name in names {
         if is_folder(rt, name) {

@@ -1,6 +1,4 @@
 //! An input that is open.
-ghost use Rattle.std.specs.Io.{ReadsAtMost};
-
 use std::fs::{self, File};
 use std::io::{self, Read, Stdin};
 
@@ -32,26 +30,4 @@ impl Read for Input {
             Input::File(file) => file.read(buf),
         }
     }
-}
-
-/// Reads the next bytes of an input into the block, and returns how many there were: 0 at its end.
-///
-/// # Errors
-///
-/// The system's error.
-pub fn read_block(input: &mut Input, block: &mut [u8]) -> io::Result<usize>
-    ensures { ReadsAtMost result block.new }
-{
-    for _ in 0..u64::MAX {
-        match input.read(block) {
-            Err(error) if error.kind() == io::ErrorKind::Interrupted => {}
-            read => return read,
-        }
-    }
-    Err(io::Error::from(io::ErrorKind::Interrupted))
-}
-
-/// Returns how a word ends in messages behind this number.
-pub fn plural(n: &u64) -> &'static str {
-    if *n == 1 { "" } else { "s" }
 }

@@ -1,7 +1,7 @@
 //! The jobs: each reads its inputs into a bag, and writes the counts of the bag.
-use crate::bag::{Bag, empty};
-use crate::failure::Failure;
-use crate::inputs::{Bound, Inputs};
+use crate::bag::{Bag, BagRuns, empty};
+use crate::blocks::HostBlocks;
+use crate::inputs::Inputs;
 use crate::names::check;
 use crate::output::{Rendered, rows_of, write};
 use crate::runs::Runs;
@@ -11,6 +11,7 @@ use hashbag_ops::{keep_common, take_away};
 use hashbag_shell::output::Output;
 use hashbag_shell::progress::Progress;
 use hashbag_shell::status::{DENIED, DONE};
+use hashbag_shell::trouble::{Trouble, plural};
 use hashbag_words_args::settings::{Ask, By, Pair, Settings, Tokens};
 use hashbag_words_lib::choice::Choice;
 use hashbag_words_lib::counter::TextCounter;
@@ -28,12 +29,12 @@ fn count_by<'a>(
     inputs: &mut Inputs<'_, 'a, '_>,
     rule: Rule<'_>,
     bag: &mut Bag,
-) -> Result<(), Failure<'a>> {
+) -> Result<(), Trouble<'a>> {
     let alloc = inputs.rt.alloc();
     let none = HashBag::with_hasher(alloc, *bag.hasher());
     let given = mem::replace(bag, none);
-    let gauge = inputs.bound.as_ref().map(|bound| bound.gauge);
-    let mut counter = TextCounter::new(alloc, given, rule, inputs.settings.bad_lines, gauge);
+    let bad_lines = inputs.settings.bad_lines;
+    let mut counter = TextCounter::new(alloc, given, rule, bad_lines, inputs.gauge);
     let counted = inputs.count_all(&mut counter, inputs.names);
     *bag = counter.into_bag();
     counted
@@ -43,8 +44,8 @@ fn count_by<'a>(
 ///
 /// # Errors
 ///
-/// `Pattern` if it is no regular expression, `NoGroup` if it hasn't the group that is to be counted.
-pub fn pattern_of<'a>(alloc: Global, ask: Ask<'_, '_>) -> Result<Option<Regex>, Failure<'a>> {
+/// `Words` if it is no regular expression, or hasn't the group that is to be counted.
+pub fn pattern_of<'a>(alloc: Global, ask: Ask<'_, '_>) -> Result<Option<Regex>, Trouble<'a>> {
     let Ask::Count(tokens, _) = ask else {
         return Ok(None);
     };
@@ -53,13 +54,18 @@ pub fn pattern_of<'a>(alloc: Global, ask: Ask<'_, '_>) -> Result<Option<Regex>, 
     };
     let pattern = match Regex::new(alloc, text) {
         Ok(pattern) => pattern,
-        Err(regex::Error::OutOfMemory) => return Err(Failure::NoMemoryLeft),
-        Err(error) => return Err(Failure::Pattern(error)),
+        Err(regex::Error::OutOfMemory) => return Err(Trouble::Memory),
+        Err(error) => {
+            let what = format!(in alloc; "--pattern: {error}")?;
+            return Err(Trouble::Words(what));
+        }
     };
     let groups = pattern.captures_len().saturating_sub(1);
     if group > groups {
         let groups = groups as u64;
-        return Err(Failure::NoGroup { group, groups });
+        let s = plural(&groups);
+        let what = format!(in alloc; "--group: {group}: the pattern has {groups} group{s}")?;
+        return Err(Trouble::Words(what));
     }
     Ok(Some(pattern))
 }
@@ -83,7 +89,7 @@ fn count<'a>(
     inputs: &mut Inputs<'_, 'a, '_>,
     tokens: Tokens<'a>,
     bag: &mut Bag,
-) -> Result<(), Failure<'a>> {
+) -> Result<(), Trouble<'a>> {
     let rule = Rule {
         pieces: pieces_of(tokens.by, inputs.pattern),
         fold: tokens.fold,
@@ -100,7 +106,7 @@ fn take_pair<'a>(
     inputs: &mut Inputs<'_, 'a, '_>,
     pair: Pair<'a>,
     bag: &mut Bag,
-) -> Result<Bag, Failure<'a>> {
+) -> Result<Bag, Trouble<'a>> {
     let mut other = empty(inputs.rt)?;
     inputs.add_all(pair.rows, bag, &[pair.first])?;
     inputs.add_all(pair.rows, &mut other, &[pair.second])?;
@@ -108,19 +114,26 @@ fn take_pair<'a>(
     Ok(other)
 }
 
-// Returns the bound of the memory, if there is one. Its runs are in that folder.
-fn bound_of<'s, 'a>(
+// Returns whether bytes that aren't UTF-8 are replaced.
+fn is_lossy(ask: Ask<'_, '_>) -> bool {
+    match ask {
+        Ask::Count(tokens, _) => tokens.lossy,
+        _ => false,
+    }
+}
+
+// Returns the runs that are written when the bag is full, if the memory has a bound. They are in that folder.
+fn runs_of<'s, 'a>(
     rt: &'s HostRuntime,
-    settings: &Settings<'a, '_>,
+    gauge: Option<Gauge>,
     names: &'s [&'a str],
     folder: &'a str,
-) -> Result<Option<Bound<'s, 'a>>, Failure<'a>> {
-    let Some(memory) = settings.ask.many().and_then(|many| many.memory) else {
+) -> Result<Option<BagRuns<'s, 'a>>, Trouble<'a>> {
+    if gauge.is_none() {
         return Ok(None);
-    };
-    let gauge = Gauge::new(memory);
+    }
     let runs = Runs::new(rt, folder, &names[..0], SourceKind::Run)?;
-    Ok(Some(Bound { gauge, runs }))
+    Ok(Some(BagRuns::new(runs)))
 }
 
 // Reads the inputs of a job. Returns `Some` with the output if files were merged line by line. Else the counts are in the bag and the runs.
@@ -128,7 +141,7 @@ fn take_in<'a>(
     inputs: &mut Inputs<'_, 'a, '_>,
     folder: &'a str,
     bag: &mut Bag,
-) -> Result<Option<Rendered<'static>>, Failure<'a>> {
+) -> Result<Option<Rendered<'static>>, Trouble<'a>> {
     match inputs.settings.ask {
         Ask::Count(tokens, _) => count(inputs, tokens, bag)?,
         Ask::Merge(rows, _) => inputs.add_all(rows, bag, inputs.names)?,
@@ -154,12 +167,13 @@ fn merged<'a>(
     settings: &Settings<'a, '_>,
     mut runs: Runs<'_, 'a>,
     bag: &Bag,
-) -> Result<Option<Rendered<'static>>, Failure<'a>> {
+) -> Result<Option<Rendered<'static>>, Trouble<'a>> {
     if runs.is_empty() {
         return Ok(None);
     }
     if !bag.is_empty() {
-        runs.write(run_of(rt.alloc(), bag))?;
+        let mut text = run_of(rt.alloc(), bag).map_err(|_refused| Trouble::Memory)?;
+        let _written = runs.write(&mut text)?;
     }
     let made = show(rt, settings, runs)?;
     Ok(Some(made))
@@ -174,25 +188,30 @@ fn read<'s, 'a>(
     names: &'s [&'a str],
     folder: &'a str,
     bag: &mut Bag,
-) -> Result<Option<Rendered<'static>>, Failure<'a>> {
-    let bound = bound_of(rt, settings, names, folder)?;
+) -> Result<Option<Rendered<'static>>, Trouble<'a>> {
+    let memory = settings.ask.many().and_then(|many| many.memory);
+    let gauge = memory.map(|memory| Gauge::new(memory));
+    let runs = runs_of(rt, gauge, names, folder)?;
+    let encoding = settings.ask.encoding();
     let progress = Progress::new(rt, settings.reports, names);
     let mut inputs = Inputs {
         rt,
         settings,
         names,
         pattern,
-        encoding: settings.ask.encoding(),
-        progress,
-        bound,
+        encoding,
+        blocks: HostBlocks::new(rt, progress, encoding.is_none() && !is_lossy(settings.ask)),
+        gauge,
+        runs,
     };
     let taken = take_in(&mut inputs, folder, bag);
-    inputs.progress.erase(rt);
+    inputs.blocks.erase();
+    let runs = inputs.runs.take();
     if let Some(made) = taken? {
         return Ok(Some(made));
     }
-    if let Some(bound) = inputs.bound {
-        if let Some(made) = merged(rt, settings, bound.runs, bag)? {
+    if let Some(runs) = runs {
+        if let Some(made) = merged(rt, settings, runs.runs, bag)? {
             return Ok(Some(made));
         }
     }
@@ -204,7 +223,7 @@ fn write_made<'a>(
     rt: &HostRuntime,
     output: Output<'a>,
     made: Rendered<'_>,
-) -> Result<bool, Failure<'a>> {
+) -> Result<bool, Trouble<'a>> {
     let is_empty = made.is_empty();
     write(rt, output, made)?;
     Ok(is_empty)
@@ -216,7 +235,7 @@ fn write_bag<'a>(
     settings: &Settings<'a, '_>,
     output: Output<'a>,
     bag: &mut Bag,
-) -> Result<bool, Failure<'a>> {
+) -> Result<bool, Trouble<'a>> {
     match rows_of(rt, settings, bag) {
         Ok(rows) => write_made(rt, output, rows),
         Err(failure) => {
@@ -234,7 +253,7 @@ fn read_and_write<'a>(
     names: &[&'a str],
     folder: &'a str,
     bag: &mut Bag,
-) -> Result<bool, Failure<'a>> {
+) -> Result<bool, Trouble<'a>> {
     let output = Output::open(rt, settings.output)?;
     match read(rt, settings, pattern, names, folder, bag) {
         Ok(Some(made)) => write_made(rt, output, made),
@@ -251,7 +270,7 @@ fn lines_of<'a>(
     inputs: &mut Inputs<'_, 'a, '_>,
     name: &'a str,
     fold: bool,
-) -> Result<Bag, Failure<'a>> {
+) -> Result<Bag, Trouble<'a>> {
     let (rt, lossy) = (inputs.rt, false);
     let rule = |pieces| Rule {
         pieces,
@@ -271,20 +290,19 @@ fn excepted<'s, 'a>(
     rt: &'s HostRuntime,
     settings: &'s Settings<'a, '_>,
     names: &'s [&'a str],
-) -> Result<Option<Bag>, Failure<'a>> {
+) -> Result<Option<Bag>, Trouble<'a>> {
     let Some(name) = settings.except else {
         return Ok(None);
     };
-    let progress = Progress::silent();
-    let bound = None;
     let mut inputs = Inputs {
         rt,
         settings,
         names,
         pattern: None,
         encoding: None,
-        progress,
-        bound,
+        blocks: HostBlocks::new(rt, Progress::silent(), !is_lossy(settings.ask)),
+        gauge: None,
+        runs: None,
     };
     Ok(Some(lines_of(&mut inputs, name, settings.ask.folds())?))
 }
@@ -300,7 +318,7 @@ pub fn run<'a>(
     pattern: Option<&Regex>,
     names: &[&'a str],
     folder: &'a str,
-) -> Result<u8, Failure<'a>> {
+) -> Result<u8, Trouble<'a>> {
     check(rt, settings, names)?;
     let except = excepted(rt, settings, names)?;
     let choice = Choice {

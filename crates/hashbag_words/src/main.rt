@@ -2,7 +2,7 @@
 #![tactic(auto)]
 
 mod bag;
-mod failure;
+mod blocks;
 mod folders;
 mod input;
 mod inputs;
@@ -12,7 +12,6 @@ mod output;
 mod runs;
 mod shown;
 
-use failure::Failure;
 use hashbag_shell::VERSION;
 use hashbag_shell::program::{given_to, status_of, words_of};
 use hashbag_shell::status::BAD_INPUT;
@@ -46,13 +45,13 @@ fn do_named(
 ) -> u8 {
     let folder = match names::temporary_folder(rt) {
         Ok(folder) => folder,
-        Err(failure) => return failure.report(rt),
+        Err(trouble) => return trouble.report(rt, PROGRAM),
     };
     let tmp = settings.ask.many().and_then(|many| many.tmp);
     let folder = tmp.unwrap_or(folder.as_str());
     match jobs::run(rt, settings, pattern, names, folder) {
         Ok(status) => status,
-        Err(failure) => failure.report(rt),
+        Err(trouble) => trouble.report(rt, PROGRAM),
     }
 }
 
@@ -74,10 +73,10 @@ fn do_folders(
 ) -> u8 {
     let files = match folders::files_of(rt, names) {
         Ok(files) => files,
-        Err(failure) => return failure.report(rt),
+        Err(trouble) => return trouble.report(rt, PROGRAM),
     };
     let Ok(names) = lent(rt.alloc(), &files) else {
-        return Failure::NoMemoryLeft.report(rt);
+        return Trouble::Memory.report(rt, PROGRAM);
     };
     do_named(rt, settings, pattern, &names)
 }
@@ -90,7 +89,7 @@ fn do_job(
     list: Option<&String>,
 ) -> u8 {
     let Ok(names) = names::inputs_of(rt.alloc(), settings, list) else {
-        return Failure::NoMemoryLeft.report(rt);
+        return Trouble::Memory.report(rt, PROGRAM);
     };
     if settings.ask.is_recursive() {
         return do_folders(rt, settings, pattern, &names);
@@ -105,7 +104,7 @@ fn do_listed(rt: &HostRuntime, settings: &Settings<'_, '_>, pattern: Option<&Reg
     };
     match names::read_list(rt, name) {
         Ok(list) => do_job(rt, settings, pattern, Some(&list)),
-        Err(failure) => failure.report(rt),
+        Err(trouble) => trouble.report(rt, PROGRAM),
     }
 }
 
@@ -113,7 +112,7 @@ fn do_listed(rt: &HostRuntime, settings: &Settings<'_, '_>, pattern: Option<&Reg
 fn do_settings(rt: &HostRuntime, settings: &Settings<'_, '_>) -> u8 {
     match jobs::pattern_of(rt.alloc(), settings.ask) {
         Ok(pattern) => do_listed(rt, settings, pattern.as_ref()),
-        Err(failure) => failure.report(rt),
+        Err(trouble) => trouble.report(rt, PROGRAM),
     }
 }
 
@@ -140,7 +139,7 @@ fn words<'a>(rt: &HostRuntime) -> Result<Vec<String>, Trouble<'a>> {
 
 fn run(rt: &HostRuntime) -> u8 {
     let Ok(version) = version(rt.alloc()) else {
-        return Failure::NoMemoryLeft.report(rt);
+        return Trouble::Memory.report(rt, PROGRAM);
     };
     match words(rt) {
         Ok(words) => {

@@ -1,8 +1,10 @@
 //! The names of the inputs.
-use crate::failure::Failure;
 use crate::folders::is_folder;
 use hashbag_shell::one_file::is_one_file;
+use hashbag_shell::status::{BAD_INPUT, IO_FAILED};
+use hashbag_shell::trouble::Trouble;
 use hashbag_words_args::settings::{Ask, Settings};
+use hashbag_words_lib::troubles::of_text;
 use std::alloc::{AllocError, Global};
 use std::{env, fs, io};
 
@@ -10,13 +12,13 @@ use std::{env, fs, io};
 ///
 /// # Errors
 ///
-/// `File` if the file can't be read or isn't UTF-8, `NoMemoryLeft` if an allocation fails.
-pub fn read_list<'a>(rt: &HostRuntime, name: &'a str) -> Result<String, Failure<'a>> {
+/// Why the file can't be read: it isn't UTF-8, say. `Memory` if an allocation fails.
+pub fn read_list<'a>(rt: &HostRuntime, name: &'a str) -> Result<String, Trouble<'a>> {
     let (name, read) = match name {
         "-" => ("standard input", io::read_to_string(rt.alloc(), rt.stdin())),
         _ => (name, fs::read_to_string(rt, name)),
     };
-    read.map_err(|error| Failure::of_file(name, error))
+    read.map_err(|error| of_text(rt.alloc(), name, error))
 }
 
 // Returns the names in a list, one for each line, or each ending in a NUL byte. Empty ones are skipped.
@@ -72,11 +74,17 @@ pub fn inputs_of<'a>(
 /// # Errors
 ///
 /// `File` if the path of that folder can't be read.
-pub fn temporary_folder<'a>(rt: &HostRuntime) -> Result<String, Failure<'a>> {
+pub fn temporary_folder<'a>(rt: &HostRuntime) -> Result<String, Trouble<'a>> {
     match env::temp_dir(rt) {
         Ok(folder) => Ok(folder.into_string()),
-        Err(error) => Err(Failure::of_file("TMPDIR", error)),
+        Err(error) => Err(Trouble::of_file("TMPDIR", error)),
     }
+}
+
+// Returns the trouble of a file of tokens that aren't shown, which is also this.
+fn excepted_twice<'a>(rt: &HostRuntime, name: &str, what: &str) -> Trouble<'a> {
+    let what = format!(in rt.alloc(); "--except: {name}: it is {what}");
+    Trouble::with_status(what, BAD_INPUT)
 }
 
 // Checks that the file of tokens that aren't shown is neither the output nor one of the inputs.
@@ -84,20 +92,18 @@ fn check_except<'a>(
     rt: &HostRuntime,
     settings: &Settings<'a, '_>,
     names: &[&'a str],
-) -> Result<(), Failure<'a>> {
+) -> Result<(), Trouble<'a>> {
     let Some(name) = settings.except else {
         return Ok(());
     };
     if let Some(output) = settings.output
         && is_one_file(rt, name, output)
     {
-        let what = "the output";
-        return Err(Failure::Except { name, what });
+        return Err(excepted_twice(rt, name, "the output"));
     }
     for input in names {
         if is_one_file(rt, name, input) {
-            let what = "one of the inputs";
-            return Err(Failure::Except { name, what });
+            return Err(excepted_twice(rt, name, "one of the inputs"));
         }
     }
     Ok(())
@@ -108,7 +114,7 @@ fn check_folders<'a>(
     rt: &HostRuntime,
     settings: &Settings<'a, '_>,
     names: &[&'a str],
-) -> Result<(), Failure<'a>> {
+) -> Result<(), Trouble<'a>> {
     if settings.ask.is_recursive() {
         return Ok(());
     }
@@ -118,7 +124,8 @@ fn check_folders<'a>(
     };
     for name in names {
         if is_folder(rt, name) {
-            return Err(Failure::IsFolder { name: *name, cure });
+            let what = format!(in rt.alloc(); "{name}: a folder{cure}");
+            return Err(Trouble::with_status(what, IO_FAILED));
         }
     }
     Ok(())
@@ -129,12 +136,12 @@ fn check_folders<'a>(
 ///
 /// # Errors
 ///
-/// `ReadTwice`, `OutputIsInput`, `IsFolder` or `Except`.
+/// Which of these isn't so. `Memory` if an allocation fails.
 pub fn check<'a>(
     rt: &HostRuntime,
     settings: &Settings<'a, '_>,
     names: &[&'a str],
-) -> Result<(), Failure<'a>> {
+) -> Result<(), Trouble<'a>> {
     let mut reads = u64::from(settings.ask.files_from() == Some("-"));
     if settings.except == Some("-") {
         reads = reads.saturating_add(1);
@@ -146,11 +153,13 @@ pub fn check<'a>(
         if let Some(output) = settings.output
             && is_one_file(rt, name, output)
         {
-            return Err(Failure::OutputIsInput { name: output });
+            let what = format!(in rt.alloc(); "{output}: the output is one of the inputs");
+            return Err(Trouble::with_status(what, BAD_INPUT));
         }
     }
     if reads > 1 {
-        return Err(Failure::ReadTwice);
+        let what = "standard input is named twice".to_string(rt.alloc())?;
+        return Err(Trouble::Words(what));
     }
     check_folders(rt, settings, names)?;
     check_except(rt, settings, names)

@@ -1,7 +1,7 @@
 //! What is written.
 use crate::bag::Bag;
-use crate::failure::Failure;
 use hashbag_shell::output::Output;
+use hashbag_shell::trouble::Trouble;
 use hashbag_words_args::settings::Settings;
 use hashbag_words_lib::row_text::RowText;
 use hashbag_words_lib::shown_text::{Look, Shown, shown_of};
@@ -39,7 +39,7 @@ pub fn write<'a>(
     rt: &HostRuntime,
     output: Output<'a>,
     made: Rendered<'_>,
-) -> Result<(), Failure<'a>> {
+) -> Result<(), Trouble<'a>> {
     let written = match made {
         Rendered::Rows(mut rows) => output.copy(rt, &mut rows),
         Rendered::Text(text, _) => output.write(rt, text.as_slice()),
@@ -82,12 +82,12 @@ fn look_of(rt: &HostRuntime, settings: &Settings<'_, '_>) -> Look {
 ///
 /// # Errors
 ///
-/// `NoMemoryLeft` if an allocation fails.
+/// `Memory` if an allocation fails.
 pub fn rows_of<'a, 'b>(
     rt: &HostRuntime,
     settings: &Settings<'a, '_>,
     bag: &'b mut Bag,
-) -> Result<Rendered<'b>, Failure<'a>> {
+) -> Result<Rendered<'b>, Trouble<'a>> {
     let look = look_of(rt, settings);
     match shown_of(rt.alloc(), bag, settings.choice, look) {
         Ok(Shown::Rows(rows)) => Ok(Rendered::Rows(rows)),
@@ -95,6 +95,6 @@ pub fn rows_of<'a, 'b>(
             let is_empty = text.is_empty();
             Ok(Rendered::Text(text, is_empty))
         }
-        Err(_) => Err(Failure::NoMemoryLeft),
+        Err(_) => Err(Trouble::Memory),
     }
 }

@@ -1,16 +1,24 @@
 //! The texts that are merged: files of counts, and runs in temporary files. Each has a number.
-use crate::failure::Failure;
-use crate::input::{Input, plural, read_block};
-use hashbag::BagError;
+ghost use Rattle.std.specs.Prelude.{◌≡◌, ◌≤◌, length, IfOk};
+ghost use Rattle.hashbag_words_lib.specs.RowText.{bytes_left};
+
+use crate::input::Input;
 use hashbag_shell::input::said;
 use hashbag_shell::temporary_file::create_unnamed;
+use hashbag_shell::trouble::{Trouble, plural};
+use hashbag_words_lib::block_reader::read_block;
 use hashbag_words_lib::kept_runs::KeptRuns;
-use hashbag_words_lib::merged_text::{MergedText, RowLayout, Wants};
+use hashbag_words_lib::merged_text::{MergedText, RowLayout};
+use hashbag_words_lib::numbered::{NumberedTexts, read_on, write_merged};
+use hashbag_words_lib::reads::Reads;
 use hashbag_words_lib::row_source::SourceKind;
 use hashbag_words_lib::row_text::RowText;
+use hashbag_words_lib::run_file::write_text;
 use hashbag_words_lib::sorted_merge::Stop;
+use hashbag_words_lib::tape::Tape;
+use hashbag_words_lib::troubles::{of_input, too_many_in_all};
 use std::fs::File;
-use std::io::{self, Seek, Write};
+use std::io::{self, Seek};
 use std::process;
 
 // How many bytes of a text are read at once.
@@ -27,6 +35,8 @@ pub struct Runs<'s, 'a> {
     // The file of each number while it is open.
     files: Vec<Option<Input>>,
     kept: KeptRuns,
+    // What was read of each.
+    reads: Reads,
 }
 
 /// What was merged.
@@ -41,36 +51,38 @@ pub struct MergedFile {
 }
 
 // Creates a temporary file in that folder.
-fn temporary<'a>(rt: &HostRuntime, folder: &'a str) -> Result<File, Failure<'a>> {
+fn temporary<'a>(rt: &HostRuntime, folder: &'a str) -> Result<File, Trouble<'a>> {
     let number = process::id(rt.process());
-    create_unnamed(rt, folder, number).map_err(|error| Failure::of_file(folder, error))
+    create_unnamed(rt, folder, number).map_err(|error| Trouble::of_file(folder, error))
 }
 
-// Writes the text of a run into a file, which is then to be read from its beginning.
-fn written(mut file: File, text: &mut RowText<'_>) -> io::Result<File> {
-    let _bytes = io::copy(text, &mut file)?;
-    file.rewind()?;
-    Ok(file)
-}
-
-// Gives a text the next blocks of its file: at least as many bytes as are kept of a line. So the line is searched for its end few times,
-// however long it is. Returns whether the file has ended.
-fn feed(file: &mut Input, block: &mut [u8], text: &mut MergedText<'_>) -> io::Result<bool> {
-    let kept = text.kept();
-    let mut given = 0usize;
-    for _ in 0..u64::MAX {
-        let n = read_block(file, block)?;
-        if n == 0 {
-            text.end();
-            return Ok(true);
-        }
-        text.give(&block[..n])?;
-        given = given.saturating_add(n);
-        if given >= kept {
-            break;
-        }
+// Opens the file of counts of that path, unless the file is open.
+fn open_file<'a>(
+    rt: &HostRuntime,
+    file: &mut Option<Input>,
+    path: Option<&&'a str>,
+) -> io::Result<()> {
+    if file.is_none()
+        && let Some(path) = path
+    {
+        *file = Some(Input::open(rt, *path)?);
     }
-    Ok(false)
+    Ok(())
+}
+
+// Reads the next bytes of a file into the block, and returns how many there were: 0 at its end. Then the file is closed.
+fn read_file(file: &mut Option<Input>, block: &mut Vec<u8>) -> io::Result<usize>
+    ensures { IfOk result (λ n. n ≤ length block.new.items) }
+{
+    let Some(input) = file else {
+        // Never: a file is open until its end was read.
+        return Err(io::Error::from(io::ErrorKind::NotFound));
+    };
+    let n = read_block(input, block.as_mut_slice())?;
+    if n == 0 {
+        *file = None;
+    }
+    Ok(n)
 }
 
 impl<'s, 'a> Runs<'s, 'a> {
@@ -84,11 +96,11 @@ impl<'s, 'a> Runs<'s, 'a> {
         folder: &'a str,
         names: &'s [&'a str],
         kind: SourceKind,
-    ) -> Result<Runs<'s, 'a>, Failure<'a>> {
+    ) -> Result<Runs<'s, 'a>, Trouble<'a>> {
         let mut files = Vec::new(rt.alloc());
         for _name in names {
             if files.push(None).is_err() {
-                return Err(Failure::NoMemoryLeft);
+                return Err(Trouble::Memory);
             }
         }
         let kept = KeptRuns::new(rt.alloc(), kind, names.len())?;
@@ -98,6 +110,7 @@ impl<'s, 'a> Runs<'s, 'a> {
             names,
             files,
             kept,
+            reads: Reads::none(),
         })
     }
 
@@ -106,28 +119,34 @@ impl<'s, 'a> Runs<'s, 'a> {
         self.kept.is_empty()
     }
 
-    /// Writes a run of this text into a temporary file.
-    pub fn write(&mut self, text: Result<RowText<'_>, BagError>) -> Result<(), Failure<'a>> {
-        let mut text = text.map_err(|_refused| Failure::NoMemoryLeft)?;
-        let file = temporary(self.rt, self.folder)?;
-        match written(file, &mut text) {
-            Ok(file) => self.add(file)?,
-            Err(error) => return Err(Failure::of_file(self.folder, error)),
+    /// Writes a run of this text into a temporary file. Returns what was written.
+    pub fn write(&mut self, text: &mut RowText<'_>) -> Result<Tape, Trouble<'a>>
+        ensures { IfOk result (λ tape. tape ≡ bytes_left text.old) }
+    {
+        let mut file = temporary(self.rt, self.folder)?;
+        let tape = match write_text(self.rt.alloc(), text, &mut file) {
+            Ok(tape) => tape,
+            Err(error) => return Err(Trouble::of_file(self.folder, error)),
+        };
+        if let Err(error) = file.rewind() {
+            return Err(Trouble::of_file(self.folder, error));
         }
-        self.merge_full()
+        self.add(file)?;
+        self.merge_full()?;
+        Ok(tape)
     }
 
     // Adds a run, which is in this file.
-    fn add(&mut self, file: File) -> Result<(), Failure<'a>> {
+    fn add(&mut self, file: File) -> Result<(), Trouble<'a>> {
         if self.files.push(Some(Input::File(file))).is_err() {
-            return Err(Failure::NoMemoryLeft);
+            return Err(Trouble::Memory);
         }
         self.kept.add()?;
         Ok(())
     }
 
     // Merges runs into one of the next level, as long as there are enough of one level.
-    fn merge_full(&mut self) -> Result<(), Failure<'a>> {
+    fn merge_full(&mut self) -> Result<(), Trouble<'a>> {
         for _ in 0..u64::MAX {
             let Some(mut text) = self.kept.take_full()? else {
                 break;
@@ -139,7 +158,7 @@ impl<'s, 'a> Runs<'s, 'a> {
     }
 
     /// Merges the files of counts into runs, if there are more of them than are merged at once.
-    pub fn merge_files(&mut self) -> Result<(), Failure<'a>> {
+    pub fn merge_files(&mut self) -> Result<(), Trouble<'a>> {
         for _ in 0..u64::MAX {
             let Some(mut text) = self.kept.take_files()? else {
                 break;
@@ -152,7 +171,7 @@ impl<'s, 'a> Runs<'s, 'a> {
     }
 
     /// Merges all into one run, and returns what its counts add up to.
-    pub fn merge_all(&mut self, run: RowLayout<'_>) -> Result<usize, Failure<'a>> {
+    pub fn merge_all(&mut self, run: RowLayout<'_>) -> Result<usize, Trouble<'a>> {
         let mut text = self.kept.take_all(run)?;
         let made = self.merge_to_file(&mut text)?;
         self.add(made.file)?;
@@ -160,7 +179,7 @@ impl<'s, 'a> Runs<'s, 'a> {
     }
 
     /// Returns the merge of all.
-    pub fn take_all<'e>(&mut self, layout: RowLayout<'e>) -> Result<MergedText<'e>, Failure<'a>> {
+    pub fn take_all<'e>(&mut self, layout: RowLayout<'e>) -> Result<MergedText<'e>, Trouble<'a>> {
         Ok(self.kept.take_all(layout)?)
     }
 
@@ -169,18 +188,6 @@ impl<'s, 'a> Runs<'s, 'a> {
         match self.names.get(number) {
             Some(name) => said(*name),
             None => self.folder,
-        }
-    }
-
-    // Returns why a merge ended early.
-    fn failure(&self, text: &MergedText<'_>, stop: Stop) -> Failure<'a> {
-        match stop {
-            Stop::Source(i, fault) => match text.numbers().get(i) {
-                Some(number) => Failure::of_input(self.name(*number), text.reading(i).line, fault),
-                None => Failure::NoMemoryLeft,
-            },
-            Stop::TooMany => Failure::TooManyInAll { name: self.folder },
-            Stop::Memory => Failure::NoMemoryLeft,
         }
     }
 
@@ -196,93 +203,76 @@ impl<'s, 'a> Runs<'s, 'a> {
         }
     }
 
-    // Gives a merge the next bytes of the text of that number. The file of counts of that name is opened first.
-    fn give(
-        &mut self,
-        number: usize,
-        block: &mut [u8],
-        text: &mut MergedText<'_>,
-    ) -> Result<(), Failure<'a>> {
-        let name = self.name(number);
-        let Some(file) = self.files.get_mut(number) else {
-            return Err(Failure::NoMemoryLeft);
-        };
-        if file.is_none()
-            && let Some(path) = self.names.get(number)
-        {
-            match Input::open(self.rt, *path) {
-                Ok(input) => *file = Some(input),
-                Err(error) => return Err(Failure::of_file(name, error)),
-            }
-        }
-        let Some(input) = file else {
-            return Err(Failure::NoMemoryLeft);
-        };
-        match feed(input, block, text) {
-            Ok(true) => *file = None,
-            Ok(false) => {}
-            Err(error) => return Err(Failure::of_file(name, error)),
-        }
-        Ok(())
-    }
-
-    // Gives a merge all that it wants to read. Returns what it wants after that.
-    fn next(&mut self, block: &mut [u8], text: &mut MergedText<'_>) -> Result<Wants, Failure<'a>> {
-        for _ in 0..u64::MAX {
-            match text.next() {
-                Ok(Wants::Block(number)) => self.give(number, block, text)?,
-                Ok(wants) => return Ok(wants),
-                Err(stop) => return Err(self.failure(text, stop)),
-            }
-        }
-        Err(Failure::NoMemoryLeft)
-    }
-
-    // Writes the text of a merge, of which `first` is wanted now.
-    fn write_merged<W: Write>(
-        &mut self,
-        block: &mut [u8],
-        text: &mut MergedText<'_>,
-        first: Wants,
-        to: &mut W,
-    ) -> Result<(), Failure<'a>> {
-        let mut wants = first;
-        for _ in 0..u64::MAX {
-            if wants == Wants::End {
-                break;
-            }
-            match to.write_all(text.part()) {
-                Ok(()) => text.take(),
-                Err(error) => return Err(Failure::of_file(self.folder, error)),
-            }
-            wants = self.next(block, text)?;
-        }
-        self.report(text);
-        Ok(())
-    }
-
     /// Writes the text of a merge into a temporary file.
-    pub fn merge_to_file(&mut self, text: &mut MergedText<'_>) -> Result<MergedFile, Failure<'a>> {
+    pub fn merge_to_file(&mut self, text: &mut MergedText<'_>) -> Result<MergedFile, Trouble<'a>> {
         let mut block = vec![in self.rt.alloc(); 0u8; BLOCK]?;
-        let first = self.next(block.as_mut_slice(), text)?;
+        let first = read_on(self, &mut block, text)?;
         let mut file = temporary(self.rt, self.folder)?;
-        self.write_merged(block.as_mut_slice(), text, first, &mut file)?;
+        write_merged(self, &mut block, text, first, &mut file)?;
+        self.report(text);
         match file.rewind() {
             Ok(_) => Ok(MergedFile {
                 file,
                 is_empty: text.is_empty(),
                 total: text.total(),
             }),
-            Err(error) => Err(Failure::of_file(self.folder, error)),
+            Err(error) => Err(Trouble::of_file(self.folder, error)),
         }
     }
 
     /// Writes the text of a merge into memory.
-    pub fn merge_to_memory(&mut self, text: &mut MergedText<'_>) -> Result<Vec<u8>, Failure<'a>> {
+    pub fn merge_to_memory(&mut self, text: &mut MergedText<'_>) -> Result<Vec<u8>, Trouble<'a>> {
         let mut block = vec![in self.rt.alloc(); 0u8; BLOCK]?;
-        let first = self.next(block.as_mut_slice(), text)?;
+        let first = read_on(self, &mut block, text)?;
         let mut shown = Vec::new(self.rt.alloc());
-        self.write_merged(block.as_mut_slice(), text, first, &mut shown)?;
+        write_merged(self, &mut block, text, first, &mut shown)?;
+        self.report(text);
         Ok(shown)
+    }
+}
+
+impl<'a> NumberedTexts<'a> for Runs<'_, 'a> {
+    ghost use Rattle.std.specs.Prelude.{◌≡◌, true};
+    ghost use Rattle.hashbag_words_lib.specs.Reads.{bytes_of, is_read};
+
+    ghost bytes_read = { λ runs number. bytes_of runs.reads number };
+
+    ghost is_read = { λ runs number. is_read runs.reads number ≡ true };
+
+    fn read(&mut self, number: usize, block: &mut Vec<u8>) -> Result<usize, Trouble<'a>> {
+        let name = self.name(number);
+        let Some(file) = self.files.get_mut(number) else {
+            return Err(Trouble::Memory);
+        };
+        if let Err(error) = open_file(self.rt, file, self.names.get(number)) {
+            return Err(Trouble::of_file(name, error));
+        }
+        match read_file(file, block) {
+            Ok(n) => {
+                self.reads.add(number, block, n);
+                Ok(n)
+            }
+            Err(error) => Err(Trouble::of_file(name, error)),
+        }
+    }
+
+    fn trouble(&self, text: &MergedText<'_>, stop: Stop) -> Trouble<'a> {
+        match stop {
+            Stop::Source(i, fault) => match text.numbers().get(i) {
+                Some(number) => of_input(
+                    self.rt.alloc(),
+                    self.name(*number),
+                    text.reading(i).line,
+                    fault,
+                ),
+                None => Trouble::Memory,
+            },
+            Stop::TooMany => too_many_in_all(self.rt.alloc(), self.folder),
+            Stop::Memory => Trouble::Memory,
+        }
+    }
+
+    fn unwritten(&self, error: io::Error) -> Trouble<'a> {
+        Trouble::of_file(self.folder, error)
     }
 }

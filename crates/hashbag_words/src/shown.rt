@@ -1,7 +1,7 @@
 //! What is shown of texts that are merged.
-use crate::failure::Failure;
 use crate::output::{Rendered, bar_columns};
 use crate::runs::Runs;
+use hashbag_shell::trouble::Trouble;
 use hashbag_words_args::settings::Settings;
 use hashbag_words_lib::choice::Order;
 use hashbag_words_lib::merged_text::{RowLayout, run_layout};
@@ -13,7 +13,7 @@ use hashbag_words_lib::writing::Format;
 fn format_of<'a>(
     settings: &Settings<'a, '_>,
     runs: &mut Runs<'_, 'a>,
-) -> Result<Format, Failure<'a>> {
+) -> Result<Format, Trouble<'a>> {
     if !settings.share {
         return Ok(settings.format);
     }
@@ -26,7 +26,7 @@ pub fn show<'a>(
     rt: &HostRuntime,
     settings: &Settings<'a, '_>,
     mut runs: Runs<'_, 'a>,
-) -> Result<Rendered<'static>, Failure<'a>> {
+) -> Result<Rendered<'static>, Trouble<'a>> {
     let layout = RowLayout {
         format: format_of(settings, &mut runs)?,
         choice: settings.choice,
@@ -48,7 +48,7 @@ pub fn show_sorted<'a>(
     form: RowForm,
     folder: &'a str,
     names: &[&'a str],
-) -> Result<Rendered<'static>, Failure<'a>> {
+) -> Result<Rendered<'static>, Trouble<'a>> {
     let kind = SourceKind::File(form, settings.bad_lines);
     let mut runs = Runs::new(rt, folder, names, kind)?;
     runs.merge_files()?;

@@ -19,7 +19,7 @@ GNU parallel:
 Exit status: 0 done; 1 nothing is shown, with --fail-empty; 2 bad arguments or a bad line; 3 an allocation failed; 4 a file can't be
 opened, or a read or a write failed; 5 the counts add up to more than 2^64-1. With 2, 3 and 5 nothing was written.";
 
-/// Returns whether the first argument is a job or an option of the whole program. If not, the job is `count`.
+/// Returns whether the first argument is the name of a job or an option of the whole program. If not, the job is `count`.
 pub fn is_job(word: &str) -> bool {
     matches!(
         word,
@@ -30,20 +30,20 @@ pub fn is_job(word: &str) -> bool {
 // The heading of the options that say what is read.
 const INPUTS: &str = "Inputs";
 
-// A command, or why it can't be made.
+// A command, or the failed allocation of its builder.
 type CommandResult<'a> = Result<Command<'a>, AllocError>;
 
-// Adds an argument, if both were made: a builder call that allocates returns a `Result`.
+// Adds an argument to a command. A builder call that allocates returns a `Result`: the first error is returned.
 fn with<'a>(command: CommandResult<'a>, arg: Result<Arg<'a>, AllocError>) -> CommandResult<'a> {
     command?.arg(arg?)
 }
 
-// Adds a subcommand, if both were made.
+// Adds a subcommand to a command, or returns the first error.
 fn with_job<'a>(command: CommandResult<'a>, job: CommandResult<'a>) -> CommandResult<'a> {
     command?.subcommand(job?)
 }
 
-// Adds how inputs are read: options of every job.
+// Adds how inputs are read. Every job has these options.
 fn with_input<'a>(alloc: Global, command: CommandResult<'a>) -> CommandResult<'a> {
     let skip_bad = arg!(in alloc; --"skip-bad" "Skip bad lines, and say how many there were");
     let command = with(with_heading(command, INPUTS), Ok(skip_bad));
@@ -71,7 +71,7 @@ fn with_choice<'a>(alloc: Global, command: CommandResult<'a>) -> CommandResult<'
     with(command, Ok(except))
 }
 
-// Adds how counts are written, and where.
+// Adds how counts are written, and to which file.
 fn with_form<'a>(alloc: Global, command: CommandResult<'a>) -> CommandResult<'a> {
     let to = arg!(in alloc; --to <FORM> "How they are written")
         .value_parser(["tsv", "json", "uniq"].as_slice())
@@ -90,7 +90,7 @@ fn with_form<'a>(alloc: Global, command: CommandResult<'a>) -> CommandResult<'a>
     with(with(command, bars), Ok(output))
 }
 
-// Adds how counts are shown: options of every job.
+// Adds which counts are shown, and how they are written. Every job has these options.
 fn with_output<'a>(alloc: Global, command: CommandResult<'a>) -> CommandResult<'a> {
     let shard =
         arg!(in alloc; --shard <"I/N"> "Show the tokens of the I-th of N parts alone: each token is in one, by a fixed hash");
@@ -99,14 +99,14 @@ fn with_output<'a>(alloc: Global, command: CommandResult<'a>) -> CommandResult<'
     with(with_form(alloc, command), Ok(fail_empty))
 }
 
-// Returns the form of the counts that are read: an option of every job that reads counts.
+// Returns the option for the form of the counts that are read. Every job that reads counts has it.
 fn form_read<'a>(alloc: Global) -> Arg<'a> {
     arg!(in alloc; --from <FORM> "How they are written")
         .value_parser(["tsv", "json", "uniq"].as_slice())
         .default_value("tsv")
 }
 
-// Adds the options of a job that may count more than the memory holds.
+// Adds the options of a job whose counts may need more than the memory.
 fn with_memory<'a>(alloc: Global, command: CommandResult<'a>) -> CommandResult<'a> {
     let memory =
         arg!(in alloc; --memory <SIZE> "Take about that much memory, as `64M` or `2G`, and temporary files beyond it");
@@ -115,7 +115,7 @@ fn with_memory<'a>(alloc: Global, command: CommandResult<'a>) -> CommandResult<'
     with(with(command, Ok(memory)), Ok(tmp))
 }
 
-// Adds the file that has the names of the inputs: an option of every job that reads any number of files.
+// Adds the file that has the names of the inputs. Every job that reads any number of files has this option.
 fn with_list<'a>(alloc: Global, command: CommandResult<'a>) -> CommandResult<'a> {
     let list =
         arg!(in alloc; --"files-from" <FILE> "Read the names of the inputs there, one a line; `-`: from standard input");
@@ -128,7 +128,7 @@ fn with_list<'a>(alloc: Global, command: CommandResult<'a>) -> CommandResult<'a>
     with(with(command, Ok(null)), Ok(recursive))
 }
 
-// Adds the fields that are counted.
+// Adds the field that is counted, and the delimiter of fields.
 fn with_fields<'a>(alloc: Global, command: CommandResult<'a>) -> CommandResult<'a> {
     let field =
         arg!(in alloc; -f --field <N> "Count the N-th field of each line, from 1: what is between spaces and tabs")
@@ -145,7 +145,7 @@ fn with_fields<'a>(alloc: Global, command: CommandResult<'a>) -> CommandResult<'
     with(command, delimiter)
 }
 
-// Adds the column that is counted. Its inputs are read whole, and a bad record is always an error.
+// Adds the column that is counted. With a column each input is read whole, and a bad record is always an error.
 fn with_column<'a>(alloc: Global, command: CommandResult<'a>) -> CommandResult<'a> {
     let column =
         arg!(in alloc; --column <NAME> "Count the fields of the column of this name of CSV with a header; each input is read whole into memory")

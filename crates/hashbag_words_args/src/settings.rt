@@ -23,7 +23,7 @@ pub enum By<'a> {
     UnicodeWords,
     /// Whole lines.
     Lines,
-    /// The group with this number of the matches of this pattern; 0 is all of the match.
+    /// What the group with this number has in each match of this pattern; 0 is the whole match.
     Pattern(&'a str, usize),
     /// The field with this index, from 0.
     Field(usize, Separator),
@@ -47,15 +47,15 @@ pub struct Tokens<'a> {
 /// Any number of inputs, and the memory that their counts may take.
 #[derive(Clone, Copy)]
 pub struct Many<'a, 'm> {
-    /// Their names; `None` is standard input.
+    /// The names of the inputs; `None` is standard input.
     pub files: Option<&'m [&'a str]>,
-    /// The file that has their names, if there is one.
+    /// The file that has the names of the inputs, if there is one.
     pub files_from: Option<&'a str>,
-    /// Whether each of these names ends in a NUL byte, and not in a line feed.
+    /// Whether each name in `files_from` ends in a NUL byte, and not in a line feed.
     pub null: bool,
-    /// Whether the files in a folder that is named are inputs.
+    /// Whether a name may be a folder, whose files are then inputs.
     pub recursive: bool,
-    /// How many bytes of memory the counts may take, if that is bounded.
+    /// How many bytes of memory the counts may take; `None` is no bound.
     pub memory: Option<usize>,
     /// The folder of temporary files, if it was named.
     pub tmp: Option<&'a str>,
@@ -64,15 +64,15 @@ pub struct Many<'a, 'm> {
 /// Two files of counts.
 #[derive(Clone, Copy)]
 pub struct Pair<'a> {
-    /// The name of the first.
+    /// The name of the first file.
     pub first: &'a str,
-    /// The name of the second.
+    /// The name of the second file.
     pub second: &'a str,
-    /// The form of their lines; `None` is JSON.
+    /// The form of the lines of both files; `None` is JSON.
     pub rows: Option<RowForm>,
 }
 
-/// A job of the program, with what is set for it alone.
+/// A job of the program, with the settings that only this job has.
 #[derive(Clone, Copy)]
 pub enum Ask<'a, 'm> {
     /// Counts text.
@@ -106,7 +106,7 @@ impl<'a, 'm> Ask<'a, 'm> {
         }
     }
 
-    /// Returns whether the files in a folder that is named are inputs.
+    /// Returns whether a name may be a folder, whose files are then inputs.
     pub fn is_recursive(&self) -> bool {
         self.many().is_some_and(|many| many.recursive)
     }
@@ -134,23 +134,23 @@ pub struct Settings<'a, 'm> {
     pub bad_lines: BadLines,
     /// When progress is reported.
     pub reports: Reports,
-    /// Which counts are shown, and in what order. The tokens of `except` aren't in it before that file is read.
+    /// Which counts are shown, and in what order. The caller sets `choice.except` after it has read the file `except`.
     pub choice: Choice<'m>,
     /// The file that has the tokens that aren't shown, if there is one.
     pub except: Option<&'a str>,
-    /// How counts are written, but for shares.
+    /// How counts are written, apart from shares.
     pub format: Format,
     /// Whether the share of each count in the total is written too.
     pub share: bool,
-    /// Whether rows have bars, for people at a terminal. Then their form isn't used.
+    /// Whether rows have bars, for people at a terminal. Then `format` isn't used.
     pub bars: bool,
-    /// The file to which they are written; `None` is standard output.
+    /// The file to which counts are written; `None` is standard output.
     pub output: Option<&'a str>,
     /// Whether the status is 1 if nothing is shown.
     pub fail_empty: bool,
 }
 
-// Returns the ASCII character that a text is, or the tab if the text is `\t`.
+// Returns the one ASCII character of a text, the tab for `\t`, or `None` for any other text.
 fn delimiter_named(text: &str) -> Option<char> {
     if text == "\\t" {
         return Some('\t');
@@ -162,7 +162,7 @@ fn delimiter_named(text: &str) -> Option<char> {
     }
 }
 
-// Returns what separates fields.
+// Returns the separator of fields.
 fn separator_of<'a>(alloc: Global, given: &ArgMatches<'a>) -> Result<Separator, Trouble<'a>> {
     let Some(text) = given.get_str("delimiter") else {
         return Ok(Separator::Blanks);
@@ -176,7 +176,7 @@ fn separator_of<'a>(alloc: Global, given: &ArgMatches<'a>) -> Result<Separator, 
     }
 }
 
-// Returns what separates the fields of CSV.
+// Returns the delimiter of CSV.
 fn csv_delimiter_of<'a>(alloc: Global, given: &ArgMatches<'a>) -> Result<Delimiter, Trouble<'a>> {
     let Some(text) = given.get_str("delimiter") else {
         return Ok(Delimiter::Comma);
@@ -194,7 +194,7 @@ fn csv_delimiter_of<'a>(alloc: Global, given: &ArgMatches<'a>) -> Result<Delimit
     }
 }
 
-// Returns the field with this number, from 1.
+// Returns the field with this number as what is counted. The first field is 1.
 fn field_of<'a>(
     alloc: Global,
     given: &ArgMatches<'a>,
@@ -209,7 +209,7 @@ fn field_of<'a>(
     }
 }
 
-// What is counted.
+// Returns what is counted.
 fn by_of<'a>(alloc: Global, given: &ArgMatches<'a>) -> Result<By<'a>, Trouble<'a>> {
     if let Some(pattern) = given.get_str("pattern") {
         return Ok(By::Pattern(pattern, given.get_one::<usize>("group").unwrap_or(0)));
@@ -235,7 +235,7 @@ fn order_of(given: &ArgMatches<'_>) -> Order {
     }
 }
 
-// Returns the shard of its text.
+// Returns the shard that is written as this text.
 fn shard_of<'a>(alloc: Global, text: &str) -> Result<Shard, Trouble<'a>> {
     match Shard::of_text(text) {
         Some(shard) => Ok(shard),
@@ -283,7 +283,7 @@ fn format_of(given: &ArgMatches<'_>) -> Format {
     }
 }
 
-// Returns whether this option is given, which only lines with columns of `tsv` have.
+// Returns whether this option is given. It adds a column, which only `tsv` has.
 fn column_of<'a>(alloc: Global, given: &ArgMatches<'a>, name: &str) -> Result<bool, Trouble<'a>> {
     match given.get_str("to") {
         Some(form) if form != "tsv" && given.get_flag(name) => {
@@ -333,7 +333,7 @@ fn pair_of<'a>(given: &ArgMatches<'a>) -> Pair<'a> {
     }
 }
 
-// Returns the job of this name.
+// Returns the job of this name with its settings.
 fn ask_of<'a, 'm>(
     alloc: Global,
     name: &str,
@@ -355,12 +355,12 @@ fn ask_of<'a, 'm>(
 }
 
 impl<'a, 'm> Settings<'a, 'm> {
-    /// Returns the settings of the job `name` with these arguments. No file has been opened then.
+    /// Returns the settings of the job `name` with these arguments. Opens no file.
     ///
     /// # Errors
     ///
-    /// `Words` if the word of `--memory`, `--shard`, `--field` or `--delimiter` has no meaning, if JSON is to be merged line by line, or if shares or
-    /// bars are to be written in a form that has no column for them. `Memory` if an allocation fails.
+    /// `Words` if the value of `--memory`, `--shard`, `--field` or `--delimiter` has no meaning, if JSON is to be merged line by line, or
+    /// if shares or bars are asked for in another form than `tsv`. `Memory` if an allocation fails.
     pub fn of(
         alloc: Global,
         name: &str,
@@ -385,7 +385,7 @@ impl<'a, 'm> Settings<'a, 'm> {
         })
     }
 
-    /// Returns how counts are written that add up to this total.
+    /// Returns how counts are written whose total is `total`.
     pub fn format_with(&self, total: usize) -> Format {
         if self.share {
             return Format::Shares(total);

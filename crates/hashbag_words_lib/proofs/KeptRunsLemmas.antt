@@ -7,7 +7,8 @@ use Rattle.std.proofs.lemmas.List.Sums.{sum_by-append, sum_by-cons, sum_by_push}
 use Rattle.std.proofs.Math.Seq.{get_or-append_seam}
 use Rattle.std.specs.Global.{Vec}
 use Rattle.std.specs.Prelude.{IsSomeAnd, MatchOption}
-use Rattle.hashbag_words_lib.specs.KeptRuns.{times_of, AreKept, IsWritten}
+use Rattle.hashbag_words_lib.specs.KeptRuns.{times_of, AreKept, WritesRun}
+use Rattle.hashbag_words_lib.specs.Shown.{CountTexts}
 use Rattle.hashbag_words_lib.specs.Sorted.{times_in, IsMergeOf}
 use Rattle.hashbag_words_lib.specs.declared.merged_text.MergedText.{MergedText}
 
@@ -69,7 +70,7 @@ kept_begins files many rows long each = record {
   taken_below = All-nil (λ n. n < many);
 }
 
-module _ (files runs : List ℕ) (made next : ℕ) (rows later : ℕ → List (List ℕ × ℕ)) (fed : List (List (List ℕ × ℕ))) (run : List (List ℕ × ℕ)) (is : next ≡ made + 1) (written : IsWritten made run rows later) where
+module _ (files runs : List ℕ) (made next : ℕ) (rows later : ℕ → List (List ℕ × ℕ)) (fed : List (List (List ℕ × ℕ))) (run : List (List ℕ × ℕ)) (is : next ≡ made + 1) (written : WritesRun made run rows later) where
   abbrev pub grown : List ℕ
   grown = files ++ (runs ++ made ∷ [])
 
@@ -136,18 +137,15 @@ module _ (made : ℕ) (rows : ℕ → List (List ℕ × ℕ)) (fed : List (List 
     taken_below = All-left (λ n. n < made) taken rest kept.left_below;
   }
 
-  -- what the merge of all counts
-  pub all_counted : (taken left : List ℕ) (merged : List (List ℕ × ℕ)) → left ≡ [] → AreKept taken left made rows fed → IsMergeOf (map rows taken) merged → (v : List ℕ) → times_in v merged ≡ sum_by (times_in v) fed
-  all_counted taken left merged none kept merge v =
-      let empty : times_of rows v left ≡ 0 = ap (times_of rows v) none in
-      let of : sum_by (times_in v) (map rows taken) ≡ times_of rows v taken = times_mapped v rows taken in
-      let sums = merge.sums v in
-      let before = kept.counts v in
-      omega arith
-
-  -- the same, where all that are left are taken
-  pub all_of : (numbers left : List ℕ) (merged : List (List ℕ × ℕ)) → left ≡ numbers → AreKept [] left made rows fed → IsMergeOf (map rows numbers) merged → (v : List ℕ) → times_in v merged ≡ sum_by (times_in v) fed
-  all_of numbers left merged is kept merge v = all_counted numbers [] merged refl (kept_last [] numbers (subst (λ (l : List ℕ). AreKept [] l made rows fed) is kept)) merge v
+  -- if all that are left are taken, these count what was fed
+  pub all_of : (numbers left : List ℕ) (tokens : List (List ℕ)) → left ≡ numbers → AreKept [] left made rows fed → CountTexts fed tokens → CountTexts (map rows numbers) tokens
+  all_of numbers left tokens is kept counted v =
+      let of : sum_by (times_in v) (map rows numbers) ≡ times_of rows v numbers = times_mapped v rows numbers in
+      let same : times_of rows v left ≡ times_of rows v numbers = ap (times_of rows v) is in
+      let all : times_of rows v left + times_of rows v [] ≡ sum_by (times_in v) fed = kept.counts v in
+      let none : times_of rows v [] ≡ 0 = refl in
+      let sums : sum_by (times_in v) (map rows numbers) ≡ sum_by (times_in v) fed = omega arith in
+      sums ∙ counted v
 
   -- what is merged next has those that were taken
   pub taken_numbers : (numbers : Vec ℕ) (left : List ℕ) (full : Option MergedText) → IsSomeAnd full (λ text. text.batch.numbers ≡ numbers) → AreKept numbers.items left made rows fed

@@ -1,5 +1,5 @@
 -- The text of a merge, as far as it was built.
-use Rattle.std.proofs.Common.{◌≡◌, ◌⊎◌, inl, inr, ℕ, ◌≤◌, Bool, true, false, if◌then◌else◌, List, [], ◌∷◌, ◌++◌, String, Global, Option, None, Some, refl, sym, ◌∙◌, ap, subst}
+use Rattle.std.proofs.Common.{◌≡◌, ◌⊎◌, inl, inr, ℕ, ◌≤◌, Bool, true, false, if◌then◌else◌, List, [], ◌∷◌, ◌++◌, sum_by, String, Global, Option, None, Some, refl, sym, ◌∙◌, ap, subst}
 use Rattle.std.specs.Prelude.{slice_index_or}
 use Rattle.std.specs.BinaryHeap.{heap_len}
 use Rattle.std.proofs.lemmas.Bool.{false≢true}
@@ -8,9 +8,9 @@ use Rattle.std.proofs.lemmas.List.Elements.{filter-append}
 use Rattle.hashbag_words_lib.specs.Batches.{FollowsIn, HasTaken, IsWanted}
 use Rattle.hashbag_words_lib.specs.Choice.{shows}
 use Rattle.hashbag_words_lib.specs.Merged.{AreInputs, IsWhole}
-use Rattle.hashbag_words_lib.specs.MergedTexts.{shown_in, whole_text, AreAll, ArePut, BuildsEnd, HasPut, HaveCome, IsMergedText, PutsNext, PutsRow}
+use Rattle.hashbag_words_lib.specs.MergedTexts.{look_of, shown_in, whole_text, AreAll, ArePut, BeginsAs, BuildsEnd, EndsWith, HasGivenAndTaken, HaveCome, KeepsBatchAndLayout, PutsNext, PutsRow}
 use Rattle.hashbag_words_lib.specs.RowParts.{HasBuilt, TakesPart}
-use Rattle.hashbag_words_lib.specs.Sorted.{row_of}
+use Rattle.hashbag_words_lib.specs.Sorted.{numbers, row_of, IsMergeOf}
 use Rattle.hashbag_words_lib.specs.Top.{KeepsTop, PutsTop}
 use Rattle.hashbag_words_lib.specs.declared.batch.Batch.{Batch}
 use Rattle.hashbag_words_lib.specs.declared.choice.Choice.{Choice}
@@ -25,6 +25,7 @@ use Rattle.hashbag_words_lib.specs.declared.shown_rows.TopRows.{TopRows}
 use Rattle.hashbag_words_lib.specs.declared.sorted_merge.Merged.{Merged}
 use Rattle.hashbag_words_lib.specs.declared.sorted_merge.Merged.TheVariants.{Row as MergedRow, Wants as MergedWants}
 use Rattle.hashbag_words_lib.specs.declared.writing.Format.{Format}
+use Rattle.hashbag_words_lib.proofs.WrittenLemmas.{writes_together}
 
 -- the batch is as far, with other texts given
 pub put_as : (given later : List (SourceKind × List ℕ)) (batch new : Batch) (choice : Choice) (top : Option (ShownRows TopRows)) (bars : Option ℕ) (parts : RowParts) (is_over : Bool) (taken : List ℕ) → is_over ≡ false
@@ -32,6 +33,7 @@ pub put_as : (given later : List (SourceKind × List ℕ)) (batch new : Batch) (
 put_as given later batch new choice top bars parts is_over taken going same put = record {
   out = put.out;
   merged = same put.out put.merged;
+  begun = put.begun;
   built = put.built;
   over = λ is. absurd (false≢true (sym going ∙ is));
 }
@@ -109,6 +111,7 @@ pub take_put : (given : List (SourceKind × List ℕ)) (batch : Batch) (choice :
 take_put given batch choice top bars old new is_over taken takes none format put = record {
   out = put.out;
   merged = put.merged;
+  begun = subst (λ (f : Format). BeginsAs (look_of f choice.order bars) f) (sym format) put.begun;
   built = λ is. take_come choice top old new put.out taken takes (put.built is);
   over = λ is. (
     (put.over is).0,
@@ -120,22 +123,32 @@ take_put given batch choice top bars old new is_over taken takes none format put
 }
 
 module _ (given : List (SourceKind × List ℕ)) (old new : MergedText) (batch : Batch) (taken : List ℕ) (going : old.is_over ≡ false) (same : new.batch ≡ batch) where
+  -- the text begins as it did
+  begun_as : new.rows.choice ≡ old.rows.choice → new.rows.sink.format ≡ old.rows.sink.format → new.bars ≡ old.bars → BeginsAs (look_of old.rows.sink.format old.rows.choice.order old.bars) old.rows.sink.format
+      → BeginsAs (look_of new.rows.sink.format new.rows.choice.order new.bars) new.rows.sink.format
+  begun_as choice format bars begun =
+      subst (λ (f : Format). BeginsAs (look_of f new.rows.choice.order new.bars) f) (sym format)
+      (subst (λ (c : Choice). BeginsAs (look_of old.rows.sink.format c.order new.bars) old.rows.sink.format) (sym choice)
+      (subst (λ (b : Option ℕ). BeginsAs (look_of old.rows.sink.format old.rows.choice.order b) old.rows.sink.format) (sym bars) begun))
+
   -- a row is merged and put
   pub put_row : (row : List ℕ × ℕ) → new.is_over ≡ old.is_over → ((out : List (List ℕ × ℕ)) → HasTaken given old.batch out → HasTaken given batch (out ++ row ∷ []))
-      → PutsRow row old new → HasPut given old taken → HasPut given new taken
-  put_row row over next puts put = record {
+      → PutsRow row old new → new.rows.choice ≡ old.rows.choice → new.rows.sink.format ≡ old.rows.sink.format → new.bars ≡ old.bars → HasGivenAndTaken given old taken → HasGivenAndTaken given new taken
+  put_row row over next puts choice format bars put = record {
     out = put.out ++ row ∷ [];
     merged = subst (λ (b : Batch). HasTaken given b (put.out ++ row ∷ [])) (sym same) (next put.out put.merged);
+    begun = begun_as choice format bars put.begun;
     built = λ is. puts put.out taken (put.built going);
     over = λ is. absurd (false≢true (sym going ∙ sym over ∙ is));
   }
 
   -- all is merged, and the end of the text is built
   pub put_end : new.is_over ≡ true → ((out : List (List ℕ × ℕ)) → HasTaken given old.batch out → HasTaken given batch out × IsWhole given batch.merger out)
-      → BuildsEnd old new → new.rows.choice ≡ old.rows.choice → new.rows.sink.format ≡ old.rows.sink.format → new.bars ≡ old.bars → HasPut given old taken → HasPut given new taken
+      → BuildsEnd old new → new.rows.choice ≡ old.rows.choice → new.rows.sink.format ≡ old.rows.sink.format → new.bars ≡ old.bars → HasGivenAndTaken given old taken → HasGivenAndTaken given new taken
   put_end over ends text choice format bars put = record {
     out = put.out;
     merged = subst (λ (b : Batch). HasTaken given b put.out) (sym same) (ends put.out put.merged).0;
+    begun = begun_as choice format bars put.begun;
     built = λ is. absurd (false≢true (sym is ∙ over));
     over = λ is. (
       subst (λ (b : Batch). IsWhole given b.merger put.out) (sym same) (ends put.out put.merged).1,
@@ -149,13 +162,13 @@ module _ (given : List (SourceKind × List ℕ)) (old new : MergedText) (batch :
 -- a row came out of the batch, and was put
 pub put_next : (given : List (SourceKind × List ℕ)) (old new : MergedText) (batch : Batch) (next : Merged) (row : String Global × ℕ) (taken : List ℕ) → old.is_over ≡ false → next ≡ MergedRow row
     → ((given : List (SourceKind × List ℕ)) → (out : List (List ℕ × ℕ)) → HasTaken given old.batch out → FollowsIn given out next batch)
-    → new.batch ≡ batch → PutsRow (row_of row) old new → new.is_over ≡ old.is_over → HasPut given old taken → HasPut given new taken
+    → KeepsBatchAndLayout (record old { batch = batch }) new → PutsRow (row_of row) old new → new.is_over ≡ old.is_over → HasGivenAndTaken given old taken → HasGivenAndTaken given new taken
 put_next given old new batch next row taken going is follows same puts over put =
-    put_row given old new batch taken going same (row_of row) over (λ out has. subst (λ (n : Merged). FollowsIn given out n batch) is (follows given out has)) puts put
+    put_row given old new batch taken going same.0 (row_of row) over (λ out has. subst (λ (n : Merged). FollowsIn given out n batch) is (follows given out has)) puts same.1 same.2 same.3 put
 
 -- a text wants bytes
 pub put_wants : (given : List (SourceKind × List ℕ)) (old : MergedText) (batch : Batch) (next : Merged) (number : ℕ) (taken : List ℕ) → old.is_over ≡ false → next ≡ MergedWants number
-    → ((given : List (SourceKind × List ℕ)) → (out : List (List ℕ × ℕ)) → HasTaken given old.batch out → FollowsIn given out next batch) → HasPut given old taken
+    → ((given : List (SourceKind × List ℕ)) → (out : List (List ℕ × ℕ)) → HasTaken given old.batch out → FollowsIn given out next batch) → HasGivenAndTaken given old taken
     → ArePut given batch old.rows.choice old.top old.bars old.rows.sink old.is_over taken × (old.is_over ≡ false) × IsWanted batch × (number ≡ slice_index_or batch.numbers.items batch.wanted number)
 put_wants given old batch next number taken going is follows put =
     (put_as given given old.batch batch old.rows.choice old.top old.bars old.rows.sink old.is_over taken going (λ out has. (come out has).0) put, going, (come put.out put.merged).1, (come put.out put.merged).2)
@@ -164,16 +177,21 @@ put_wants given old batch next number taken going is follows put =
     come out has = subst (λ (n : Merged). FollowsIn given out n batch) is (follows given out has)
 
 -- all is written
-put_whole : (given : List (SourceKind × List ℕ)) (text : MergedText) (taken : List ℕ) → HasPut given text taken → text.is_over ≡ true → text.rows.sink.part.items ≡ []
-    → (inputs : List (List (List ℕ × ℕ))) → AreInputs given (λ i. []) inputs → IsMergedText text.rows.choice text.rows.sink.format text.bars inputs taken
-put_whole given text taken put over none inputs are = record {
-  rows = put.out;
-  merged = ((put.over over).0 (λ i. []) inputs (λ i lt source ended. refl) are).0;
-  is = sym (append-nil taken) ∙ ap (λ (l : List ℕ). taken ++ l) (sym none) ∙ (put.over over).1;
-}
+put_whole : (given : List (SourceKind × List ℕ)) (text : MergedText) (taken : List ℕ) → HasGivenAndTaken given text taken → text.is_over ≡ true → text.rows.sink.part.items ≡ []
+    → (inputs : List (List (List ℕ × ℕ))) → AreInputs given (λ i. []) inputs → EndsWith inputs taken text
+put_whole given text taken put over none inputs are = (
+  record { rows = put.out; merged = whole.0; is = is },
+  writes_together text.rows.choice text.rows.sink.format text.bars inputs put.out text.batch.merger.total taken whole.0 whole.1 put.begun is,
+)
+  where
+    whole : IsMergeOf inputs put.out × (text.batch.merger.total ≡ sum_by numbers inputs)
+    whole = (put.over over).0 (λ i. []) inputs (λ i lt source ended. refl) are
+
+    is : taken ≡ whole_text text.rows.sink.format text.rows.choice.order text.bars (shown_in text.rows.choice put.out)
+    is = sym (append-nil taken) ∙ ap (λ (l : List ℕ). taken ++ l) (sym none) ∙ (put.over over).1
 
 -- what is wanted after the end of the text was built
 pub put_after : (given : List (SourceKind × List ℕ)) (text : MergedText) (taken : List ℕ) (wants : Wants) → text.is_over ≡ true → (wants ≡ Part) ⊎ (wants ≡ End) → (wants ≡ End → text.rows.sink.part.items ≡ [])
-    → HasPut given text taken → PutsNext given taken wants text
+    → HasGivenAndTaken given text taken → PutsNext given taken wants text
 put_after given text taken wants over (inl is) none put = subst (λ (w : Wants). PutsNext given taken w text) (sym is) put
 put_after given text taken wants over (inr is) none put = subst (λ (w : Wants). PutsNext given taken w text) (sym is) (put, put_whole given text taken put over (none is))

@@ -77,11 +77,11 @@ placed_rises x (w ∷ ws) up = at (lt w x) refl (placed_rises x ws up.1)
     at true is later = (every_shuffled (λ y. lt y w ≡ false) (x ∷ ws) (placed x ws) (placed_is x ws) (rows_weak.one_way w x is, up.0), later)
     at false is later = ((is, every_after x w ws is up.0), up)
 
-ranked_is : (rows : List Row) → IsPermutation rows (ranked rows)
+pub ranked_is : (rows : List Row) → IsPermutation rows (ranked rows)
 ranked_is [] = IsPermutation-refl []
 ranked_is (x ∷ rows) = IsPermutation-trans _ _ _ (IsPermutation-cons x rows (ranked rows) (ranked_is rows)) (placed_is x (ranked rows))
 
-ranked_rises : (rows : List Row) → Rises lt (ranked rows)
+pub ranked_rises : (rows : List Row) → Rises lt (ranked rows)
 ranked_rises [] = tt
 ranked_rises (x ∷ rows) = placed_rises x (ranked rows) (ranked_rises rows)
 

@@ -8,7 +8,7 @@ use Rattle.hashbag_words_lib.specs.declared.bars.Layout.{Layout}
 
 -- ---- names: tokens as they are shown
 
--- the character that is shown for this one: `␉` for a tab, and `�` for any other control character
+-- the character that is shown for c: `␉` for a tab, and `�` for any other control character
 abbrev pub shown_char : ℕ → ℕ
 shown_char c = if c == 9 then 0x2409 else (if is_control c then 0xFFFD else c)
 
@@ -28,18 +28,18 @@ abbrev pub fitting : ℕ → List ℕ → ℕ
 fitting n [] = 0
 fitting n (c ∷ cs) = if nat_le (columns_of c) n then 1 + fitting (n - columns_of c) cs else 0
 
--- a name in n columns: all of it if it fits, else as many characters as leave a column, and `…`
+-- a name in n columns: all of it if it fits, else as many of its characters as leave a column, and then `…`
 abbrev pub cut : ℕ → List ℕ → List ℕ
 cut n name = if fitting n name == length name then name else take (fitting (n - 1) name) name ++ 0x2026 ∷ []
 
--- its text, with spaces up to n columns
+-- the text of a name in n columns, with spaces up to n columns
 abbrev pub name_text : ℕ → List ℕ → List ℕ
 name_text n name = encode_utf8_all (cut n name) ++ replicate (n - columns (cut n name)) 32
 
 -- ---- bars
 
--- how many marks the bar of a count has. That of the greatest count has `room`, and any other one its share of the greatest count, rounded to the
--- nearest number and up from the middle, but at least one: in 40 columns 1 of 3 has 13, 2 of 3 have 27, and 1 of 1000 has 1
+-- how many marks the bar of a count has. The greatest count has `room` marks, and any other count its share of them, rounded to the nearest
+-- number and up from the middle, but at least one: in 40 columns 1 of 3 has 13, 2 of 3 have 27, and 1 of 1000 has 1
 abbrev pub marks_of : ℕ → ℕ → ℕ → ℕ
 marks_of room greatest count = if count == 0 then 0 else min (max (rounded (room * count) greatest) 1) room
 
@@ -72,8 +72,8 @@ widest limit most (row ∷ rows) = widest limit (max most (min limit (columns (n
 abbrev pub used : ℕ → ℕ
 used width = min (max width 40) 1000
 
--- names have as many columns as the widest one, but at most a third of the width; counts as many as the greatest one has digits; and bars the rest, but
--- for two spaces
+-- names have as many columns as the widest name, but at most a third of the width; counts have as many as the greatest count has digits;
+-- bars have the rest, but for two spaces
 abbrev pub layout_of : ℕ → List (List ℕ × ℕ) → Layout
 layout_of width rows =
     let names = widest (used width / 3) 0 rows in
@@ -81,6 +81,6 @@ layout_of width rows =
     let digits = length (decimal greatest) in
     record { names = names; digits = digits; room = used width - names - digits - 2; greatest = greatest }
 
--- the text of rows on a terminal of that width
+-- the text of rows on a terminal of `width` columns
 abbrev pub bars_text : ℕ → List (List ℕ × ℕ) → List ℕ
 bars_text width rows = lines_of (layout_of width rows) rows

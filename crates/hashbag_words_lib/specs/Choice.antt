@@ -16,29 +16,29 @@ use Rattle.hashbag_words_lib.specs.declared.choice.Choice.{Choice}
 use Rattle.hashbag_words_lib.specs.declared.choice.Order.{Order}
 use Rattle.hashbag_words_lib.specs.declared.choice.Order.TheVariants.{Rising, Open, MostCommon}
 
--- these pairs are what is shown of the bag: each text of it once, with its count, by the bytes or in no particular order; or the
--- first k of those, the most common first
+-- these pairs are shown of the bag: each text once, with its count, in ascending order of bytes or in no particular order; or the first k
+-- of these pairs, the most common first
 abbrev pub IsShown : {S : Type 0} → Order → Bag (String Global) S → List (String Global × ℕ) → Type 0
 IsShown Rising bag pairs = IsSetWalkOf string_eq bag pairs × IsStrictlySortedBy string_cmp (keys_of pairs)
 IsShown Open bag pairs = IsSetWalkOf string_eq bag pairs
 IsShown (MostCommon k) bag pairs =
     (W : List (String Global × ℕ)) × IsSetWalkOf string_eq bag W × IsStrictlySortedBy (rank string_cmp) W × (pairs ≡ take k W)
 
--- a text isn't shown, whatever its count: it is in the bag of those that aren't, if there is one
+-- the text isn't shown, whatever its count: the bag of texts that aren't shown, if there is one, has it
 abbrev pub is_excepted : {S : Type 0} → Option (Bor (Bag (String Global) S)) → List ℕ → Bool
 is_excepted None text = false
 is_excepted (Some bag) text = nat_lt 0 (count bytes_eq text (texts_in bag.now))
 
--- a row is shown: its count and its token's length in characters aren't below the least ones, the token is in the shard, if there is one, and it
--- isn't excepted
+-- a row is shown: its count and the number of its token's characters aren't below the least ones, the shard, if there is one, has the
+-- token, and the token isn't excepted
 abbrev pub shows : Choice → List ℕ × ℕ → Bool
 shows choice row =
     nat_le choice.least row.1 && nat_le choice.shortest (length (chars row.0)) && is_shown choice.shard row.0 && not (is_excepted choice.except row.0)
 
--- how often a text is shown that occurs n times: n times, or not at all
+-- how often a text that occurs n times is shown: n times, or not at all
 abbrev pub shown_count : Choice → List ℕ → ℕ → ℕ
 shown_count choice text n = if shows choice (text, n) then n else 0
 
--- a bag has each of these texts that is shown as often as it is in the list, and nothing else
+-- the bag has each shown text of the list as often as the list has it, and no other text
 abbrev pub AreKept : {S : Type 0} → Choice → List (List ℕ) → Bag (String Global) S → Type 0
 AreKept choice texts bag = (text : List ℕ) → count bytes_eq text (texts_in bag) ≡ shown_count choice text (count bytes_eq text texts)

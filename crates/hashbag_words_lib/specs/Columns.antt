@@ -5,16 +5,16 @@ use Rattle.hashbag_csv.specs.Readers.{Record, records_in}
 use Rattle.hashbag_csv.specs.Sheets.{IsOnlyAt}
 use Rattle.hashbag_csv.specs.declared.delimiter.Delimiter.{Delimiter}
 
--- the field at this place of each record, and an empty one if a record has none there
+-- the field at place p of each record; an empty field if a record has no field there
 abbrev pub column_at : ℕ → List Record → List (List ℕ)
 column_at p records = map (λ r. get_or r p []) records
 
--- the fields of the column of this name, in the records after the first one, which is their header
+-- the fields of the column of this name, in the records after the first record, which is the header
 abbrev pub column_under : List ℕ → List Record → List (List ℕ)
 column_under name [] = []
 column_under name (header ∷ records) = column_at (place_of header name) records
 
--- the same of the records of a text
+-- the fields of the column of this name, in the records of a text
 abbrev pub column_in : Delimiter → List ℕ → List ℕ → List (List ℕ)
 column_in delimiter name text = column_under name (records_in delimiter text)
 

@@ -8,11 +8,11 @@ use Rattle.hashbag.specs.Bag.{Bag}
 use Rattle.hashbag.specs.Occurrences.{count}
 use Rattle.hashbag_words_lib.specs.Tokens.{token_of}
 
--- the texts in a bag, each as often as it occurs. What is said of them is said of any bytes, also of those that are no text
+-- the texts in a bag, each as often as it occurs. Definitions speak of any bytes, also those that are no text
 abbrev pub texts_in : {S : Type 0} → Bag (String Global) S → List (List ℕ)
 texts_in bag = map string_bytes bag.items
 
--- each text is in the new bag as often as in the old one and in the list together
+-- each text is in the new bag as often as in the old bag and in the list together
 abbrev pub AddsTexts : {S : Type 0} → Bag (String Global) S → Bag (String Global) S → List (List ℕ) → Type 0
 AddsTexts old new texts = (text : List ℕ) → count bytes_eq text (texts_in new) ≡ count bytes_eq text (texts_in old) + count bytes_eq text texts
 
@@ -20,7 +20,7 @@ AddsTexts old new texts = (text : List ℕ) → count bytes_eq text (texts_in ne
 abbrev pub AddsPieces : {I S : Type 0} → Bool → (I → Option (Bor (List ℕ)) → I → Type 0) → I → Bag (String Global) S → Bag (String Global) S → Type 0
 AddsPieces fold steps pieces old new = (came : List (Bor (List ℕ))) × Drains steps pieces came × AddsTexts old new (map (λ piece. token_of fold piece.now) came)
 
--- one text is in the new bag n times more often than in the old one, and every other as often
+-- the text `added` is in the new bag n times more often than in the old bag, and every other text as often
 abbrev pub AddsTimes : {S : Type 0} → Bag (String Global) S → Bag (String Global) S → List ℕ → ℕ → Type 0
 AddsTimes old new added n =
     (text : List ℕ) → count bytes_eq text (texts_in new) ≡ count bytes_eq text (texts_in old) + (if bytes_eq text added then n else 0)

@@ -51,7 +51,7 @@ none_of true true false = refl
 none_of true false c = refl
 none_of false b c = refl
 
--- a text that is excepted is never shown, and any other one is shown as if none were
+-- an excepted text is never shown, and any other text is shown as if no text were excepted
 pub excepted_is_not_shown : (choice : Choice) (row : List ℕ × ℕ) → is_excepted choice.except row.0 ≡ true → shows choice row ≡ false
 excepted_is_not_shown choice row is =
     let a = nat_le choice.least row.1 in

@@ -1,4 +1,4 @@
--- What a call says of the line that it rejected.
+-- What holds of a line that a call rejected.
 use Rattle.std.specs.Prelude.{◌≡◌, Result, IfErr}
 use Rattle.hashbag_words_lib.specs.declared.errors.BadLine.{BadLine}
 use Rattle.hashbag_words_lib.specs.declared.errors.InputFault.{InputFault}

@@ -1,6 +1,7 @@
 -- The numbered texts that are to be merged, and what their rows count.
 use Rattle.std.specs.Prelude.{◌≡◌, ◌⊎◌, ℕ, ◌+◌, ◌<◌, List, [], ◌∷◌, ◌++◌, All, map, sum_by, Option, MatchOption}
 use Rattle.hashbag_words_lib.specs.Levels.{runs_in}
+use Rattle.hashbag_words_lib.specs.Shown.{CountTexts}
 use Rattle.hashbag_words_lib.specs.Sorted.{times_in, IsMergeOf}
 use Rattle.hashbag_words_lib.specs.declared.kept_runs.KeptRuns.{KeptRuns}
 use Rattle.hashbag_words_lib.specs.declared.merged_text.MergedText.{MergedText}
@@ -14,34 +15,34 @@ abbrev pub times_of : (ℕ → List (List ℕ × ℕ)) → List ℕ → List ℕ
 times_of rows text numbers = sum_by (λ n. times_in text (rows n)) numbers
 
 -- the texts of the numbers `left` and `taken` count each text together as often as all rows that were fed; these numbers are below the next one
-pub record AreKept (taken left : List ℕ) (made : ℕ) (rows : ℕ → List (List ℕ × ℕ)) (fed : List (List (List ℕ × ℕ))) : Type 0 where
+pub record AreKept (taken left : List ℕ) (next : ℕ) (rows : ℕ → List (List ℕ × ℕ)) (fed : List (List (List ℕ × ℕ))) : Type 0 where
   pub counts : (text : List ℕ) → times_of rows text left + times_of rows text taken ≡ sum_by (times_in text) fed
-  pub left_below : All (λ n. n < made) left
-  pub taken_below : All (λ n. n < made) taken
+  pub left_below : All (λ n. n < next) left
+  pub taken_below : All (λ n. n < next) taken
 
 -- those that weren't taken, and those of the numbers `taken`, have all that was fed
 abbrev pub HasKeptWith : List ℕ → KeptRuns → (ℕ → List (List ℕ × ℕ)) → List (List (List ℕ × ℕ)) → Type 0
-HasKeptWith taken kept rows fed = AreKept taken (left_in kept) kept.made rows fed
+HasKeptWith taken kept rows fed = AreKept taken (left_in kept) kept.next_number rows fed
 
 -- the same if none are taken
 abbrev pub HasKept : KeptRuns → (ℕ → List (List ℕ × ℕ)) → List (List (List ℕ × ℕ)) → Type 0
 HasKept kept rows fed = HasKeptWith [] kept rows fed
 
 -- a text of the number n was written, which has the rows of a run; those of lower numbers are the same
-abbrev pub IsWritten : ℕ → List (List ℕ × ℕ) → (ℕ → List (List ℕ × ℕ)) → (ℕ → List (List ℕ × ℕ)) → Type 0
-IsWritten n run old new = (new n ≡ run) × ((k : ℕ) → k < n → new k ≡ old k)
+abbrev pub WritesRun : ℕ → List (List ℕ × ℕ) → (ℕ → List (List ℕ × ℕ)) → (ℕ → List (List ℕ × ℕ)) → Type 0
+WritesRun n run old new = (new n ≡ run) × ((k : ℕ) → k < n → new k ≡ old k)
 
 -- a run was fed: its text is that of the next number
 abbrev pub AddsRun : KeptRuns → KeptRuns → Type 0
 AddsRun old new =
     (rows later : ℕ → List (List ℕ × ℕ)) → (fed : List (List (List ℕ × ℕ))) → (run : List (List ℕ × ℕ)) → HasKept old rows fed
-    → IsWritten old.made run rows later → HasKept new later (fed ++ run ∷ [])
+    → WritesRun old.next_number run rows later → HasKept new later (fed ++ run ∷ [])
 
 -- the merge of the texts that were taken is a run, and nothing more was fed
 abbrev pub AddsMerged : KeptRuns → KeptRuns → Type 0
 AddsMerged old new =
     (rows later : ℕ → List (List ℕ × ℕ)) → (fed : List (List (List ℕ × ℕ))) → (run : List (List ℕ × ℕ)) → (taken : List ℕ) → HasKeptWith taken old rows fed
-    → IsMergeOf (map rows taken) run → IsWritten old.made run rows later → HasKept new later fed
+    → IsMergeOf (map rows taken) run → WritesRun old.next_number run rows later → HasKept new later fed
 
 -- the texts of these numbers were taken, and no others
 abbrev pub TakesThese : List ℕ → KeptRuns → KeptRuns → Type 0
@@ -57,8 +58,8 @@ TakesTexts full old new =
 abbrev pub AreAlike : KeptRuns → Type 0
 AreAlike kept = (kept.files.items ≡ []) ⊎ (runs_in kept.kept ≡ [])
 
--- the merge of the texts of these numbers counts each text as all that was fed does
+-- whatever tokens the rows that were fed count, all of them together, the texts of these numbers count the same
 abbrev pub MergesAll : List ℕ → KeptRuns → Type 0
 MergesAll taken kept =
-    (rows : ℕ → List (List ℕ × ℕ)) → (fed : List (List (List ℕ × ℕ))) → HasKept kept rows fed → (merged : List (List ℕ × ℕ)) → IsMergeOf (map rows taken) merged
-    → (text : List ℕ) → times_in text merged ≡ sum_by (times_in text) fed
+    (rows : ℕ → List (List ℕ × ℕ)) → (fed : List (List (List ℕ × ℕ))) → HasKept kept rows fed → (tokens : List (List ℕ)) → CountTexts fed tokens
+    → CountTexts (map rows taken) tokens

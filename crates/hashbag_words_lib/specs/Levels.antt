@@ -8,11 +8,11 @@ use Rattle.hashbag_words_lib.specs.declared.levels.Levels.{Levels}
 abbrev pub runs_in : {R : Type 0} → Levels R → List R
 runs_in kept = kept.runs.items
 
--- the level of each
+-- the levels of these runs
 abbrev pub levels_in : {R : Type 0} → Levels R → List ℕ
 levels_in kept = kept.levels.items
 
--- sixteen levels at the end are this one, if there is one
+-- the last sixteen levels are this one; never without a level
 abbrev pub end_with : List ℕ → Option ℕ → Bool
 end_with levels None = false
 end_with levels (Some level) = ends_with nat_eq levels (replicate 16 level)

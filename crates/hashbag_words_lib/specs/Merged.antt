@@ -17,7 +17,7 @@ use Rattle.hashbag_words_lib.specs.declared.sources.Source.{Source}
 
 -- ---- one source
 
--- the rows of a source of which the next one is known, or there is none: that one, and those that are left
+-- the rows that a source has left: the next one, which is known, and those behind it; no rows if there is no next one
 abbrev pub with_head : Option (String Global × ℕ) → Option (List (List ℕ × ℕ)) → Option (List (List ℕ × ℕ))
 with_head None left = Some []
 with_head (Some row) left = option_map (λ rest. row_of row ∷ rest) left
@@ -26,24 +26,24 @@ with_head (Some row) left = option_map (λ rest. row_of row ∷ rest) left
 abbrev pub all_with : Source → List ℕ → Option (List (List ℕ × ℕ))
 all_with source more = with_head source.head (left_with source.rows more)
 
--- the source was given this text so far, and has all of its rows left: whatever comes next, they are the rows of the whole
+-- the source was given this text so far, and none of its rows was taken: whatever bytes come next, the rows left are those of the whole
+-- text
 abbrev pub HoldsAll : SourceKind → List ℕ → Source → Type 0
 HoldsAll kind text source =
     (more : List ℕ) → MayCome source.rows more → (rows : List (List ℕ × ℕ)) → rows_of kind (text ++ more) ≡ Some rows → all_with source more ≡ Some rows
 
--- what was opened was given this text so far, and has all of its rows left
+-- what was opened was given this text so far, and none of its rows was taken
 abbrev pub OpensWith : SourceKind → List ℕ → Opened → Type 0
 OpensWith kind text (Ready source) = HoldsAll kind text source
 OpensWith kind text (OpenedWants rows) = Holds kind text rows × (rows.is_ended ≡ false)
 
--- the next of these rows was taken, and the row behind it has a greater token; or none was taken, since that row isn't known yet, or no row
--- is left
+-- `Row`: the next of these rows was taken, and the row behind it has a greater token. `Wants`: no row was taken. `End`: no row is left
 abbrev pub Takes : List (List ℕ × ℕ) → Next → Option (List (List ℕ × ℕ)) → Type 0
 Takes old (Row row) new = (rest : List (List ℕ × ℕ)) × (old ≡ row_of row ∷ rest) × (new ≡ Some rest) × IsAbove (string_bytes row.0) rest
 Takes old Wants new = new ≡ Some old
 Takes old End new = (old ≡ []) × (new ≡ Some [])
 
--- the row that came next was taken, or none was, as `Takes` says, whatever bytes come
+-- the next row was taken, or none was, as `Takes` says, whatever bytes come
 abbrev pub TakesWhateverComes : Source → Next → Source → Type 0
 TakesWhateverComes old next new =
     (more : List ℕ) → MayCome old.rows more → (rows : List (List ℕ × ℕ)) → all_with old more ≡ Some rows → Takes rows next (all_with new more)
@@ -59,13 +59,13 @@ pub record AreLeft (sources : List Source) (mores : ℕ → List ℕ) (left : Li
   pub many : length left ≡ length sources
   pub each : (i : ℕ) → i < length sources → (source : Source) → all_with (slice_index_or sources i source) (mores i) ≡ Some (slice_index_or left i [])
 
--- how many a row counts that was taken, if one was
+-- the count of the row that was taken, or 0 if none was
 abbrev pub count_of : Merged → ℕ
 count_of (MergedRow row) = row.1
 count_of (MergedWants i) = 0
 count_of MergedEnd = 0
 
--- the least row was taken from sources with these rows left, or none was: the row after the least isn't known, or none is left
+-- `MergedRow`: the least row was taken from sources with these rows left. `MergedWants`: no row was taken. `MergedEnd`: no row is left
 abbrev pub TakesRow : (ℕ → List ℕ) → List (List (List ℕ × ℕ)) → Merged → List Source → Type 0
 TakesRow mores old (MergedRow row) new = (rows : List (List (List ℕ × ℕ))) × TakesLeast old (row_of row) rows × AreLeft new mores rows
 TakesRow mores old (MergedWants i) new = AreLeft new mores old
@@ -86,7 +86,7 @@ IsEnded sources i = (source : Source) → (slice_index_or sources i source).rows
 
 -- ---- a merger
 
--- these are the rows of the texts, each with these bytes behind what was given of it
+-- these are the rows of the texts, each continued by the bytes of `mores`
 pub record AreInputs (given : List (SourceKind × List ℕ)) (mores : ℕ → List ℕ) (inputs : List (List (List ℕ × ℕ))) : Type 0 where
   pub many : length inputs ≡ length given
   pub each : (i : ℕ) → i < length given → (text : SourceKind × List ℕ) → let whole = slice_index_or given i text in rows_of whole.0 (whole.1 ++ mores i) ≡ Some (slice_index_or inputs i [])
@@ -100,23 +100,23 @@ pub record AreBegun (given : List (SourceKind × List ℕ)) (sources : List Sour
 abbrev pub IsUnused : Merger → Type 0
 IsUnused merger = (merger.held ≡ None) × (merger.total ≡ 0)
 
--- these texts were given so far, and these rows came out: whatever comes next, the merge of the whole has come as far as `SoFar` says
+-- these texts were given so far, and the rows `out` were returned: whatever bytes come next, the merge is as far as `SoFar` says
 pub record IsSoFar (given : List (SourceKind × List ℕ)) (sources : List Source) (held : Option (String Global × ℕ)) (total : ℕ) (out : List (List ℕ × ℕ)) : Type 0 where
   pub many : length given ≡ length sources
   pub fits : total < 2 ^ 64
   pub so_far : (mores : ℕ → List ℕ) (inputs : List (List (List ℕ × ℕ))) → MayComeTo sources mores → AreInputs given mores inputs
       → ((left : List (List (List ℕ × ℕ))) × AreLeft sources mores left × SoFar inputs left out held total)
 
--- the merger was given these texts so far, and gave these rows
+-- the merger was given these texts so far, and returned the rows `out`
 abbrev pub HasMerged : List (SourceKind × List ℕ) → Merger → List (List ℕ × ℕ) → Type 0
 HasMerged given merger out = IsSoFar given merger.sources.items merger.held merger.total out
 
--- the rows that came out are the merge of the rows of the texts, whatever may come next, and the total is what these count
+-- `out` is the merge of the rows of the texts, whatever bytes come next, and the total is the sum of their counts
 abbrev pub IsWhole : List (SourceKind × List ℕ) → Merger → List (List ℕ × ℕ) → Type 0
 IsWhole given merger out =
     (mores : ℕ → List ℕ) (inputs : List (List (List ℕ × ℕ))) → MayComeTo merger.sources.items mores → AreInputs given mores inputs → IsMergeOf inputs out × (merger.total ≡ sum_by numbers inputs)
 
--- what the merger gave next: one row more, which comes behind; or nothing, since a source is to be given more bytes, or all is merged
+-- what the merger returned next: one more row, behind `out`; or no row, because source i is to be given more bytes, or all rows are merged
 abbrev pub Follows : List (SourceKind × List ℕ) → List (List ℕ × ℕ) → Merged → Merger → Type 0
 Follows given out (MergedRow row) new = HasMerged given new (out ++ row_of row ∷ [])
 Follows given out (MergedWants i) new = HasMerged given new out × IsOpen new.sources.items i
@@ -130,19 +130,19 @@ texts_of runs = map (λ rows. (Run, run_text rows)) runs
 abbrev pub AreReadAgain : List (List (List ℕ × ℕ)) → Type 0
 AreReadAgain runs = All (λ rows. rows_in (run_text rows) ≡ rows) runs
 
--- ---- what a call of a merger changes: it holds of whatever texts were given so far, and whatever rows came out
+-- ---- what a call of a merger changes, for any texts that were given so far, and any rows that were returned
 
--- the text of this place is longer by these bytes
+-- the text of source i is longer by these bytes
 abbrev pub LengthensText : Merger → Merger → ℕ → List ℕ → Type 0
 LengthensText old new i bytes =
     (given : List (SourceKind × List ℕ)) → (out : List (List ℕ × ℕ)) → HasMerged given old out → (text : SourceKind × List ℕ) → text ≡ slice_index_or given i text → HasMerged (slice_set given i (text.0, text.1 ++ bytes)) new out
 
--- what the new merger gave next follows the rows that came out
+-- what the new merger returned next follows the rows that were returned before
 abbrev pub FollowsWhatCameOut : Merger → Merged → Merger → Type 0
 FollowsWhatCameOut old next new =
     (given : List (SourceKind × List ℕ)) → (out : List (List ℕ × ℕ)) → HasMerged given old out → Follows given out next new
 
--- if the texts are those of runs, which are read again as they were written, the rows that came out are the merge of the runs
+-- if the texts are those of runs, which are read again as they were written, the rows that were returned are the merge of the runs
 abbrev pub HasMergedItsRuns : Merger → Type 0
 HasMergedItsRuns merger =
     (runs : List (List (List ℕ × ℕ))) → (out : List (List ℕ × ℕ)) → AreReadAgain runs → HasMerged (texts_of runs) merger out → IsMergeOf runs out

@@ -5,6 +5,7 @@ use Rattle.hashbag_words_lib.specs.Batches.{HasTaken, IsWanted}
 use Rattle.hashbag_words_lib.specs.Choice.{shows}
 use Rattle.hashbag_words_lib.specs.Merged.{AreInputs, IsWhole}
 use Rattle.hashbag_words_lib.specs.RowParts.{HasBuilt}
+use Rattle.hashbag_words_lib.specs.Shown.{WritesTogether}
 use Rattle.hashbag_words_lib.specs.Sorted.{IsMergeOf}
 use Rattle.hashbag_words_lib.specs.Top.{most_common, KeepsTop}
 use Rattle.hashbag_words_lib.specs.Writing.{head_text, text_of}
@@ -13,12 +14,15 @@ use Rattle.hashbag_words_lib.specs.declared.choice.Choice.{Choice}
 use Rattle.hashbag_words_lib.specs.declared.choice.Order.{Order}
 use Rattle.hashbag_words_lib.specs.declared.choice.Order.TheVariants.{Rising, Open, MostCommon}
 use Rattle.hashbag_words_lib.specs.declared.merged_text.MergedText.{MergedText}
+use Rattle.hashbag_words_lib.specs.declared.merged_text.RowLayout.{RowLayout}
 use Rattle.hashbag_words_lib.specs.declared.merged_text.Wants.{Wants}
 use Rattle.hashbag_words_lib.specs.declared.merged_text.Wants.TheVariants.{Block, Part, End}
 use Rattle.hashbag_words_lib.specs.declared.row_parts.RowParts.{RowParts}
 use Rattle.hashbag_words_lib.specs.declared.row_source.SourceKind.{SourceKind}
 use Rattle.hashbag_words_lib.specs.declared.shown_rows.ShownRows.{ShownRows}
 use Rattle.hashbag_words_lib.specs.declared.shown_rows.TopRows.{TopRows}
+use Rattle.hashbag_words_lib.specs.declared.shown_text.Look.{Look}
+use Rattle.hashbag_words_lib.specs.declared.shown_text.Look.TheVariants.{Rows as InRows, Shares as WithShares, Bars as WithBars}
 use Rattle.hashbag_words_lib.specs.declared.writing.Format.{Format}
 
 -- all rows are shown that are chosen, in the order in which they come
@@ -31,7 +35,7 @@ AreAll (MostCommon k) = ⊥
 abbrev pub shown_in : Choice → List (List ℕ × ℕ) → List (List ℕ × ℕ)
 shown_in choice rows = filter (shows choice) rows
 
--- what is written of the most common rows. With bars, only what the format has before all rows is before them
+-- what is written of the most common rows. With bars, only what the format has before all rows comes first: `[` for JSON, else nothing
 abbrev pub top_text : Format → Option ℕ → List (List ℕ × ℕ) → List ℕ
 top_text format None rows = text_of format rows
 top_text format (Some width) rows = head_text format ++ bars_text width rows
@@ -42,37 +46,55 @@ whole_text format Rising bars rows = text_of format rows
 whole_text format Open bars rows = text_of format rows
 whole_text format (MostCommon k) bars rows = top_text format bars (most_common k rows)
 
+-- how the rows of a merge look: in this format; or with bars, if the most common are written and there are columns for bars
+abbrev pub look_of : Format → Order → Option ℕ → Look
+look_of format Rising bars = InRows format
+look_of format Open bars = InRows format
+look_of format (MostCommon k) None = InRows format
+look_of format (MostCommon k) (Some width) = WithBars width
+
+-- before rows with bars the format has no text
+abbrev pub BeginsAs : Look → Format → Type 0
+BeginsAs (InRows rows) format = Unit {0}
+BeginsAs WithShares format = Unit {0}
+BeginsAs (WithBars width) format = head_text format ≡ []
+
+-- the look of this layout
+abbrev pub look_in : RowLayout → Look
+look_in layout = look_of layout.format layout.choice.order layout.bars
+
 -- where the most common rows are kept, if only these are written. None came
 abbrev pub IsTopOf : Choice → Option (ShownRows TopRows) → Type 0
 IsTopOf choice None = AreAll choice.order
 IsTopOf choice (Some top) = (choice.order ≡ MostCommon top.sink.most) × (top.choice ≡ choice) × KeepsTop top.sink []
 
--- these rows came: what was taken, with the part behind it, is the text of those that are shown, without its end; or the most common of those are
--- kept, and the text is only begun
+-- these rows came. If all are written that are shown: what was taken, with the part behind it, is their text without its end. If only the most common
+-- are written: those are kept, and of the text there is only what the format has before all rows
 abbrev pub HaveCome : Choice → Option (ShownRows TopRows) → RowParts → List (List ℕ × ℕ) → List ℕ → Type 0
 HaveCome choice None parts rows taken = AreAll choice.order × HasBuilt parts (shown_in choice rows) taken
 HaveCome choice (Some top) parts rows taken =
     (choice.order ≡ MostCommon top.sink.most) × (top.choice ≡ choice) × KeepsTop top.sink (shown_in choice rows) × HasBuilt parts [] taken
 
--- these texts were given so far, and these bytes were taken: the rows that are merged so far have come; or with the part behind them, they are the
--- text of the whole merge
+-- these texts were given so far, and these bytes were taken. Until the end is built, the rows that are merged so far have come (`built`). After that,
+-- the bytes and the part behind them are the text of the whole merge (`over`)
 pub record ArePut (given : List (SourceKind × List ℕ)) (batch : Batch) (choice : Choice) (top : Option (ShownRows TopRows)) (bars : Option ℕ) (parts : RowParts) (is_over : Bool) (taken : List ℕ) : Type 0 where
   pub out : List (List ℕ × ℕ)
   pub merged : HasTaken given batch out
+  pub begun : BeginsAs (look_of parts.format choice.order bars) parts.format
   pub built : is_over ≡ false → HaveCome choice top parts out taken
   pub over : is_over ≡ true → IsWhole given batch.merger out × (taken ++ parts.part.items ≡ whole_text parts.format choice.order bars (shown_in choice out))
 
 -- the same of a text
-abbrev pub HasPut : List (SourceKind × List ℕ) → MergedText → List ℕ → Type 0
-HasPut given text taken = ArePut given text.batch text.rows.choice text.top text.bars text.rows.sink text.is_over taken
+abbrev pub HasGivenAndTaken : List (SourceKind × List ℕ) → MergedText → List ℕ → Type 0
+HasGivenAndTaken given text taken = ArePut given text.batch text.rows.choice text.top text.bars text.rows.sink text.is_over taken
 
 -- it is the merge of texts of this kind, of which nothing was given
 abbrev pub BeginsOf : SourceKind → MergedText → Type 0
-BeginsOf kind text = HasPut (map (λ n. (kind, [])) text.batch.numbers.items) text []
+BeginsOf kind text = HasGivenAndTaken (map (λ n. (kind, [])) text.batch.numbers.items) text []
 
 -- the batch, the choice, the format and the columns for bars are the same
-abbrev pub IsSameBut : MergedText → MergedText → Type 0
-IsSameBut old new = (new.batch ≡ old.batch) × (new.rows.choice ≡ old.rows.choice) × (new.rows.sink.format ≡ old.rows.sink.format) × (new.bars ≡ old.bars)
+abbrev pub KeepsBatchAndLayout : MergedText → MergedText → Type 0
+KeepsBatchAndLayout old new = (new.batch ≡ old.batch) × (new.rows.choice ≡ old.rows.choice) × (new.rows.sink.format ≡ old.rows.sink.format) × (new.bars ≡ old.bars)
 
 -- the bytes are the text of what is shown of the merge of all rows of these texts
 pub record IsMergedText (choice : Choice) (format : Format) (bars : Option ℕ) (inputs : List (List (List ℕ × ℕ))) (bytes : List ℕ) : Type 0 where
@@ -80,30 +102,41 @@ pub record IsMergedText (choice : Choice) (format : Format) (bars : Option ℕ) 
   pub merged : IsMergeOf inputs rows
   pub is : bytes ≡ whole_text format choice.order bars (shown_in choice rows)
 
+-- these bytes are the text of the merge of all rows of these texts; and whatever texts they count, they are what is written of these
+abbrev pub EndsWith : List (List (List ℕ × ℕ)) → List ℕ → MergedText → Type 0
+EndsWith inputs bytes text =
+    IsMergedText text.rows.choice text.rows.sink.format text.bars inputs bytes
+    × WritesTogether text.rows.choice (look_of text.rows.sink.format text.rows.choice.order text.bars) inputs text.batch.merger.total bytes
+
 -- what is wanted next: bytes of a text; or that the part is taken; or nothing, and what was taken is the text of the merge of all texts as they were
--- given
+-- given: what is written of the texts that they count
 abbrev pub PutsNext : List (SourceKind × List ℕ) → List ℕ → Wants → MergedText → Type 0
-PutsNext given taken (Block number) new = HasPut given new taken × (new.is_over ≡ false) × IsWanted new.batch × (number ≡ slice_index_or new.batch.numbers.items new.batch.wanted number)
-PutsNext given taken Part new = HasPut given new taken
+PutsNext given taken (Block number) new = HasGivenAndTaken given new taken × (new.is_over ≡ false) × IsWanted new.batch × (number ≡ slice_index_or new.batch.numbers.items new.batch.wanted number)
+PutsNext given taken Part new = HasGivenAndTaken given new taken
 PutsNext given taken End new =
-    HasPut given new taken × ((inputs : List (List (List ℕ × ℕ))) → AreInputs given (λ i. []) inputs → IsMergedText new.rows.choice new.rows.sink.format new.bars inputs taken)
+    HasGivenAndTaken given new taken × ((inputs : List (List (List ℕ × ℕ))) → AreInputs given (λ i. []) inputs → EndsWith inputs taken new)
+
+-- whatever was given and taken, this is wanted next
+abbrev pub WantsNext : MergedText → Wants → MergedText → Type 0
+WantsNext old wants new =
+    (given : List (SourceKind × List ℕ)) → (taken : List ℕ) → HasGivenAndTaken given old taken → PutsNext given taken wants new
 
 -- the wanted text was given these bytes more, and no other text was given any
 abbrev pub GivesText : List ℕ → MergedText → MergedText → Type 0
 GivesText block old new =
-    IsWanted old.batch → old.is_over ≡ false → (given : List (SourceKind × List ℕ)) → (taken : List ℕ) → HasPut given old taken
+    IsWanted old.batch → old.is_over ≡ false → (given : List (SourceKind × List ℕ)) → (taken : List ℕ) → HasGivenAndTaken given old taken
     → (text : SourceKind × List ℕ) → text ≡ slice_index_or given old.batch.wanted text
-    → HasPut (slice_set given old.batch.wanted (text.0, text.1 ++ block)) new taken
+    → HasGivenAndTaken (slice_set given old.batch.wanted (text.0, text.1 ++ block)) new taken
 
 -- before the end, what was given and taken is unchanged
-abbrev pub KeepsPut : MergedText → MergedText → Type 0
-KeepsPut old new =
-    IsWanted old.batch → old.is_over ≡ false → (given : List (SourceKind × List ℕ)) → (taken : List ℕ) → HasPut given old taken → HasPut given new taken
+abbrev pub KeepsGivenAndTaken : MergedText → MergedText → Type 0
+KeepsGivenAndTaken old new =
+    IsWanted old.batch → old.is_over ≡ false → (given : List (SourceKind × List ℕ)) → (taken : List ℕ) → HasGivenAndTaken given old taken → HasGivenAndTaken given new taken
 
 -- the part was taken, behind those before it
 abbrev pub TakesPart : MergedText → MergedText → Type 0
 TakesPart old new =
-    (given : List (SourceKind × List ℕ)) → (taken : List ℕ) → HasPut given old taken → HasPut given new (taken ++ old.rows.sink.part.items)
+    (given : List (SourceKind × List ℕ)) → (taken : List ℕ) → HasGivenAndTaken given old taken → HasGivenAndTaken given new (taken ++ old.rows.sink.part.items)
 
 -- one row more came
 abbrev pub PutsRow : List ℕ × ℕ → MergedText → MergedText → Type 0

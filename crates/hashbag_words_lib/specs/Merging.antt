@@ -13,14 +13,14 @@ use Rattle.hashbag_words_lib.specs.Rows.{IsRowOf}
 use Rattle.hashbag_words_lib.specs.declared.rows.RowForm.{RowForm}
 
 module _ {S : Type 0} where
-  -- the token that a line is read as was added as often as its count says
+  -- the line is read as a token and a count, and the token was added as often as the count says
   pub record AddsLine (form : RowForm) (line : List ℕ) (old new : Bag (String Global) S) : Type 0 where
     pub token : List ℕ
     pub count : ℕ
     pub read : IsRowOf form line (token, count)
     pub adds : AddsTimes old new token count
 
-  -- this text is a tree of pairs, and each text is in the new bag more often than in the old one, by what the numbers of its pairs add up to
+  -- the text is a tree of pairs, and the count of each text rises by the sum of the numbers of its pairs
   pub record AddsTree (text : List ℕ) (old new : Bag (String Global) S) : Type 0 where
     pub tree : Data
     pub pairs : List (String Global × ℕ)

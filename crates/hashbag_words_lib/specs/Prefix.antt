@@ -7,7 +7,7 @@ use Rattle.std.specs.Ordering.{ordering_then, nat_cmp}
 use Rattle.std.specs.String.{string_cmp}
 use Rattle.std.specs.declared.cmp.Ordering.{Ordering}
 
--- the number with n more bytes behind it: those of the text, and 0 for each that it lacks
+-- the number continued by the first n bytes of the text, big-endian, with 0 for each byte past the end
 abbrev pub lead : ℕ → ℕ → List ℕ → ℕ
 lead number zero text = number
 lead number (suc n) [] = lead (number * 256) n []
@@ -35,24 +35,25 @@ bare_row p = p.1
 abbrev pub HasWord : ℕ → ℕ × (Bor (String Global) × ℕ) → Type 0
 HasWord from p = IsWordAt from p.0 (string_bytes p.1.0.now)
 
--- the bytes of the token before this place are the number
+-- the bytes of the token before place `from`, as a number, are `number`
 abbrev pub Starts : ℕ → ℕ → ℕ × (Bor (String Global) × ℕ) → Type 0
 Starts from number p = lead 0 from (string_bytes p.1.0.now) ≡ number
 
--- each row has its eight bytes from this place on before it, and these are in ascending order
+-- the number before each row is the eight bytes of its token from place `from` on, and these numbers are in ascending order
 abbrev pub AreRising : ℕ → List (ℕ × (Bor (String Global) × ℕ)) → Type 0
 AreRising from rows = All (HasWord from) rows × IsNonDecreasingBy number_of rows
 
--- the order of the tokens, and of the counts if they are the same
+-- the order of rows: by their tokens, and by their counts if the tokens are the same
 abbrev pub row_cmp : Bor (String Global) × ℕ → Bor (String Global) × ℕ → Ordering
 row_cmp x y = ordering_then (string_cmp x.0.now y.0.now) (nat_cmp x.1 y.1)
 
--- the rows only moved, and are sorted if their tokens agreed before this place
+-- the rows are the same in another order, and are sorted if their tokens agreed before place `from`
 pub record SortsFrom (from : ℕ) (rows sorted_rows : List (ℕ × (Bor (String Global) × ℕ))) : Type 0 where
   pub permutation : IsPermutation (map bare_row rows) (map bare_row sorted_rows)
   pub sorted : (number : ℕ) → All (Starts from number) rows → IsSorted row_cmp (map bare_row sorted_rows)
 
--- the rows only moved, and are sorted if their tokens agreed before this place and they were sorted by their eight bytes from there on
+-- the rows are the same in another order; sorted, if their tokens agreed before place `from` and were in order by the eight bytes from
+-- there on
 pub record SortsRuns (from : ℕ) (rows sorted_rows : List (ℕ × (Bor (String Global) × ℕ))) : Type 0 where
   pub permutation : IsPermutation (map bare_row rows) (map bare_row sorted_rows)
   pub sorted : (number : ℕ) → AreRising from rows → All (Starts from number) rows → IsSorted row_cmp (map bare_row sorted_rows)

@@ -8,24 +8,24 @@ abbrev pub is_none : List (List ℕ × ℕ) → Bool
 is_none [] = true
 is_none (r ∷ rows) = false
 
--- what was taken, and the part behind it, are the text of these rows without its end
+-- `taken`, and behind it the part, are the text of these rows, without the end of the text
 abbrev pub HasBuilt : RowParts → List (List ℕ × ℕ) → List ℕ → Type 0
 HasBuilt parts rows taken = (parts.is_empty ≡ is_none rows) × (taken ++ parts.part.items ≡ head_text parts.format ++ rows_text parts.format true rows)
 
--- ---- what a call changes: it holds of whatever rows came so far, and whatever was taken of their text
+-- ---- what a call changes, for any rows so far, and whatever was taken of their text
 
--- one row more is in the text
+-- the text has one more row
 abbrev pub BuildsRow : RowParts → RowParts → List ℕ × ℕ → Type 0
 BuildsRow old new row = (rows : List (List ℕ × ℕ)) → (taken : List ℕ) → HasBuilt old rows taken → HasBuilt new (rows ++ row ∷ []) taken
 
--- the part was taken, and the text goes on behind it
+-- the rows are the same, and what was taken now also has the old part
 abbrev pub TakesPart : RowParts → RowParts → Type 0
 TakesPart old new = (rows : List (List ℕ × ℕ)) → (taken : List ℕ) → HasBuilt old rows taken → HasBuilt new rows (taken ++ old.part.items)
 
--- with the last part the text is whole
+-- what was taken, and behind it the part, are the whole text of the rows
 abbrev pub EndsRows : RowParts → RowParts → Type 0
 EndsRows old new = (rows : List (List ℕ × ℕ)) → (taken : List ℕ) → HasBuilt old rows taken → taken ++ new.part.items ≡ text_of old.format rows
 
--- all of these rows are in the text, and no others, and it is whole
+-- if there was no row before, what was taken, and behind it the part, are the whole text of these rows
 abbrev pub BuildsAll : RowParts → RowParts → List (List ℕ × ℕ) → Type 0
 BuildsAll old new rows = (taken : List ℕ) → HasBuilt old [] taken → taken ++ new.part.items ≡ text_of old.format rows

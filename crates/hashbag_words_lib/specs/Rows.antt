@@ -10,7 +10,7 @@ use Rattle.hashbag_words_lib.specs.declared.rows.RowForm.TheVariants.{Tsv, Uniq}
 abbrev pub letter_of : ℕ → Option ℕ
 letter_of byte = if byte == 9 then Some 116 else (if byte == 10 then Some 110 else (if byte == 13 then Some 114 else (if byte == 92 then Some 92 else None)))
 
--- the byte that this letter stands for
+-- the byte that this letter stands for behind a backslash
 abbrev pub byte_of : ℕ → Option ℕ
 byte_of letter = if letter == 116 then Some 9 else (if letter == 110 then Some 10 else (if letter == 114 then Some 13 else (if letter == 92 then Some 92 else None)))
 
@@ -31,27 +31,27 @@ row token count = escaped token ++ 9 ∷ decimal count
 abbrev pub AreSpaces : List ℕ → Type 0
 AreSpaces xs = All (λ b. b ≡ 32) xs
 
--- this is the line of a token and its count in this form; as `uniq -c` writes it, with any number of spaces before the count
+-- this line is what is written of a token and its count in this form; `uniq -c` may write any number of spaces before the count
 abbrev pub IsWritten : RowForm → List ℕ → List ℕ → ℕ → Type 0
 IsWritten Tsv line token count = line ≡ row token count
 IsWritten Uniq line token count = (spaces : List ℕ) × AreSpaces spaces × (line ≡ spaces ++ (decimal count ++ 32 ∷ token))
 
--- P holds of a token that is text and a count of 64 bits, if this is their line
+-- if this line is what is written of a token that is UTF-8 and a count of 64 bits, P holds of this token and count
 abbrev pub IfRow : RowForm → List ℕ → (List ℕ → ℕ → Type 0) → Type 0
 IfRow form line P = (token : List ℕ) (count : ℕ) → IsUtf8 token → count < 2 ^ 64 → IsWritten form line token count → P token count
 
--- this line isn't UTF-8, or is that of no token with a count
+-- this line isn't UTF-8, or isn't what is written of any token and count
 abbrev pub IsNoRow : RowForm → List ℕ → Type 0
 IsNoRow form line = IsUtf8 line → IfRow form line (λ _ _. ⊥)
 
--- the bytes of which these are the escaped form, given whether a backslash was just read; none if a backslash is followed by no letter
+-- the bytes whose escaped form this is; none for a bad escape. The flag says whether a backslash was just read
 abbrev pub unescaped : Bool → List ℕ → Option (List ℕ)
 unescaped false [] = Some []
 unescaped true [] = None
 unescaped false (b ∷ bs) = if b == 92 then unescaped true bs else option_map (λ t. b ∷ t) (unescaped false bs)
 unescaped true (b ∷ bs) = option_and_then (λ byte. option_map (λ t. byte ∷ t) (unescaped false bs)) (byte_of b)
 
--- these bytes are read as that number: digits, behind a plus sign or not, of a number of 64 bits
+-- these bytes are read as this number of 64 bits: its digits, with or without a plus sign before them
 pub record IsNumber (digits : List ℕ) (count : ℕ) : Type 0 where
   pub numeral : IsNumeral 10 (without_leading_plus digits)
   pub value : digits_value 10 (without_leading_plus digits) ≡ count
@@ -80,7 +80,7 @@ abbrev pub IsRowOf : RowForm → List ℕ → List ℕ × ℕ → Type 0
 IsRowOf Tsv line r = IsLineOf line r.0 r.1
 IsRowOf Uniq line r = IsUniqLineOf line r.0 r.1
 
--- the token, if `token` is what was read of it and `rest` the escaped bytes that are to come; none if what was read is bad
+-- the whole token, if `token` was read so far and the escaped bytes `rest` follow; none if what was read is bad
 abbrev pub resumed : List ℕ → Option Bool → List ℕ → Option (List ℕ)
 resumed token None rest = None
 resumed token (Some is_marked) rest = option_map (λ more. token ++ more) (unescaped is_marked rest)
@@ -89,6 +89,6 @@ resumed token (Some is_marked) rest = option_map (λ more. token ++ more) (unesc
 abbrev pub IsRead : {E : Type 0} → List ℕ → ℕ → Result (String Global × ℕ) E → Type 0
 IsRead token count read = IsOkAnd read (λ p. (string_bytes p.0 ≡ token) × (p.1 ≡ count))
 
--- with this byte, the token that was read so far and whether a backslash was just read change as escaped bytes do, whatever bytes are to come
+-- with this byte, the token so far and the flag change so that the whole token is the same, whatever escaped bytes follow
 abbrev pub ReadsByte : ℕ → List ℕ → Bool → List ℕ → Option Bool → Type 0
 ReadsByte byte old is_marked new marked = (rest : List ℕ) → resumed old (Some is_marked) (byte ∷ rest) ≡ resumed new marked rest

@@ -16,7 +16,7 @@ use Rattle.hashbag_words_lib.specs.declared.lines.BadLines.TheVariants.{Refused,
 use Rattle.hashbag_words_lib.specs.declared.rows.RowForm.{RowForm}
 use Rattle.hashbag_words_lib.specs.declared.rows.RowForm.TheVariants.{Tsv, Uniq}
 
--- what a line is read as: the token before its first tab, unescaped, and the number behind it; none if that has a bad escape
+-- the row that a line is read as: the token before the first tab, unescaped, and the number behind it; none if the token has a bad escape
 abbrev pub read_as : List ℕ → Option (List ℕ × ℕ)
 read_as line =
     option_map (λ token. (token, digits_value 10 (without_leading_plus (after_first (λ b. b == 9) line)))) (unescaped false (before_first (λ b. b == 9) line))
@@ -25,7 +25,7 @@ read_as line =
 abbrev pub rows_in : List ℕ → List (List ℕ × ℕ)
 rows_in bytes = filter_map read_as (lines bytes)
 
--- lines of which the first one has no byte order mark at its beginning
+-- these lines, the first one without a byte order mark at its beginning
 abbrev pub unmarked : List (List ℕ) → List (List ℕ)
 unmarked [] = []
 unmarked (line ∷ lines) = without_mark line ∷ lines
@@ -34,19 +34,19 @@ unmarked (line ∷ lines) = without_mark line ∷ lines
 abbrev pub rows_of_file : List ℕ → List (List ℕ × ℕ)
 rows_of_file bytes = filter_map read_as (unmarked (lines bytes))
 
--- the rows of the bytes that are left, if the lines are of `tsv`, and a bad line isn't skipped; whether the first line may begin with a byte
--- order mark
+-- the rows of the bytes that are left; `None` if the form isn't `tsv`, or bad lines are skipped. The flag says whether the first line may
+-- begin with a byte order mark
 abbrev pub rows_left : RowForm → BadLines → Bool → List ℕ → Option (List (List ℕ × ℕ))
 rows_left Tsv Refused false bytes = Some (rows_in bytes)
 rows_left Tsv Refused true bytes = Some (rows_of_file bytes)
 rows_left Tsv Skipped marked bytes = None
 rows_left Uniq bad_lines marked bytes = None
 
--- the lines of rows
+-- the text of rows: their lines, each with a line feed
 abbrev pub run_text : List (List ℕ × ℕ) → List ℕ
 run_text rows = flat_map (λ r. row r.0 r.1 ++ 10 ∷ []) rows
 
--- these rows are a run of a bag: they are in ascending order, count each text as often as the bag has it, and are read again as they were written
+-- these rows are a run of the bag: in ascending order, each text with the bag's count, and read again as they were written
 pub record IsRunOf {S : Type 0} (bag : Bag (String Global) S) (rows : List (List ℕ × ℕ)) : Type 0 where
   pub rises : Rises rows
   pub counts : (text : List ℕ) → times_in text rows ≡ count bytes_eq text (texts_in bag)

@@ -1,5 +1,5 @@
 -- What is shown of texts that were counted, and the bytes that are written of it.
-use Rattle.std.specs.Prelude.{◌≡◌, ℕ, List, [], length, take, String}
+use Rattle.std.specs.Prelude.{◌≡◌, ℕ, List, [], length, sum_by, take, String}
 use Rattle.std.specs.Global.{Global}
 use Rattle.std.specs.List.{IsDistinct}
 use Rattle.std.specs.List.Sorted.{IsStrictlySortedBy}
@@ -66,6 +66,15 @@ IsWritten choice (WithBars width) texts bytes = IsShownBars choice width texts b
 -- whatever texts the bag was made of, the bytes are what is written of them
 abbrev pub ShowsCounted : {S : Type 0} → Choice → Look → Bag (String Global) S → List ℕ → Type 0
 ShowsCounted choice look bag bytes = (texts : List (List ℕ)) → HaveTogether [] bag texts → IsWritten choice look texts bytes
+
+-- these texts are what the inputs count, together
+abbrev pub CountTexts : List (List (List ℕ × ℕ)) → List (List ℕ) → Type 0
+CountTexts inputs texts = (text : List ℕ) → sum_by (times_in text) inputs ≡ count bytes_eq text texts
+
+-- whatever texts the inputs count, wherever these were cut: the bytes are what is written of the texts, and the total is how many texts there are
+abbrev pub WritesTogether : Choice → Look → List (List (List ℕ × ℕ)) → ℕ → List ℕ → Type 0
+WritesTogether choice look inputs total bytes =
+    (texts : List (List ℕ)) → CountTexts inputs texts → IsWritten choice look texts bytes × (total ≡ length texts)
 
 -- all bytes of a text
 abbrev pub bytes_of : Shown → List ℕ

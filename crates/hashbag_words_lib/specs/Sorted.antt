@@ -30,16 +30,16 @@ times_in text rows = sum_by (of_row text) rows
 abbrev pub numbers : List (List ℕ × ℕ) → ℕ
 numbers rows = sum_by (λ row. row.1) rows
 
--- each token is above the one before it
+-- each token is greater than the token before
 abbrev pub Rises : List (List ℕ × ℕ) → Type 0
 Rises rows = IsStrictlySortedBy text_cmp (keys_of rows)
 
--- these rows come before the text
+-- each token of these rows is less than the text
 abbrev pub AllBelow : List ℕ → List (List ℕ × ℕ) → Type 0
 AllBelow text rows = AllByRecursion (λ key. text_cmp key text ≡ Less) (keys_of rows)
 
--- these rows are the merge of those of some sources, whose tokens are in ascending order: its tokens are in ascending order too, and it has of each
--- text what all sources count of it together, unless that is 0
+-- `merged` is the merge of sources: all have tokens in ascending order, `merged` too; it has each text with the sum of its counts, unless
+-- that is 0
 pub record IsMergeOf (sources : List (List (List ℕ × ℕ))) (merged : List (List ℕ × ℕ)) : Type 0 where
   pub risen : All Rises sources
   pub rises : Rises merged
@@ -57,13 +57,13 @@ abbrev pub IsNotBelow : List ℕ → List (List ℕ × ℕ) → Type 0
 IsNotBelow text [] = Unit {0}
 IsNotBelow text (row ∷ rows) = text_cmp text row.0 ≢ Greater
 
--- the first of two next rows doesn't come after the second; one that isn't there comes last
+-- the first of two next rows doesn't come after the second; a source without a next row comes last
 abbrev pub IsNoLater : Option (String Global × ℕ) → Option (String Global × ℕ) → Type 0
 IsNoLater x None = Unit {0}
 IsNoLater None (Some y) = ⊥
 IsNoLater (Some x) (Some y) = text_cmp (string_bytes x.0) (string_bytes y.0) ≢ Greater
 
--- a row was taken from one of these sources: no next row of another is less, and the next one of the same source is greater
+-- `row` was taken from the source of index `at`: no next row of any source was less, and the next row of this source is greater
 pub record TakesLeast (old : List (List (List ℕ × ℕ))) (row : List ℕ × ℕ) (new : List (List (List ℕ × ℕ))) : Type 0 where
   pub at : ℕ
   pub rest : List (List ℕ × ℕ)
@@ -73,14 +73,14 @@ pub record TakesLeast (old : List (List (List ℕ × ℕ))) (row : List ℕ × �
   pub least : All (IsNotBelow row.0) old
   pub above : IsAbove row.0 rest
 
--- a row came behind one that is held, if there is one: with the same text it is added to that one, else that one is done and this one is held
+-- `row` is taken while `Some old` is held: if their texts are equal the counts are added, else `old` is done and `row` is held
 abbrev pub Joins : Option (String Global × ℕ) → String Global × ℕ → Option (String Global × ℕ) → Option (String Global × ℕ) → Type 0
 Joins None row done held = (done ≡ None) × (held ≡ Some row)
 Joins (Some old) row done held =
     ((string_eq old.0 row.0 ≡ true) × (done ≡ None) × (held ≡ Some (old.0, old.1 + row.1)))
     ⊎ ((string_eq old.0 row.0 ≡ false) × (done ≡ Some old) × (held ≡ Some row))
 
--- how many a row counts, if there is one
+-- the count of the row, or 0 if there is none
 abbrev pub count_held : Option (String Global × ℕ) → ℕ
 count_held None = 0
 count_held (Some row) = row.1
@@ -90,7 +90,7 @@ abbrev pub one_of : Option (String Global × ℕ) → List (List ℕ × ℕ)
 one_of None = []
 one_of (Some row) = row_of row ∷ []
 
--- what is put of a row that is done: nothing, if it counts nothing
+-- the rows that a done row gives: none if its count is 0
 abbrev pub shown_of : Option (String Global × ℕ) → List (List ℕ × ℕ)
 shown_of None = []
 shown_of (Some row) = if row.1 == 0 then [] else row_of row ∷ []
@@ -100,18 +100,18 @@ abbrev pub held_of : List ℕ → Option (String Global × ℕ) → ℕ
 held_of text None = 0
 held_of text (Some row) = of_row text (row_of row)
 
--- the rows that came out are all before the one that is held; if none is held, there are none yet, or no row is left
+-- all rows of `out` come before the held one; if none is held, `out` is empty, or no row is left
 abbrev pub HoldsAbove : List (List (List ℕ × ℕ)) → List (List ℕ × ℕ) → Option (String Global × ℕ) → Type 0
 HoldsAbove left out None = (out ≡ []) ⊎ All (λ rows. rows ≡ []) left
 HoldsAbove left out (Some row) = AllBelow (string_bytes row.0) out
 
--- no next row comes before the one that is held
+-- no next row comes before the held one
 abbrev pub HoldsFirst : List (List (List ℕ × ℕ)) → Option (String Global × ℕ) → Type 0
 HoldsFirst left None = Unit {0}
 HoldsFirst left (Some row) = All (IsNotBelow (string_bytes row.0)) left
 
--- how far a merge of these inputs has come: the rows `out` came out, one is held or none, these are left, and the counts of the rows that were
--- taken add up to the total
+-- how far the merge of `inputs` is: `out` was returned, `held` is held, `left` is left, and the counts of the rows that were taken add up
+-- to `total`. `risen`: if what is left is in ascending order, so was all input
 pub record SoFar (inputs left : List (List (List ℕ × ℕ))) (out : List (List ℕ × ℕ)) (held : Option (String Global × ℕ)) (total : ℕ) : Type 0 where
   pub risen : All Rises left → All Rises inputs
   pub rises : Rises out

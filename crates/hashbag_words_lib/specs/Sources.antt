@@ -18,7 +18,7 @@ rows_of (File form bad_lines) text = rows_left form bad_lines true text
 abbrev pub left_with : RowSource → List ℕ → Option (List (List ℕ × ℕ))
 left_with source more = rows_left source.form source.reading.bad_lines source.may_be_marked (source.unread ++ more)
 
--- these bytes may come next: none, after the end
+-- these bytes may come next: after the end, no bytes
 abbrev pub MayCome : RowSource → List ℕ → Type 0
 MayCome source more = source.is_ended ≡ true → more ≡ []
 
@@ -26,7 +26,8 @@ MayCome source more = source.is_ended ≡ true → more ≡ []
 abbrev pub IsAtEnd : RowSource → Type 0
 IsAtEnd source = (source.unread ≡ []) × (source.is_ended ≡ true)
 
--- the source was given this text so far, and has all of its rows left: whatever comes next, they are the rows of the whole
+-- the source was given this text so far, and none of its rows was taken: whatever bytes come next, the rows left are those of the whole
+-- text
 abbrev pub Holds : SourceKind → List ℕ → RowSource → Type 0
 Holds kind text source =
     (more : List ℕ) → MayCome source more → (rows : List (List ℕ × ℕ)) → rows_of kind (text ++ more) ≡ Some rows → left_with source more ≡ Some rows
@@ -37,15 +38,14 @@ row_in (Row row) = Some row
 row_in Wants = None
 row_in End = None
 
--- of the rows that were left, if they are known, the next one was taken; or none was, since it isn't known, or there is none
+-- if the rows that were left are known: the next one was taken; or none was, because it isn't known yet, or no row is left
 abbrev pub Gives : Option (List (List ℕ × ℕ)) → Next → Option (List (List ℕ × ℕ)) → Type 0
 Gives None next new = Unit {0}
 Gives (Some rows) (Row row) new = (rest : List (List ℕ × ℕ)) × (rows ≡ row_of row ∷ rest) × (new ≡ Some rest)
 Gives (Some rows) Wants new = new ≡ Some rows
 Gives (Some rows) End new = (rows ≡ []) × (new ≡ Some [])
 
--- one line gave what comes next, as `Gives` says; or the line was passed over, which is only possible if the rows left aren't known
--- (`None`)
+-- one line gave what comes next, as `Gives` says; or it was skipped, which is only possible if the rows left aren't known (`None`)
 abbrev pub Meets : Option (List (List ℕ × ℕ)) → Option Next → Option (List (List ℕ × ℕ)) → Type 0
 Meets old None new = IsSome old → ⊥
 Meets old (Some next) new = Gives old next new
@@ -54,7 +54,7 @@ Meets old (Some next) new = Gives old next new
 abbrev pub IsRowReadFrom : List ℕ → Option (String Global × ℕ) → Type 0
 IsRowReadFrom line row = IsSomeAnd row (λ r. read_as line ≡ Some (row_of r))
 
--- whatever text the old source was given, the new one was given that and these bytes behind it
+-- whatever text the old source was given, the new source was given that text and then these bytes
 abbrev pub HoldsMore : RowSource → RowSource → List ℕ → Type 0
 HoldsMore old new bytes = (kind : SourceKind) → (text : List ℕ) → Holds kind text old → Holds kind (text ++ bytes) new
 

@@ -21,11 +21,11 @@ use Rattle.hashbag_words_lib.specs.declared.rule.Rule.{Rule}
 abbrev pub without_mark : List ℕ → List ℕ
 without_mark line = if starts_with nat_eq line (0xEF ∷ 0xBB ∷ 0xBF ∷ []) then drop 3 line else line
 
--- what of a list isn't empty
+-- the texts of a list that aren't empty
 abbrev pub nonempty : List (List ℕ) → List (List ℕ)
 nonempty texts = filter (λ text. nat_lt 0 (length text)) texts
 
--- what is between white space
+-- the words of a line between white space
 abbrev pub spaced_words : List ℕ → List (List ℕ)
 spaced_words line = map encode_utf8_all (nonempty (slice_split is_whitespace (chars line)))
 
@@ -33,13 +33,13 @@ spaced_words line = map encode_utf8_all (nonempty (slice_split is_whitespace (ch
 abbrev pub matches_in : Re → List ℕ → List (List ℕ)
 matches_in pattern line = map (λ place. slice_range line place.0 place.1) (map span (find_all_str pattern line))
 
--- what is between two places of a line, if there are two, and if it is text
+-- the part of a line between two places, if they are given and the part is UTF-8
 abbrev pub part_of : List ℕ → Option (ℕ × ℕ) → List (List ℕ)
 part_of line None = []
 part_of line (Some place) = filter is_utf8 (slice_range line place.0 place.1 ∷ [])
 
--- what group n has in each match of a pattern in a line, from left to right, if it took part: with `(a)|b`, group 1 has `a` once in `bab`. A group that
--- the pattern doesn't have has nothing
+-- what group n has in each match of a pattern in a line, from left to right: with `(a)|b`, group 1 has `a` once in `bab`. A group that took
+-- no part, or that the pattern doesn't have, has nothing
 abbrev pub groups_in : Regex → ℕ → List ℕ → List (List ℕ)
 groups_in pattern n line = if nat_lt n (group_count pattern) then flat_map (λ m. part_of line (group_of m n)) (find_all_str (regex_pattern pattern) line) else []
 
@@ -60,7 +60,7 @@ token_of fold piece = if fold then encode_utf8_all (default_case_fold (chars pie
 abbrev pub tokens_of_line : Rule → List ℕ → List (List ℕ)
 tokens_of_line rule line = map (token_of rule.fold) (pieces_of rule.pieces (without_mark line))
 
--- the text that a line is counted as: the line itself, if it is UTF-8; if not, what it is with its bytes replaced, or none
+-- the texts that a line is counted as: the line itself if it is UTF-8; if not, the line with its bytes replaced, or none
 abbrev pub texts_of : Bool → List ℕ → List (List ℕ)
 texts_of lossy line = if is_utf8 line then line ∷ [] else (if lossy then utf8_lossy line ∷ [] else [])
 
@@ -72,7 +72,7 @@ is_bad rule line = if rule.lossy then false else not (is_utf8 line)
 abbrev pub is_replaced : Rule → List ℕ → Bool
 is_replaced rule line = if rule.lossy then not (is_utf8 line) else false
 
--- the tokens of these lines, as far as they are counted
+-- the tokens of these lines; lines that aren't counted have none
 abbrev pub tokens_of_lines : Rule → List (List ℕ) → List (List ℕ)
 tokens_of_lines rule lines = flat_map (tokens_of_line rule) (flat_map (texts_of rule.lossy) lines)
 

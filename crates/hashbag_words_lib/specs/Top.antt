@@ -8,7 +8,7 @@ use Rattle.hashbag_ops.specs.Order.{comes_first, rank, IsFirstOf}
 use Rattle.hashbag_words_lib.specs.Sorted.{text_cmp}
 use Rattle.hashbag_words_lib.specs.declared.shown_rows.TopRows.{TopRows}
 
--- a row in its place among rows of which the most common come first, and of two that are equally common the one with the lesser token
+-- `row` inserted into rows in their order: the most common first, and of two with equal counts the one with the lesser token
 abbrev pub placed : List ℕ × ℕ → List (List ℕ × ℕ) → List (List ℕ × ℕ)
 placed row [] = row ∷ []
 placed row (r ∷ rows) = if comes_first text_cmp r row then r ∷ placed row rows else row ∷ r ∷ rows
@@ -30,11 +30,11 @@ kept_row item = (string_bytes item.1, item.0.0)
 abbrev pub kept_cmp : Reverse ℕ × String Global → Reverse ℕ × String Global → Ordering
 kept_cmp x y = rank text_cmp (kept_row x) (kept_row y)
 
--- of these rows the first ones are kept
+-- `top` keeps the first of these rows, `top.most` of them
 pub record KeepsTop (top : TopRows) (rows : List (List ℕ × ℕ)) : Type 0 where
   pub heap : IsHeap kept_cmp (heap_items top.kept)
   pub first : IsFirstOf (comes_first text_cmp) top.most rows (map kept_row (heap_items top.kept))
 
--- of the rows that came so far, and of this one, the first ones are kept
+-- if `old` keeps the first of some rows, `new` keeps the first of these rows and of `row`
 abbrev pub PutsTop : TopRows → List ℕ × ℕ → TopRows → Type 0
 PutsTop old row new = (rows : List (List ℕ × ℕ)) → KeepsTop old rows → KeepsTop new (rows ++ row ∷ [])

@@ -8,7 +8,7 @@ use Rattle.hashbag_words_lib.specs.Shares.{hundredths_of, two_decimals}
 use Rattle.hashbag_words_lib.specs.declared.writing.Format.{Format}
 use Rattle.hashbag_words_lib.specs.declared.writing.Format.TheVariants.{Tsv, Shares, Json, Uniq}
 
--- the row, a tab, the percent of the total that the count is, and a line feed
+-- the row, a tab, the count as percent of the total, and a line feed
 abbrev pub shares_text : ℕ → List ℕ × ℕ → List ℕ
 shares_text total r = row r.0 r.1 ++ 9 ∷ (two_decimals (hundredths_of total r.1) ++ 10 ∷ [])
 
@@ -31,7 +31,7 @@ row_text (Shares total) r = shares_text total r
 row_text Json r = pair_text r
 row_text Uniq r = uniq_text r
 
--- what comes before a row: a comma in JSON, unless it is the first
+-- what comes before a row: in JSON a comma, unless the row is the first
 abbrev pub comma : Format → Bool → List ℕ
 comma Tsv first = []
 comma (Shares total) first = []
@@ -53,11 +53,11 @@ end_text (Shares total) = []
 end_text Json = 93 ∷ 10 ∷ []
 end_text Uniq = []
 
--- the text of rows, of which the first one is the first of all or not
+-- the text of rows; `first` says whether they begin with the first row of all
 abbrev pub rows_text : Format → Bool → List (List ℕ × ℕ) → List ℕ
 rows_text format first [] = []
 rows_text format first (r ∷ rows) = (comma format first ++ row_text format r) ++ rows_text format false rows
 
--- the text of all rows
+-- the whole text of rows
 abbrev pub text_of : Format → List (List ℕ × ℕ) → List ℕ
 text_of format rows = head_text format ++ (rows_text format true rows ++ end_text format)

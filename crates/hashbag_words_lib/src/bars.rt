@@ -14,15 +14,15 @@ use unicode_width::UnicodeWidthChar;
 pub(crate) struct Layout {
     // How many columns the names have.
     names: usize,
-    // How many the counts have.
+    // How many columns the counts have.
     digits: usize,
-    // How many the longest bar has.
+    // How many columns the longest bar has.
     room: u16,
     // The count of the longest bar.
     greatest: usize,
 }
 
-// Returns the character that is shown for this one.
+// Returns the character that is shown for `c`.
 fn shown_char(c: char) -> char
     ensures { result ≡ shown_char c }
 {
@@ -64,7 +64,7 @@ fn columns_within(limit: usize, name: &[char]) -> usize
     n
 }
 
-// Returns how many characters from the beginning of a name fit into that many columns.
+// Returns how many characters from the beginning of a name fit into `room` columns.
 fn fitting(room: usize, name: &[char]) -> usize
     ensures { result ≡ fitting room name.now }
 {
@@ -79,7 +79,7 @@ fn fitting(room: usize, name: &[char]) -> usize
     name.len()
 }
 
-// Returns a name in that many columns. If it has more, `…` comes after its beginning.
+// Returns a name that fits into `room` columns. A wider name is cut, and `…` follows its beginning.
 fn cut(room: usize, name: Vec<char>) -> Result<Vec<char>, AllocError>
     ensures { IfOk result (λ shown. shown.items ≡ cut room name.items) }
 {
@@ -93,7 +93,7 @@ fn cut(room: usize, name: Vec<char>) -> Result<Vec<char>, AllocError>
     Ok(name)
 }
 
-// Returns the text of characters.
+// Returns the characters as a string.
 fn text_of(alloc: Global, name: &[char]) -> Result<String, AllocError>
     ensures { IfOk result (λ text. string_bytes text ≡ encode_utf8_all name.now) }
 {
@@ -114,7 +114,7 @@ fn push_times(text: &mut Vec<u8>, byte: u8, n: usize) -> Result<(), AllocError>
     Ok(())
 }
 
-// Appends a token in that many columns.
+// Appends a token in `room` columns: cut to them, or with spaces behind it.
 fn push_name(alloc: Global, text: &mut Vec<u8>, room: usize, token: &str) -> Result<(), AllocError>
     ensures { OnOk result (text.new.items ≡ text.old.items ++ name_text room (name_of token.now)) }
 {
@@ -124,7 +124,7 @@ fn push_name(alloc: Global, text: &mut Vec<u8>, room: usize, token: &str) -> Res
     push_times(text, b' ', room.saturating_sub(columns_within(room, &name)))
 }
 
-// Appends a count at the right of that many columns.
+// Appends a count at the right of `digits` columns.
 fn push_count(text: &mut Vec<u8>, digits: usize, count: usize) -> Result<(), AllocError>
     ensures { OnOk result (text.new.items ≡ text.old.items ++ right_in digits count) }
 {
@@ -187,7 +187,7 @@ fn widest(alloc: Global, limit: usize, rows: &[(&String, usize)]) -> Result<usiz
     Ok(most)
 }
 
-// Returns the columns of these rows on a terminal of that width.
+// Returns the layout of these rows on a terminal of `width` columns.
 fn layout_of(alloc: Global, width: usize, rows: &[(&String, usize)]) -> Result<Layout, AllocError>
     ensures { IfOk result (λ layout. layout ≡ layout_of width (map row_of (map seen rows.now))) }
 {
@@ -208,7 +208,7 @@ fn layout_of(alloc: Global, width: usize, rows: &[(&String, usize)]) -> Result<L
     })
 }
 
-/// Returns the text of rows with bars, for a terminal of that many columns.
+/// Returns the text of rows with bars, for a terminal of `width` columns.
 ///
 /// # Errors
 ///

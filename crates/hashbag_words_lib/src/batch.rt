@@ -134,6 +134,7 @@ impl Batch {
     fn open(&mut self) -> Result<bool, Stop>
         ensures opened { IfOk result (λ wants. KeepsTaken self.old self.new) }
         ensures wanted { IfOk result (λ wants. IsWantedIf wants self.new) }
+        ensures same { self.new.numbers ≡ self.old.numbers }
     {
         'texts: while self.merger.sources().len() < self.numbers.len() {
             if self.open_next()? {
@@ -149,10 +150,11 @@ impl Batch {
     ///
     /// An allocation fails.
     pub fn give(&mut self, block: &[u8]) -> Result<(), AllocError>
-        // What was given of the wanted text is longer by the block, and of no other one.
+        // The wanted text was given the block more, and no other text anything. In the clause `text` is what was given of it before.
         ensures given { OnOk result (GivesWanted block.now self.old self.new) }
         ensures wants { OnOk result (IsWanted self.old → IsWanted self.new) }
         ensures wanted { self.new.wanted ≡ self.old.wanted }
+        ensures same { self.new.numbers ≡ self.old.numbers }
     {
         if self.wanted < self.merger.sources().len() {
             return self.merger.give(self.wanted, block);
@@ -168,6 +170,7 @@ impl Batch {
         // The wanted text has ended.
         ensures merged { EndsWanted self.old self.new }
         ensures opening { length self.old.merger.sources.items ≤ self.old.wanted → self.new.rows.is_ended ≡ true }
+        ensures same { self.new.numbers ≡ self.old.numbers }
     {
         if self.wanted < self.merger.sources().len() {
             self.merger.end(self.wanted);
@@ -184,6 +187,7 @@ impl Batch {
     pub fn next_row(&mut self) -> Result<Merged, Stop>
         // A row comes behind those in `out`; or a text wants bytes; or it is the end, and `out` is the merge of all rows.
         ensures follows { IfOk result (λ next. GoesOn self.old next self.new) }
+        ensures same { self.new.numbers ≡ self.old.numbers }
     {
         if self.open()? {
             return Ok(Merged::Wants(self.number()));

@@ -20,7 +20,7 @@ use std::hash::{BuildHasher, RandomState};
 pub enum Order {
     /// All tokens, in ascending order of their bytes.
     Rising,
-    /// All tokens, in the order of a walk over the bag, which is no particular order.
+    /// All tokens, in no particular order.
     Open,
     /// The k most common tokens: in descending order of counts, and tokens with equal counts in ascending order of their bytes.
     MostCommon(usize),
@@ -29,15 +29,15 @@ pub enum Order {
 /// Which counts are shown, and in what order.
 #[derive(Clone, Copy)]
 pub struct Choice<'e> {
-    /// Their order.
+    /// In what order counts are shown, and how many of them.
     pub order: Order,
     /// The least count that is shown.
     pub least: usize,
     /// The least number of characters of a token that is shown.
     pub shortest: usize,
-    /// The shard whose tokens are shown, if not all are.
+    /// The shard whose tokens are shown. `None` shows the tokens of all shards.
     pub shard: Option<Shard>,
-    /// The tokens that aren't shown, if there are any.
+    /// The bag of the tokens that aren't shown, if there is one.
     pub except: Option<&'e HashBag<String, RandomState>>,
 }
 
@@ -53,14 +53,14 @@ impl Choice<'_> {
     }
 }
 
-// Returns whether a token has at least that many characters.
+// Returns whether a token has at least `shortest` characters.
 fn is_long(shortest: usize, token: &str) -> bool
     ensures { result ≡ nat_le shortest (length (chars token.now)) }
 {
     shortest == 0 || shortest <= token.chars().count()
 }
 
-// Returns whether a token is one of those that aren't shown.
+// Returns whether the bag of the tokens that aren't shown has this token.
 fn is_excepted(except: Option<&HashBag<String, RandomState>>, token: &str) -> bool
     ensures { result ≡ is_excepted except.entry token.now }
 {
@@ -70,13 +70,13 @@ fn is_excepted(except: Option<&HashBag<String, RandomState>>, token: &str) -> bo
     }
 }
 
-// Removes all tokens that aren't shown. Returns how many occurrences there were, of those that are shown and of the others. Reads each token
-// once, and allocates nothing.
+// Keeps the tokens that are shown, and removes the others. Returns the bag's total before that. Reads each token once, and allocates
+// nothing.
 pub(crate) fn keep_shown<S: BuildHasher + Drop>(
     bag: &mut HashBag<String, S>,
     choice: Choice<'_>,
 ) -> usize
-    // `texts` lists what the bag had. Each of them that is shown has its count, and nothing else is left.
+    // `texts` lists the bag's texts. Each text that is shown keeps its count; no other text is left.
     ensures kept { (texts : List (List ℕ)) → HaveTogether [] bag.old texts → AreKept choice.entry texts bag.new }
     ensures total { (texts : List (List ℕ)) → HaveTogether [] bag.old texts → result ≡ length texts }
 {
@@ -108,7 +108,7 @@ fn rising<'a, S: BuildHasher + Drop>(
     Ok(sorted)
 }
 
-/// Returns the tokens that are shown, with their counts, in this order.
+/// Returns tokens with their counts: those that `order` asks for, in that order.
 ///
 /// # Errors
 ///

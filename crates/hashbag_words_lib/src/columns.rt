@@ -56,13 +56,14 @@ fn add_records<S: BuildHasher + Drop>(
 ///
 /// # Errors
 ///
-/// `Line` if the header has no column of this name, or more than one, and for the first bad record: one with another number of fields than the
-/// header, with a quote out of place, or whose field isn't UTF-8. Also if the total would pass the limit of the bag. `Memory` if an allocation
-/// fails. The fields before the one that failed have been inserted.
+/// `Line` if the header doesn't have exactly one column of this name, or the total would pass the limit of the bag. `Line` also for the
+/// first record with another number of fields than the header, a quote out of place, or a field of the column that isn't UTF-8. `Memory` if
+/// an allocation fails. The fields before the one that failed have been inserted.
 ///
 /// # Complexity
 ///
-/// Reads each byte, and inserts each field once. Without `fold` a `String` is allocated only for an absent token, with `fold` for each field.
+/// Reads each byte, and makes one insertion per field. Without `fold` a `String` is allocated only for an absent token, with `fold` for
+/// each field.
 pub fn count_column<S: BuildHasher + Drop>(
     alloc: Global,
     bag: &mut HashBag<String, S>,

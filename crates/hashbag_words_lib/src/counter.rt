@@ -1,8 +1,9 @@
 //! Counting the tokens of texts that come in blocks, however they are cut.
 //!
-//! A [`TextCounter`] is given bytes, so its clauses hold whatever they come from. In them `text` is what was fed of this text, `before` are
-//! the tokens of earlier texts, and `runs` the runs that were written. A run is a bag's counts, written to a file to free memory.
-//! `HasCounted`: the bag and `runs` together have all these tokens.
+//! A [`TextCounter`] is given bytes, so its clauses hold for any source of the bytes. In the clauses, `text` is what was fed of this text,
+//! `before` are the tokens that the bag had at first and those of earlier texts, and `runs` the runs that were written. A run is a bag's
+//! counts, written to a file to free memory. `HasCounted`: the bag and `runs` together have the tokens of `before` and of the lines of
+//! `text` that have ended.
 ghost use Rattle.std.specs.Prelude.{◌≡◌, ℕ, List, [], ◌∷◌, ◌++◌, IfOk, OnOk};
 ghost use Rattle.hashbag_core.specs.declared.bag.BagError.{BagError};
 ghost use Rattle.hashbag_words_lib.specs.Counted.{fed_of, CountsBytes, CountsWholeText, EndsText, HasCounted, HaveTogether, IsFirstBadOfText, IsFirstBadOfTextWith, IsFirstBadWhateverFollows, IsReadingOfText, IsWithin, KeepsCountedInRun, NoLineFeed};
@@ -24,9 +25,9 @@ use memchr::memchr;
 use std::alloc::Global;
 use std::hash::BuildHasher;
 
-/// What was counted of a text so far.
+/// A bag, and what was counted of a text so far.
 ///
-/// The lines that have ended are counted. Of the line that hasn't, the bytes are kept.
+/// The lines that have ended are counted. The bytes of the line that hasn't ended are kept.
 #[derive(Drop)]
 pub struct TextCounter<'r, S: BuildHasher + Drop> {
     alloc: Global,
@@ -40,9 +41,9 @@ pub struct TextCounter<'r, S: BuildHasher + Drop> {
 /// How much of a block was fed.
 #[derive(Clone, Copy, Debug, PartialEq, Eq)]
 pub enum Fed {
-    /// All of it.
+    /// The whole block.
     Whole,
-    /// Its first bytes, of this number. Then the bag was full.
+    /// Only the first bytes of the block, this many. Then the bag was full.
     Full(usize),
 }
 
@@ -60,7 +61,7 @@ pub(crate) fn without_return(line: &[u8]) -> &[u8]
     &line[..n - 1]
 }
 
-// Returns the fault of a failed allocation in the line that hasn't ended.
+// Returns the fault of a failed allocation. Counts the line that hasn't ended as read.
 pub(crate) fn no_memory(reading: &mut LinesRead) -> InputFault
     ensures fault { result ≡ InputFault.Bag BagError.Memory }
     ensures bad_lines { reading.new.bad_lines ≡ reading.old.bad_lines }
@@ -70,9 +71,9 @@ pub(crate) fn no_memory(reading: &mut LinesRead) -> InputFault
 }
 
 impl<'r, S: BuildHasher + Drop> TextCounter<'r, S> {
-    /// Returns a counter that was given nothing. What it counts is added to this bag.
+    /// Returns a counter that was given no bytes. It inserts the tokens into `bag`.
     ///
-    /// A gauge says when the bag is full. If there is one, the bag has to be empty and the gauge new.
+    /// A gauge decides when the bag is full. If a gauge is given, the bag has to be empty and the gauge new.
     pub fn new(
         alloc: Global,
         bag: HashBag<String, S>,
@@ -95,14 +96,15 @@ impl<'r, S: BuildHasher + Drop> TextCounter<'r, S> {
         }
     }
 
-    /// The bag that is counted in. The tokens of a line that hasn't ended aren't in it.
+    /// Returns the bag into which tokens are inserted. The tokens of the line that hasn't ended aren't in it yet.
     pub fn bag(&self) -> &HashBag<String, S>
         ensures { result.now ≡ self.now.bag }
     {
         &self.bag
     }
 
-    /// Returns how many lines of the text have ended, and what became of them. After a `InputFault` the line that it was found in counts too.
+    /// Returns how many lines of the text have ended, were skipped and were replaced. After an `InputFault` the line that failed is
+    /// included.
     pub fn reading(&self) -> LinesRead
         ensures { result ≡ self.now.reading }
     {
@@ -164,25 +166,25 @@ impl<'r, S: BuildHasher + Drop> TextCounter<'r, S> {
 
     /// Counts the lines that end in these bytes. The bytes after the last line feed are kept.
     ///
-    /// Returns `Fed::Whole`; or, if the bag was full when measured, `Fed::Full(n)`: only the first `n` bytes, to the end of the line after
-    /// which it was measured, were fed. If there is a gauge, the bag is measured after every 16 lines.
+    /// Returns `Fed::Whole`, or `Fed::Full(n)` if the bag was full when it was measured. Then only the first `n` bytes were fed, to the end
+    /// of the line after which the bag was measured. With a gauge the bag is measured after every 16 lines.
     ///
     /// # Errors
     ///
-    /// `InputFault::Line` if a line is bad and bad lines aren't skipped; `InputFault::Bag` if an allocation fails, or the total would pass the limit of
-    /// the bag. Then the counter is of no use.
+    /// `InputFault::Line` if a line is bad and bad lines aren't skipped. `InputFault::Bag` if an allocation fails, or the total would pass
+    /// the limit of the bag. After an error use only [`TextCounter::reading`].
     ///
     /// # Complexity
     ///
     /// Counts each line as [`add_line`](crate::counting::add_line) does. Only a line that isn't whole in the block is copied.
     pub fn feed(&mut self, block: &[u8]) -> Result<Fed, InputFault>
-        // If the tokens of `text` were counted before, now those of `text` and of what was fed are (`before`, `runs`: see the head).
+        // If `text` was counted before, `text` and the bytes that were fed are counted now (`before`, `runs`: see the head of this file).
         ensures counted { IfOk result (λ fed. CountsBytes self.old self.new (fed_of fed block.now)) }
 
-        // `Full(n)`: n is above 0 and within the block.
+        // `Full(n)`: n is above 0 and at most the length of the block.
         ensures within { IfOk result (λ fed. IsWithin fed block.now) }
 
-        // A rejected line is the first bad one of `text` and the block together.
+        // A line that fails as bad is the first bad line of `text` and the block together.
         ensures bad { OnBadLine result (IsFirstBadOfTextWith self.old self.new block.now) }
         ensures rule { self.new.rule ≡ self.old.rule }
         ensures bad_lines { self.new.reading.bad_lines ≡ self.old.reading.bad_lines }
@@ -201,17 +203,18 @@ impl<'r, S: BuildHasher + Drop> TextCounter<'r, S> {
         Ok(Fed::Whole)
     }
 
-    /// Ends the text, whose last line is counted if no line feed ended it. Returns how its lines were read. What is fed next is another text.
+    /// Ends the text: counts the last line if no line feed ended it. Returns how the lines were read. The next bytes are those of another
+    /// text.
     ///
     /// # Errors
     ///
     /// Same as [`TextCounter::feed`], for the last line.
     pub fn end_text(&mut self) -> Result<LinesRead, InputFault>
-        // The tokens of the text are added to `before`, and the next text is empty. The result says how its lines were read.
+        // The tokens of the text now belong to `before`, and the next text is empty. The result says how the lines of the text were read.
         ensures counted { OnOk result (EndsText self.old self.new) }
         ensures reading { IfOk result (λ reading. IsReadingOfText self.old reading) }
 
-        // If a bad line is rejected, it is the text's first one.
+        // A line that fails as bad is the first bad line of the text.
         ensures bad { OnBadLine result (IsFirstBadOfText self.old self.new) }
         ensures rule { self.new.rule ≡ self.old.rule }
         ensures bad_lines { self.new.reading.bad_lines ≡ self.old.reading.bad_lines }
@@ -222,9 +225,9 @@ impl<'r, S: BuildHasher + Drop> TextCounter<'r, S> {
         Ok(reading)
     }
 
-    /// Returns whether the bag is full. It never is without a gauge.
+    /// Returns whether the bag is full. Without a gauge the bag is never full.
     pub fn is_full(&mut self) -> bool
-        // No clause says when it is full.
+        // No clause says when the bag is full.
         ensures rule { self.new.rule ≡ self.old.rule }
         ensures bag { self.new.bag ≡ self.old.bag }
         ensures partial { self.new.partial ≡ self.old.partial }
@@ -233,7 +236,7 @@ impl<'r, S: BuildHasher + Drop> TextCounter<'r, S> {
         is_full(&mut self.gauge, &self.bag)
     }
 
-    /// Returns the text of a run of what is in the bag, as [`run_of`] does. Once it is written, [`TextCounter::end_run`] empties the bag.
+    /// Returns the text of a run of the bag, as [`run_of`] does. After the run is written, [`TextCounter::end_run`] empties the bag.
     ///
     /// # Errors
     ///
@@ -245,20 +248,21 @@ impl<'r, S: BuildHasher + Drop> TextCounter<'r, S> {
         run_of(self.alloc, &self.bag)
     }
 
-    /// Empties the bag, since the run of what is in it was written. It may be called within a text.
+    /// Empties the bag, whose run was written. It may be called within a text.
     pub fn end_run(&mut self)
-        // The rows of the run count as before, now in `runs`.
+        // What the bag had is now the last of `runs`, and what was counted is unchanged.
         ensures run { KeepsCountedInRun self.old self.new }
+        ensures rule { self.new.rule ≡ self.old.rule }
     {
         empty(&mut self.bag);
         note_empty(&mut self.gauge);
     }
 
-    /// Returns the bag. Of a text that hasn't ended, it lacks the line that hasn't.
+    /// Returns the bag. The tokens of a line that hasn't ended aren't in it.
     pub fn into_bag(self) -> HashBag<String, S>
         ensures bag { result ≡ self.entry.bag }
 
-        // The bag and the runs have the tokens of all texts.
+        // If the last text was ended, the bag and `runs` have the tokens of all texts.
         ensures counted { (before : _) → (runs : _) → HasCounted before runs self.entry [] → HaveTogether runs result before }
     {
         self.bag

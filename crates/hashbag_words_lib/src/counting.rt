@@ -59,7 +59,7 @@ pub(crate) fn add_piece<S: BuildHasher + Drop>(
     add_plain(bag, piece)
 }
 
-// Counts each piece that the iterator gives.
+// Counts each piece that the iterator returns.
 fn add_pieces<'a, I: Iterator<Item = &'a str> + Drop, S: BuildHasher + Drop>(
     alloc: Global,
     bag: &mut HashBag<String, S>,
@@ -100,7 +100,7 @@ fn add_unicode_words<S: BuildHasher + Drop>(
     add_pieces(alloc, bag, fold, line.unicode_words())
 }
 
-// Counts a match of a pattern, unless it is empty.
+// Counts a piece of a line once, unless the piece is empty.
 fn add_match<S: BuildHasher + Drop>(
     alloc: Global,
     bag: &mut HashBag<String, S>,
@@ -132,7 +132,7 @@ fn add_matches<S: BuildHasher + Drop>(
     Ok(())
 }
 
-// Returns what is between two places of a line.
+// Returns the bytes of a line from `start` up to `end`.
 fn between(line: &str, start: usize, end: usize) -> &[u8]
     ensures { result.now ≡ slice_range line.now start end }
 {
@@ -144,7 +144,7 @@ fn between(line: &str, start: usize, end: usize) -> &[u8]
     &bytes[start..end]
 }
 
-// Counts bytes that are UTF-8, unless there are none.
+// Counts bytes as one piece, unless they are empty or aren't UTF-8.
 fn add_text<S: BuildHasher + Drop>(
     alloc: Global,
     bag: &mut HashBag<String, S>,
@@ -159,7 +159,7 @@ fn add_text<S: BuildHasher + Drop>(
     }
 }
 
-// Counts what is between two places of a line, if there are two. If they are the ends of a group, that is always UTF-8.
+// Counts the bytes between two places of a line, if they are given. Between the ends of a group the bytes are always UTF-8.
 fn add_part<S: BuildHasher + Drop>(
     alloc: Global,
     bag: &mut HashBag<String, S>,
@@ -175,7 +175,7 @@ fn add_part<S: BuildHasher + Drop>(
     }
 }
 
-// Counts what a group has in each match of a pattern.
+// Counts what group `index + 1` has in each match of a pattern. Group 0 is the whole match.
 fn add_groups<S: BuildHasher + Drop>(
     alloc: Global,
     bag: &mut HashBag<String, S>,
@@ -199,7 +199,7 @@ fn add_groups<S: BuildHasher + Drop>(
     Ok(())
 }
 
-// Counts the field with this index, if there is one.
+// Counts the field with this index, if the line has one.
 fn add_field<S: BuildHasher + Drop>(
     alloc: Global,
     bag: &mut HashBag<String, S>,
@@ -228,7 +228,7 @@ pub(crate) fn past_mark(line: &str) -> &str
 
 /// Counts the tokens of a line: inserts each into the bag as often as it is in the line.
 ///
-/// A byte order mark at the beginning of the line is no part of it.
+/// A byte order mark at the beginning of the line is ignored.
 ///
 /// # Errors
 ///
@@ -237,8 +237,8 @@ pub(crate) fn past_mark(line: &str) -> &str
 ///
 /// # Complexity
 ///
-/// Reads each character, and inserts each token once. Without `fold` a `String` is allocated only for an absent token, with `fold`
-/// for each token. A pattern also allocates for each line.
+/// Makes one insertion per occurrence of a token. Without `fold` a `String` is allocated only for an absent token, with `fold` for each
+/// occurrence. A pattern also allocates for each line.
 pub fn add_line<S: BuildHasher + Drop>(
     alloc: Global,
     bag: &mut HashBag<String, S>,
@@ -258,7 +258,7 @@ pub fn add_line<S: BuildHasher + Drop>(
     }
 }
 
-// Counts a line that isn't UTF-8. Each sequence of bytes that isn't is U+FFFD, as `String::from_utf8_lossy` of Rust replaces them.
+// Counts a line that isn't UTF-8, with its invalid bytes replaced by U+FFFD as `String::from_utf8_lossy` of Rust replaces them.
 fn add_replaced<S: BuildHasher + Drop>(
     alloc: Global,
     bag: &mut HashBag<String, S>,
@@ -271,7 +271,8 @@ fn add_replaced<S: BuildHasher + Drop>(
     add_line(alloc, bag, rule, text.as_str())
 }
 
-// Counts a line that isn't UTF-8, if the rule replaces its bytes. If not, it is bad.
+// Counts a line that isn't UTF-8: with its bytes replaced if the rule says so, else as a bad line. The clauses are those of `add_bytes`,
+// but `reading.line` is unchanged.
 fn add_other<S: BuildHasher + Drop>(
     alloc: Global,
     bag: &mut HashBag<String, S>,
@@ -298,7 +299,7 @@ fn add_other<S: BuildHasher + Drop>(
     reading.pass_over(BadLine::NotText)
 }
 
-// Counts a line of a text, without its end.
+// Counts a line of a text. The line is given without its line end.
 pub(crate) fn add_bytes<S: BuildHasher + Drop>(
     alloc: Global,
     bag: &mut HashBag<String, S>,
@@ -308,11 +309,11 @@ pub(crate) fn add_bytes<S: BuildHasher + Drop>(
 ) -> Result<(), InputFault>
     ensures counts { OnOk result (AddsTexts bag.old bag.new (tokens_of_lines rule.now (line.now ∷ []))) }
 
-    // If bad lines are rejected, a bad line fails, and no other one does so.
+    // If bad lines are rejected, each bad line fails. Only a bad line fails with `InputFault::Line`.
     ensures passed { OnOk result (reading.old.bad_lines ≡ BadLines.Refused → is_bad rule.now line.now ≡ false) }
     ensures bad { OnBadLine result ((reading.old.bad_lines ≡ BadLines.Refused) × (is_bad rule.now line.now ≡ true)) }
 
-    // A bad line that is skipped raises `skipped`, and one whose bytes are replaced `replaced`, up to `u64::MAX`.
+    // A bad line that is skipped raises `skipped` by 1, up to `u64::MAX`. A line whose bytes are replaced raises `replaced` likewise.
     ensures kept { is_bad rule.now line.now ≡ false → reading.new.skipped ≡ reading.old.skipped }
     ensures skipped { is_bad rule.now line.now ≡ true → OnOk result (reading.new.skipped ≡ min (reading.old.skipped + 1) (2 ^ 64 - 1)) }
     ensures plain { is_replaced rule.now line.now ≡ false → reading.new.replaced ≡ reading.old.replaced }

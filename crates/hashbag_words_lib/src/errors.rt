@@ -6,7 +6,7 @@ use std::alloc::AllocError;
 use std::io;
 use thiserror::Error;
 
-/// What is wrong with a line.
+/// Why a line is bad.
 #[derive(Clone, Copy, Debug, PartialEq, Eq, Error)]
 pub enum BadLine {
     /// The line isn't UTF-8.
@@ -24,7 +24,7 @@ pub enum BadLine {
     /// The last line of a file of counts has no line feed: the file may have been cut off there.
     #[error("no line feed")]
     CutOff,
-    /// The rows must be in ascending order of tokens, and this row's token doesn't come after that of the row before.
+    /// The rows must be in ascending order of tokens, and the token of this row doesn't come after the token of the row before.
     #[error("not in order")]
     NotInOrder,
 }
@@ -41,7 +41,7 @@ pub enum InputFault {
     /// The JSON text isn't the tree of a bag, or that bag can't be built.
     #[error("{0}")]
     Tree(JsonError),
-    /// The counts of a JSON tree add up to more than its own limit, which is this.
+    /// The counts of a JSON tree add up to more than this limit, which is in the tree.
     #[error("total past its limit, {0}")]
     PastLimit(u64),
     /// An insertion failed: an allocation failed, or the total would pass the limit of the bag.

@@ -5,7 +5,7 @@ ghost use Rattle.hashbag_words_lib.specs.Fields.{fields_of, is_field, IsCut};
 
 use crate::rule::Separator;
 
-// Cuts a text at its first separator. Returns what is before and after it, or `None` if there is no separator.
+// Returns the texts before and after the first separator, or `None` if the text has no separator.
 fn cut(text: &str, separator: Separator) -> Option<(&str, &str)>
     ensures { IsCut separator text.now result }
 {
@@ -15,7 +15,7 @@ fn cut(text: &str, separator: Separator) -> Option<(&str, &str)>
     }
 }
 
-// Returns whether what is between separators is a field: between blanks it is one unless it is empty.
+// Returns whether a part between separators is a field. Between blanks an empty part isn't one.
 fn is_field(part: &str, separator: Separator) -> bool
     ensures { result ≡ is_field separator part.now }
 {

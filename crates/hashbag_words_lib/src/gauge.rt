@@ -14,7 +14,7 @@ const LITTLE_ROOM: usize = 1024;
 // How many lines are counted between two measures.
 const STEP: usize = 16;
 
-/// How many bytes a bag of texts may take, and an upper bound of what it takes.
+/// How many bytes a bag of texts may take, and an upper bound of the bytes that it takes.
 #[derive(Clone, Copy, Debug)]
 pub struct Gauge {
     most: usize,
@@ -70,8 +70,8 @@ impl Gauge {
 
     /// Returns whether the bag is full after `read` more bytes of the input.
     ///
-    /// Every byte read is taken as text until the estimate reaches `most`. Then all texts of the bag are measured, and the bag is full if it
-    /// takes seven eighths of `most`. If it doesn't, the estimate has to grow by an eighth of `most` before the next measure.
+    /// Each byte read counts as text until the estimate reaches `most`. Then all texts of the bag are measured. The bag is full if it takes
+    /// at least seven eighths of `most`. If not, the estimate has to grow by an eighth of `most` before the next measure.
     pub fn is_full<S: BuildHasher + Drop>(
         &mut self,
         bag: &HashBag<String, S>,
@@ -85,7 +85,7 @@ impl Gauge {
         bytes_of(bag, self.texts) >= self.most - self.most / 8
     }
 
-    /// Returns whether the bag is full after one more line, of `read` bytes. It is measured after every 16 lines.
+    /// Returns whether the bag is full after one more line, of `read` bytes. The bag is measured after every 16 lines, and else isn't full.
     pub fn is_full_after_line<S: BuildHasher + Drop>(
         &mut self,
         bag: &HashBag<String, S>,
@@ -101,7 +101,7 @@ impl Gauge {
     }
 }
 
-/// Returns whether the bag is full. Without a gauge it never is.
+/// Returns whether the bag is full. Without a gauge the bag is never full.
 pub(crate) fn is_full<S: BuildHasher + Drop>(
     gauge: &mut Option<Gauge>,
     bag: &HashBag<String, S>,
@@ -112,7 +112,7 @@ pub(crate) fn is_full<S: BuildHasher + Drop>(
     }
 }
 
-/// Returns whether the bag is full after one more line, of `read` bytes. Without a gauge it never is.
+/// Returns whether the bag is full after one more line, of `read` bytes. Without a gauge the bag is never full.
 pub(crate) fn is_full_after_line<S: BuildHasher + Drop>(
     gauge: &mut Option<Gauge>,
     bag: &HashBag<String, S>,

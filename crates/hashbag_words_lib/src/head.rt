@@ -30,6 +30,7 @@ impl Model for Head {
 impl Head {
     /// Returns the head of a row.
     pub fn new(row: (String, usize)) -> Head
+        // A head is its row in clauses.
         ensures { result ≡ row }
     {
         let prefix = prefix(row.0.as_str());

@@ -6,7 +6,7 @@
 ghost use Rattle.std.specs.Prelude.{◌≡◌, ◌≢◌, ◌↔◌, true, ℕ, ◌<◌, [], List, length, map, slice_index_or, IfOk, IfSome, IsSomeAnd, OnOk, None};
 ghost use Rattle.hashbag_words_lib.specs.KeptRuns.{AddsMerged, AddsRun, AreAlike, HasKept, MergesAll, TakesTexts, TakesThese};
 ghost use Rattle.hashbag_words_lib.specs.Levels.{runs_in};
-ghost use Rattle.hashbag_words_lib.specs.MergedTexts.{BeginsOf};
+ghost use Rattle.hashbag_words_lib.specs.MergedTexts.{look_in, look_of, BeginsOf};
 
 use crate::levels::{FAN, Levels};
 use crate::merged_text::{MergedText, RowLayout, run_layout};
@@ -24,8 +24,8 @@ pub struct KeptRuns {
     // The numbers of the runs that weren't taken.
     kept: Levels<usize>,
     // The number of the next run, and its level.
-    made: usize,
-    level: u32,
+    next_number: usize,
+    next_level: u32,
 }
 
 // Returns the numbers below this one.
@@ -57,8 +57,8 @@ impl KeptRuns {
             kind,
             files: numbers_below(alloc, files)?,
             kept: Levels::new(alloc),
-            made: files,
-            level: 0,
+            next_number: files,
+            next_level: 0,
         })
     }
 
@@ -75,20 +75,20 @@ impl KeptRuns {
     ///
     /// An allocation fails.
     pub fn add(&mut self) -> Result<(), AllocError>
-        // A run was fed; or it is the merge of the texts that were taken, and nothing more was fed.
+        // `fed`: if the run has new rows, they are fed. `merged`: if it is the merge of what was taken, nothing more is fed.
         ensures fed { OnOk result (AddsRun self.old self.new) }
         ensures merged { OnOk result (AddsMerged self.old self.new) }
     {
-        let Some(next) = self.made.checked_add(1) else {
+        let Some(next) = self.next_number.checked_add(1) else {
             return Err(AllocError);
         };
-        self.kept.push(self.made, self.level)?;
-        self.level = 0;
-        self.made = next;
+        self.kept.push(self.next_number, self.next_level)?;
+        self.next_level = 0;
+        self.next_number = next;
         Ok(())
     }
 
-    // Returns the merge of those texts into a run. It is always `Some`: the callers return it.
+    // Returns the merge of those texts into a run. It is an `Option` only since the callers return one: it is always `Some`.
     fn run_of(
         &self,
         kind: SourceKind,
@@ -106,12 +106,12 @@ impl KeptRuns {
         // What is taken is no longer kept, and nothing else is taken.
         ensures taken { IfOk result (λ full. TakesTexts full self.old self.new) }
         ensures begins { IfOk result (λ full. IfSome full (BeginsOf SourceKind.Run)) }
-        ensures made { self.new.made ≡ self.old.made }
+        ensures next { self.new.next_number ≡ self.old.next_number }
     {
         let level = self.kept.last_level().saturating_add(1);
         match self.kept.take_full()? {
             Some(numbers) => {
-                self.level = level;
+                self.next_level = level;
                 self.run_of(SourceKind::Run, numbers)
             }
             None => Ok(None),
@@ -125,7 +125,7 @@ impl KeptRuns {
         ensures taken { IfOk result (λ full. TakesTexts full self.old self.new) }
         ensures begins { IfOk result (λ full. IfSome full (BeginsOf self.old.kind)) }
         ensures end { IfOk result (λ full. full ≡ None → AreAlike self.new) }
-        ensures made { self.new.made ≡ self.old.made }
+        ensures next { self.new.next_number ≡ self.old.next_number }
     {
         let many = self.files.len();
         if many == 0 || (many <= FAN && self.kept.is_empty()) {
@@ -136,17 +136,18 @@ impl KeptRuns {
         self.run_of(self.kind, numbers)
     }
 
-    /// Takes all.
+    /// Takes all runs, or all files if there is no run. Call it once [`KeptRuns::take_files`] has returned `None`.
     pub fn take_all<'e>(&mut self, layout: RowLayout<'e>) -> Result<MergedText<'e>, AllocError>
-        // If there are no files or no runs, all are taken, and their merge counts each text as all that was fed does.
+        // If there are no files or no runs, all are taken, and together they have each token as often as all rows that were fed.
         ensures taken { IfOk result (λ text. AreAlike self.old → TakesThese text.batch.numbers.items self.old self.new) }
         ensures all { IfOk result (λ text. AreAlike self.old → MergesAll text.batch.numbers.items self.old) }
-        ensures layout { IfOk result (λ text. (text.rows.choice ≡ layout.entry.choice) × (text.rows.sink.format ≡ layout.entry.format)) }
+        ensures choice { IfOk result (λ text. text.rows.choice ≡ layout.entry.choice) }
+        ensures look { IfOk result (λ text. look_of text.rows.sink.format text.rows.choice.order text.bars ≡ look_in layout.entry) }
 
         // Nothing was given of them. They are runs, if there are any, and else files.
         ensures files { runs_in self.old.kept ≡ [] → IfOk result (BeginsOf self.old.kind) }
         ensures runs { runs_in self.old.kept ≢ [] → IfOk result (BeginsOf SourceKind.Run) }
-        ensures made { self.new.made ≡ self.old.made }
+        ensures next { self.new.next_number ≡ self.old.next_number }
     {
         if self.kept.is_empty() {
             let none = Vec::new(self.alloc);

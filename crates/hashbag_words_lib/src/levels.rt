@@ -1,5 +1,6 @@
-//! Which runs are merged with which. A run that is made of a bag has level 0, and `FAN` runs of one level are merged into one of the next.
-//! So each row is merged few times, and few runs are kept. The code is generic in what a run is, so the clauses also hold of runs in files.
+//! Which runs are merged with which. A run that was written from a bag has level 0, and `FAN` runs of one level are merged into a run of
+//! the next. So each row is merged few times, and few runs are kept. The type of a run is generic, so the clauses also hold for runs in
+//! files.
 ghost use Rattle.std.specs.Prelude.{◌≡◌, ◌↔◌, ◌≤◌, ◌++◌, ◌∷◌, [], length, true, false, None, IfOk, OnOk};
 ghost use Rattle.hashbag_words_lib.specs.Levels.{is_full, levels_in, runs_in, TakesSixteen};
 
@@ -16,7 +17,7 @@ pub struct Levels<R> {
 }
 
 impl<R: Drop> Levels<R> {
-    /// Returns no runs.
+    /// Returns an empty list of runs.
     pub fn new(alloc: Global) -> Levels<R>
         ensures { runs_in result ≡ [] }
     {
@@ -33,7 +34,7 @@ impl<R: Drop> Levels<R> {
         self.runs.is_empty()
     }
 
-    /// Adds a run of that level.
+    /// Appends a run of this level.
     ///
     /// # Errors
     ///
@@ -63,16 +64,17 @@ impl<R: Drop> Levels<R> {
         }
     }
 
-    /// Takes the last `FAN` runs, if they are of one level. They are to be merged into a run of the next level.
+    /// Removes and returns the last `FAN` runs if they are of one level, else returns `None`. The caller merges them into a run of the next
+    /// level.
     ///
     /// # Errors
     ///
     /// An allocation fails.
     pub fn take_full(&mut self) -> Result<Option<Vec<R>>, AllocError>
-        // What is taken is no longer kept, and no other run is taken.
+        // The last 16 runs were removed and returned, or no run was.
         ensures taken { IfOk result (λ full. TakesSixteen self.old full self.new) }
 
-        // Nothing is taken only if there are fewer runs, or the last ones are of different levels.
+        // `None` is returned only if fewer than 16 runs are kept, or the last 16 are of different levels.
         ensures few { IfOk result (λ full. full ≡ None → 16 ≤ length (runs_in self.old) → is_full (levels_in self.old) ≡ false) }
     {
         if self.runs.len() < FAN || !self.is_full() {

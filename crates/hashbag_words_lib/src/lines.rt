@@ -6,9 +6,9 @@ use crate::errors::{BadLine, InputFault};
 /// Whether a bad line is an error or is skipped.
 #[derive(Clone, Copy, Debug, PartialEq, Eq)]
 pub enum BadLines {
-    /// It is an error.
+    /// A bad line is an error.
     Refused,
-    /// It is skipped, and the skipped lines are counted.
+    /// A bad line is skipped, and the skipped lines are counted.
     Skipped,
 }
 
@@ -49,7 +49,7 @@ impl LinesRead {
         self.line = self.line.saturating_add(1);
     }
 
-    // Counts a line of which bytes were replaced.
+    // Counts a line whose bytes were replaced.
     pub(crate) fn count_replaced(&mut self)
         ensures replaced { self.new.replaced ≡ min (self.old.replaced + 1) (2 ^ 64 - 1) }
         ensures skipped { self.new.skipped ≡ self.old.skipped }
@@ -59,7 +59,7 @@ impl LinesRead {
         self.replaced = self.replaced.saturating_add(1);
     }
 
-    // Skips a bad line, or rejects it.
+    // Skips a bad line if bad lines are skipped, else returns it as an error.
     pub(crate) fn pass_over(&mut self, bad: BadLine) -> Result<(), InputFault>
         ensures rejected { self.old.bad_lines ≡ BadLines.Refused → result ≡ Err (InputFault.Line bad) }
         ensures only_rejected { IfErr result (λ _. self.old.bad_lines ≡ BadLines.Refused) }

@@ -7,7 +7,7 @@ ghost use Rattle.hashbag.specs.Walks.{seen};
 ghost use Rattle.hashbag_words_lib.specs.Bars.{bars_text};
 ghost use Rattle.hashbag_words_lib.specs.Batches.{EndsWanted, IsWanted};
 ghost use Rattle.hashbag_words_lib.specs.Choice.{shows};
-ghost use Rattle.hashbag_words_lib.specs.MergedTexts.{AreAll, BuildsEnd, EndsText, GivesText, HasPut, IsSameBut, IsTopOf, KeepsPut, PutsNext, PutsRow, TakesPart};
+ghost use Rattle.hashbag_words_lib.specs.MergedTexts.{look_in, look_of, AreAll, BeginsAs, BuildsEnd, EndsText, GivesText, HasGivenAndTaken, IsTopOf, KeepsBatchAndLayout, KeepsGivenAndTaken, PutsRow, TakesPart, WantsNext};
 ghost use Rattle.hashbag_words_lib.specs.RowParts.{BuildsAll};
 ghost use Rattle.hashbag_words_lib.specs.Sorted.{row_of};
 ghost use Rattle.hashbag_words_lib.specs.Top.{kept_row};
@@ -43,7 +43,7 @@ pub enum Wants {
 pub struct RowLayout<'e> {
     /// How they are written.
     pub format: Format,
-    /// Which are.
+    /// Which rows are written.
     pub choice: Choice<'e>,
     /// How many columns there are for the bars of the most common rows, if they have bars. Then the format isn't used.
     pub bars: Option<usize>,
@@ -74,12 +74,27 @@ pub fn run_layout() -> RowLayout<'static>
 pub struct MergedText<'e> {
     batch: Batch,
     rows: ShownRows<'e, RowParts>,
-    // The most common rows, if only these are written. They are after the last row is merged.
+    // The most common rows, if only these are written. They are written once the last row is merged.
     top: Option<ShownRows<'e, TopRows>>,
     // How many columns there are for their bars, if they have bars.
     bars: Option<usize>,
     // Whether the last row and the end of the text are built.
     is_over: bool,
+}
+
+// Returns the format in which the text begins: with bars, one that has no text before all rows.
+fn rows_format(layout: RowLayout<'_>) -> Format
+    ensures look { look_of result layout.entry.choice.order layout.entry.bars ≡ look_in layout.entry }
+    ensures begins { BeginsAs (look_of result layout.entry.choice.order layout.entry.bars) result }
+{
+    match layout.choice.order {
+        Order::MostCommon(_) => match layout.bars {
+            Some(_) => Format::Tsv,
+            None => layout.format,
+        },
+        Order::Rising => layout.format,
+        Order::Open => layout.format,
+    }
 }
 
 // Returns where the most common rows are kept, if only these are written.
@@ -95,7 +110,7 @@ fn top_of<'e>(alloc: Global, choice: Choice<'e>) -> Option<ShownRows<'e, TopRows
     }
 }
 
-// Returns rows as those of a bag are.
+// Returns the rows with borrowed tokens, as `bars_of` takes them.
 fn lent(rows: &Vec<(Reverse<usize>, String)>) -> Result<Vec<(&String, usize)>, AllocError>
     ensures { IfOk result (λ pairs. map row_of (map seen pairs.items) ≡ map kept_row rows.now.items) }
 {
@@ -119,7 +134,7 @@ fn push_bars(
     parts.push_text(&text)
 }
 
-// Appends the text of all these rows to the part, of which there are no others.
+// Appends these rows and the end of the text. No row may have come before.
 fn push_all(parts: &mut RowParts, rows: &Vec<(Reverse<usize>, String)>) -> Result<(), AllocError>
     ensures text { OnOk result (BuildsAll parts.old parts.new (map kept_row rows.now.items)) }
     ensures format { parts.new.format ≡ parts.old.format }
@@ -163,12 +178,12 @@ impl<'e> MergedText<'e> {
         numbers: Vec<usize>,
         layout: RowLayout<'e>,
     ) -> Result<MergedText<'e>, AllocError>
-        ensures begins { IfOk result (λ text. HasPut (map (λ n. (kind, [])) text.batch.numbers.items) text []) }
-        ensures layout { IfOk result (λ text. (text.rows.choice ≡ layout.entry.choice) × (text.rows.sink.format ≡ layout.entry.format)) }
-        ensures bars { IfOk result (λ text. text.bars ≡ layout.entry.bars) }
+        ensures begins { IfOk result (λ text. HasGivenAndTaken (map (λ n. (kind, [])) text.batch.numbers.items) text []) }
+        ensures choice { IfOk result (λ text. text.rows.choice ≡ layout.entry.choice) }
+        ensures look { IfOk result (λ text. look_of text.rows.sink.format text.rows.choice.order text.bars ≡ look_in layout.entry) }
         ensures numbers { IfOk result (λ text. text.batch.numbers ≡ numbers) }
     {
-        let parts = RowParts::begin(alloc, layout.format)?;
+        let parts = RowParts::begin(alloc, rows_format(layout))?;
         Ok(MergedText {
             batch: Batch::new(alloc, kind, numbers),
             rows: ShownRows {
@@ -188,7 +203,7 @@ impl<'e> MergedText<'e> {
         self.batch.numbers()
     }
 
-    /// Returns how the lines of the text of that place among the numbers were read.
+    /// Returns how the lines of the text numbered `numbers()[i]` were read.
     pub fn reading(&self, i: usize) -> LinesRead {
         self.batch.reading(i)
     }
@@ -200,7 +215,7 @@ impl<'e> MergedText<'e> {
         self.batch.total()
     }
 
-    /// Returns whether no row was written.
+    /// Returns whether no row is in the text so far. Of the most common rows, none is before the end is built.
     pub fn is_empty(&self) -> bool
         ensures { result ≡ self.now.rows.sink.is_empty }
     {
@@ -218,10 +233,11 @@ impl<'e> MergedText<'e> {
     ///
     /// An allocation fails.
     pub fn give(&mut self, block: &[u8]) -> Result<(), AllocError>
-        // What was given of the wanted text is longer by the block, and of no other one.
+        // The wanted text was given the block more, and no other text anything.
         ensures given { OnOk result (GivesText block.now self.old self.new) }
         ensures wants { OnOk result (IsWanted self.old.batch → IsWanted self.new.batch) }
         ensures same { (self.new.batch.wanted ≡ self.old.batch.wanted) × (self.new.is_over ≡ self.old.is_over) }
+        ensures numbers { self.new.batch.numbers ≡ self.old.batch.numbers }
     {
         self.batch.give(block)
     }
@@ -229,11 +245,12 @@ impl<'e> MergedText<'e> {
     /// Says that no more bytes of the wanted text come.
     pub fn end(&mut self)
         // What was given is unchanged.
-        ensures given { KeepsPut self.old self.new }
+        ensures given { KeepsGivenAndTaken self.old self.new }
 
-        // The wanted text has ended.
+        // The wanted text has ended: one that is merged (`merged`), or the one whose first row isn't known (`opening`).
         ensures merged { EndsWanted self.old.batch self.new.batch }
         ensures opening { length self.old.batch.merger.sources.items ≤ self.old.batch.wanted → self.new.batch.rows.is_ended ≡ true }
+        ensures numbers { self.new.batch.numbers ≡ self.old.batch.numbers }
     {
         self.batch.end();
     }
@@ -248,7 +265,8 @@ impl<'e> MergedText<'e> {
     /// Takes the part: the next one begins.
     #[tactic(auto, using(crate::proofs::MergedTextLemmas::take_put))]
     pub fn take(&mut self)
-        ensures { TakesPart self.old self.new }
+        ensures taken { TakesPart self.old self.new }
+        ensures numbers { self.new.batch.numbers ≡ self.old.batch.numbers }
     {
         self.rows.sink.take();
     }
@@ -256,7 +274,7 @@ impl<'e> MergedText<'e> {
     // Puts a row, if it is shown.
     fn put(&mut self, token: String, count: usize) -> Result<(), Stop>
         ensures put { OnOk result (PutsRow (string_bytes token, count) self.old self.new) }
-        ensures elsewhere { OnOk result (IsSameBut self.old self.new) }
+        ensures elsewhere { OnOk result (KeepsBatchAndLayout self.old self.new) }
         ensures over { OnOk result (self.new.is_over ≡ self.old.is_over) }
     {
         if let Some(top) = &mut self.top {
@@ -274,7 +292,7 @@ impl<'e> MergedText<'e> {
     // Builds the end of the text.
     fn build_end(&mut self) -> Result<(), Stop>
         ensures built { OnOk result (BuildsEnd self.old self.new) }
-        ensures elsewhere { OnOk result (IsSameBut self.old self.new) }
+        ensures elsewhere { OnOk result (KeepsBatchAndLayout self.old self.new) }
         ensures over { OnOk result (self.new.is_over ≡ true) }
     {
         let top = self.top.take();
@@ -302,8 +320,10 @@ impl<'e> MergedText<'e> {
     ///
     /// Same as [`Merger::next_row`]; `Stop::Memory` if an allocation fails. Then the merge is of no use.
     pub fn next(&mut self) -> Result<Wants, Stop>
-        // A text wants bytes, a part is built, or the parts that were taken are the text of the merge of all texts.
-        ensures { IfOk result (λ wants. (given : _) → (taken : List ℕ) → HasPut given self.old taken → PutsNext given taken wants self.new) }
+        // A text wants bytes, or a part is built; or the parts that were taken are the text of the merge, which is what is written of the tokens that
+        // all texts count, wherever these were cut (`IsWritten`, as for a bag).
+        ensures next { IfOk result (λ wants. WantsNext self.old wants self.new) }
+        ensures numbers { OnOk result (self.new.batch.numbers ≡ self.old.batch.numbers) }
     {
         if self.is_over {
             return Ok(self.after_end());
@@ -323,6 +343,7 @@ impl<'e> MergedText<'e> {
                 }
             }
         }
+        // Never: there aren't as many rows.
         Err(Stop::TooMany)
     }
 }

@@ -16,7 +16,7 @@ use std::alloc::{AllocError, Global};
 use std::hash::BuildHasher;
 use std::str;
 
-// Returns the token and the count of a line in this form, or what is wrong with it.
+// Returns the token and the count of a line in this form, or why the line is bad.
 pub(crate) fn read_in_form(
     alloc: Global,
     form: RowForm,
@@ -31,19 +31,20 @@ pub(crate) fn read_in_form(
     }
 }
 
-/// Inserts the token of a line of counts as often as its count says.
+/// Inserts the token of a line of counts as often as the count of the line says.
 ///
 /// # Errors
 ///
-/// `InputFault::Line` if the line is bad; `InputFault::Bag` if an allocation fails, or the total would pass the limit of the bag. Then the bag is
-/// unchanged.
+/// `InputFault::Line` if the line is bad. `InputFault::Bag` if an allocation fails, or the total would pass the limit of the bag. Then the
+/// bag is unchanged.
 pub fn add_row<S: BuildHasher + Drop>(
     alloc: Global,
     bag: &mut HashBag<String, S>,
     form: RowForm,
     line: &[u8],
 ) -> Result<(), InputFault>
-    // The line of a token and a count adds these. Any row that is added is the line's, and a bad line is no row.
+    // `row`: for a line that was written from a token and a count, these are added. `line`: what is added is what the line says. `bad`: a
+    // bad line is no row.
     ensures row { IfRow form line.now (λ token count. OnOk result (AddsTimes bag.old bag.new token count)) }
     ensures line { OnOk result (AddsLine form line.now bag.old bag.new) }
     ensures bad { OnBadLine result (IsNoRow form line.now) }
@@ -71,7 +72,7 @@ pub(crate) fn past_mark(line: &[u8]) -> &[u8]
     line
 }
 
-// Returns the fault of a tree that isn't read as a bag. If its counts pass a limit of its own, the fault has that.
+// Returns the fault of a JSON tree from which no bag was built: `PastLimit` if the counts pass the limit in the tree, else `Tree`.
 fn fault_of(tree: &Value, error: JsonError) -> InputFault {
     match (error, tree.get("limit").and_then(Value::as_u64)) {
         (JsonError::TooMany(_), Some(limit)) if limit < u64::MAX => InputFault::PastLimit(limit),
@@ -79,13 +80,13 @@ fn fault_of(tree: &Value, error: JsonError) -> InputFault {
     }
 }
 
-/// Adds the counts of a JSON text, all of them or none. They are first read into a bag of their own, with the hash state `state`.
+/// Adds all counts of a JSON text, or none. The counts are first read into a bag with the hash state `state`.
 ///
 /// # Errors
 ///
-/// - `InputFault::Text` if the text isn't JSON, or can't be allocated.
-/// - `InputFault::Tree` if it isn't the tree of a bag, or that bag fails.
-/// - `InputFault::PastLimit` if its counts pass its own limit.
+/// - `InputFault::Text` if the text isn't JSON, or an allocation fails while it is parsed.
+/// - `InputFault::Tree` if the JSON isn't the tree of a bag, or no bag can be built from it.
+/// - `InputFault::PastLimit` if the counts pass the limit in the tree.
 /// - `InputFault::Bag` if an allocation fails, or the total would pass the limit of the bag.
 ///
 /// Then the bag is unchanged.
@@ -95,7 +96,7 @@ pub fn add_tree<S: BuildHasher + Drop, S2: BuildHasher + Drop>(
     bag: &mut HashBag<String, S>,
     text: &str,
 ) -> Result<(), InputFault>
-    // Each text is in the bag more often by what its pairs in the tree add up to.
+    // The count of each text rises by the sum of its pairs in the tree.
     ensures tree { OnOk result (AddsTree text.now bag.old bag.new) }
     ensures err { OnErr result (bag.new ≡ bag.old) }
 {

@@ -1,8 +1,9 @@
 //! Adding up files of counts that come in blocks, however they are cut.
 //!
-//! A [`RowCounter`] is given bytes, so its clauses hold whatever they come from. In them `text` is what was fed of this file, `before` are the
-//! rows of earlier files, and `runs` the runs that were written. A run is a bag's counts, written to a file to free memory.
-//! `HasAdded`: the bag and `runs` together have all these rows.
+//! A [`RowCounter`] is given bytes, so its clauses hold for any source of the bytes. In the clauses, `text` is what was fed of this file,
+//! `before` are rows with the counts that the bag had at first and the rows of earlier files, and `runs` the runs that were written. A run
+//! is a bag's counts, written to a file to free memory. `HasAdded`: the bag and `runs` together have the rows of `before` and of the lines
+//! of `text` that have ended.
 ghost use Rattle.std.specs.Prelude.{◌≡◌, ℕ, ◌+◌, ◌-◌, ◌^◌, ◌∷◌, ◌++◌, [], List, min, IfOk, OnErr, OnOk};
 ghost use Rattle.hashbag_words_lib.specs.Added.{line_at, AddsBytes, AddsRowsOfLine, AddsWholeFile, EndsFile, HasAdded, HaveRows, IsCutOff, IsFirstNoRowOfFileWith, IsFirstNoRowWhateverFollows, KeepsAddedInRun};
 ghost use Rattle.hashbag_words_lib.specs.Counted.{fed_of, IsWithin, NoLineFeed};
@@ -25,9 +26,9 @@ use memchr::memchr;
 use std::alloc::Global;
 use std::hash::BuildHasher;
 
-/// What was added of files of counts so far.
+/// A bag, and what was added to it of files of counts so far.
 ///
-/// The rows of the lines that have ended are added. Of the line that hasn't, the bytes are kept.
+/// The rows of the lines that have ended are added. The bytes of the line that hasn't ended are kept.
 #[derive(Drop)]
 pub struct RowCounter<S: BuildHasher + Drop> {
     alloc: Global,
@@ -38,7 +39,7 @@ pub struct RowCounter<S: BuildHasher + Drop> {
     gauge: Option<Gauge>,
 }
 
-// Returns a line of a file that has `before` lines before it. Of the first line, returns what follows a byte order mark, if one is there.
+// Returns a line of a file that has `before` lines before it. A byte order mark at the beginning of the first line is removed.
 fn past_mark_at(before: u64, line: &[u8]) -> &[u8]
     ensures { result.now ≡ line_at before line.now }
 {
@@ -48,7 +49,7 @@ fn past_mark_at(before: u64, line: &[u8]) -> &[u8]
     line
 }
 
-// Adds the row of a line, without its end. One that is no row is skipped or rejected.
+// Adds the row of a line, which is given without its line end. A line that is no row is skipped or rejected.
 fn add_line<S: BuildHasher + Drop>(
     alloc: Global,
     bag: &mut HashBag<String, S>,
@@ -71,9 +72,9 @@ fn add_line<S: BuildHasher + Drop>(
 }
 
 impl<S: BuildHasher + Drop> RowCounter<S> {
-    /// Returns a counter that was given nothing. What it adds is added to this bag. Its files have lines of this form.
+    /// Returns a counter that was given no bytes. It adds the rows of files with lines of this form to `bag`.
     ///
-    /// If there is a gauge, it says when the bag is full. It has to be that of an empty bag.
+    /// A gauge decides when the bag is full. If a gauge is given, the bag has to be empty and the gauge new.
     pub fn new(
         alloc: Global,
         bag: HashBag<String, S>,
@@ -81,7 +82,7 @@ impl<S: BuildHasher + Drop> RowCounter<S> {
         bad_lines: BadLines,
         gauge: Option<Gauge>,
     ) -> RowCounter<S>
-        // `before` are any rows that add up to the bag.
+        // `before` are any rows that add up to the counts of the bag.
         ensures begins { (before : List (List ℕ × ℕ)) → HaveRows [] bag before → HasAdded before [] result [] }
         ensures form { result.form ≡ form }
         ensures bad_lines { result.reading.bad_lines ≡ bad_lines }
@@ -96,14 +97,14 @@ impl<S: BuildHasher + Drop> RowCounter<S> {
         }
     }
 
-    /// The bag that is added to. The row of a line that hasn't ended isn't in it.
+    /// Returns the bag to which rows are added. The row of a line that hasn't ended isn't in it yet.
     pub fn bag(&self) -> &HashBag<String, S>
         ensures { result.now ≡ self.now.bag }
     {
         &self.bag
     }
 
-    /// Returns how many lines of the file have ended, and what became of them. After a `InputFault` the line that it was found in counts too.
+    /// Returns how many lines of the file have ended, and were skipped. After an `InputFault` the line that failed is included.
     pub fn reading(&self) -> LinesRead
         ensures { result ≡ self.now.reading }
     {
@@ -143,25 +144,26 @@ impl<S: BuildHasher + Drop> RowCounter<S> {
 
     /// Adds the rows of the lines that end in these bytes. The bytes after the last line feed are kept.
     ///
-    /// Returns `Fed::Whole`; or, if the bag was full when measured, `Fed::Full(n)`: only the first `n` bytes, to the end of the line after
-    /// which it was measured, were fed. If there is a gauge, the bag is measured after every 16 lines.
+    /// Returns `Fed::Whole`, or `Fed::Full(n)` if the bag was full when it was measured. Then only the first `n` bytes were fed, to the end
+    /// of the line after which the bag was measured. With a gauge the bag is measured after every 16 lines.
     ///
     /// # Errors
     ///
-    /// `InputFault::Line` if a line is no row and bad lines aren't skipped; `InputFault::Bag` if an allocation fails, or the total would pass the limit
-    /// of the bag. Then the counter is of no use.
+    /// `InputFault::Line` if a line is no row and bad lines aren't skipped. `InputFault::Bag` if an allocation fails, or the total would
+    /// pass the limit of the bag. After an error use only [`RowCounter::reading`].
     ///
     /// # Complexity
     ///
-    /// Inserts the token of each line once, as often as its count says. Only a line that isn't whole in the block is copied.
+    /// Makes one insertion per line, of the token as often as the count says. Only a line that isn't whole in the block is copied.
     pub fn feed(&mut self, block: &[u8]) -> Result<Fed, InputFault>
-        // If the rows of `text` were added before, now those of `text` and of what was fed are (`before`, `runs`: see the head).
+        // If the rows of `text` were added before, those of `text` and of the bytes that were fed are added now (`before`, `runs`: see the
+        // head of this file).
         ensures added { IfOk result (λ fed. AddsBytes self.old self.new (fed_of fed block.now)) }
 
-        // `Full(n)`: n is above 0 and within the block.
+        // `Full(n)`: n is above 0 and at most the length of the block.
         ensures within { IfOk result (λ fed. IsWithin fed block.now) }
 
-        // A rejected line is the first, of `text` and the block together, that isn't a row.
+        // A line that fails as bad is the first line of `text` and the block together that is no row.
         ensures bad { OnBadLine result (IsFirstNoRowOfFileWith self.old self.new block.now) }
         ensures form { self.new.form ≡ self.old.form }
         ensures bad_lines { self.new.reading.bad_lines ≡ self.old.reading.bad_lines }
@@ -180,7 +182,7 @@ impl<S: BuildHasher + Drop> RowCounter<S> {
         Ok(Fed::Whole)
     }
 
-    // Skips or rejects `partial`, unless it is empty, since no line feed ended it.
+    // Skips or rejects `partial`, a last line without a line feed, unless it is empty.
     fn end_last(&mut self) -> Result<(), InputFault>
         ensures added { OnOk result (AddsWholeFile self.old self.new) }
         ensures ended { OnOk result (self.new.partial.items ≡ []) }
@@ -196,16 +198,17 @@ impl<S: BuildHasher + Drop> RowCounter<S> {
         Ok(())
     }
 
-    /// Ends the file. A last line that no line feed ended is bad. Returns how its lines were read. What is fed next is another file.
+    /// Ends the file, and returns how its lines were read. A last line without a line feed is bad. The next bytes are those of another
+    /// file.
     ///
     /// # Errors
     ///
     /// `InputFault::Line(CutOff)` if no line feed ended the last line, and bad lines aren't skipped.
     pub fn end_file(&mut self) -> Result<LinesRead, InputFault>
-        // The file's rows are added to `before`, and the next file is empty.
+        // The rows of the file now belong to `before`, and the next file is empty.
         ensures added { OnOk result (EndsFile self.old self.new) }
 
-        // It fails only if no line feed ended the last line.
+        // The call fails only if no line feed ended the last line.
         ensures cut { OnErr result (IsCutOff self.old) }
         ensures form { self.new.form ≡ self.old.form }
         ensures bad_lines { self.new.reading.bad_lines ≡ self.old.reading.bad_lines }
@@ -234,9 +237,9 @@ impl<S: BuildHasher + Drop> RowCounter<S> {
         Ok(())
     }
 
-    /// Returns whether the bag is full. It never is without a gauge.
+    /// Returns whether the bag is full. Without a gauge the bag is never full.
     pub fn is_full(&mut self) -> bool
-        // No clause says when it is full.
+        // No clause says when the bag is full.
         ensures form { self.new.form ≡ self.old.form }
         ensures bag { self.new.bag ≡ self.old.bag }
         ensures partial { self.new.partial ≡ self.old.partial }
@@ -245,7 +248,7 @@ impl<S: BuildHasher + Drop> RowCounter<S> {
         is_full(&mut self.gauge, &self.bag)
     }
 
-    /// Returns the text of a run of what is in the bag, as [`run_of`] does. Once it is written, [`RowCounter::end_run`] empties the bag.
+    /// Returns the text of a run of the bag, as [`run_of`] does. After the run is written, [`RowCounter::end_run`] empties the bag.
     ///
     /// # Errors
     ///
@@ -257,20 +260,22 @@ impl<S: BuildHasher + Drop> RowCounter<S> {
         run_of(self.alloc, &self.bag)
     }
 
-    /// Empties the bag, since the run of what is in it was written. It may be called within a file.
+    /// Empties the bag, whose run was written. It may be called within a file.
     pub fn end_run(&mut self)
-        // The rows of the run count as before, now in `runs`.
+        // What the bag had is now the last of `runs`, and what was added is unchanged.
         ensures run { KeepsAddedInRun self.old self.new }
+        ensures form { self.new.form ≡ self.old.form }
+        ensures bad_lines { self.new.reading.bad_lines ≡ self.old.reading.bad_lines }
     {
         empty(&mut self.bag);
         note_empty(&mut self.gauge);
     }
 
-    /// Returns the bag. Of a file that hasn't ended, it lacks the line that hasn't.
+    /// Returns the bag. The row of a line that hasn't ended isn't in it.
     pub fn into_bag(self) -> HashBag<String, S>
         ensures bag { result ≡ self.bag }
 
-        // The bag and the runs have what all files count.
+        // If the last file was ended, the bag and `runs` have the rows of all files.
         ensures added { (before : _) → (runs : _) → HasAdded before runs self [] → HaveRows runs result before }
     {
         self.bag

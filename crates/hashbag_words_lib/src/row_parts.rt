@@ -1,6 +1,7 @@
 //! The text of rows that come one by one, in parts.
 //!
-//! Nothing is written here: the caller takes what was built, and writes it. So the clauses hold wherever it is written.
+//! Nothing is written here: the caller reads the part that was built, writes it and takes it. So the clauses hold wherever the text is
+//! written.
 ghost use Rattle.std.specs.Prelude.{◌≡◌, ◌++◌, [], IfOk, OnOk};
 ghost use Rattle.hashbag_words_lib.specs.RowParts.{BuildsRow, EndsRows, HasBuilt, TakesPart};
 
@@ -8,17 +9,17 @@ use crate::writing::{Format, push_in};
 use std::alloc::{AllocError, Global};
 use std::io;
 
-/// The text of rows that come one by one, of which the part that wasn't taken is kept.
+/// The text of rows that are appended one by one. Only the part of the text that wasn't taken is kept.
 #[derive(Drop)]
 pub struct RowParts {
     format: Format,
-    // Whether no row has come.
+    // Whether no row was appended, and no text by `push_text`.
     is_empty: bool,
     part: Vec<u8>,
 }
 
 impl RowParts {
-    /// Begins the text of rows.
+    /// Returns the text of no rows, whose part is what comes before the first row.
     ///
     /// # Errors
     ///
@@ -50,7 +51,7 @@ impl RowParts {
         Ok(())
     }
 
-    /// Appends a text that isn't one of rows to the part.
+    /// Appends other text than that of rows to the part.
     ///
     /// # Errors
     ///
@@ -63,22 +64,23 @@ impl RowParts {
         self.part.extend_from_slice(text)
     }
 
-    /// Returns whether no row has come.
+    /// Returns whether no row was appended, and no text by `push_text`.
     pub fn is_empty(&self) -> bool
         ensures { result ≡ self.now.is_empty }
     {
         self.is_empty
     }
 
-    /// Returns the part: what was built and not taken.
+    /// Returns the part: the text that was built and not yet taken.
     pub fn part(&self) -> &[u8]
         ensures { result.now ≡ self.now.part.items }
     {
         self.part.as_slice()
     }
 
-    /// Takes the part: the next one begins.
+    /// Takes the part: empties it. The caller has read it by [`RowParts::part`], and the next part begins.
     pub fn take(&mut self)
+        // The rows so far are unchanged. What was taken of their text now also has this part.
         ensures built { TakesPart self.old self.new }
         ensures emptied { self.new.part.items ≡ [] }
         ensures format { self.new.format ≡ self.old.format }

@@ -1,7 +1,7 @@
 //! The rows of a file of counts, which is given in blocks, however it is cut.
 //!
-//! A [`RowSource`] is given bytes, so its clauses hold whatever they come from. In them `text` is what was given, `more` are bytes that may
-//! still come, and `left_with` has the rows that are then left.
+//! A [`RowSource`] is given bytes, so its clauses hold for any source of the bytes. In the clauses, `text` is what was given, `more` are
+//! bytes that may still be given, and `left_with` has the rows that are left if `more` is given, and then the end.
 ghost use Rattle.std.specs.Prelude.{◌≡◌, ℕ, ◌++◌, [], List, length, Some, false, true, IfOk, IsErr, IsSome, OnOk};
 ghost use Rattle.hashbag_words_lib.specs.Runs.{rows_left};
 ghost use Rattle.hashbag_words_lib.specs.Sources.{left_with, GivesWhateverComes, Holds, HoldsMore, IsAtEnd, IsRowReadFrom, MeetsWhateverComes};
@@ -17,12 +17,13 @@ use memchr::memchr;
 use std::alloc::{AllocError, Global};
 use std::str;
 
-/// What a text of rows is.
+/// Where a text of rows is from.
 #[derive(Clone, Copy, Debug, PartialEq, Eq)]
 pub enum SourceKind {
-    /// A run: rows of `tsv` that were written here. Its first token may begin with a byte order mark.
+    /// A run: rows of `tsv` that this crate wrote. Its first token may begin with a byte order mark.
     Run,
-    /// A file in this form, with what a bad line of it does. Its first line may begin with a byte order mark, which is no part of it.
+    /// A file in this form, and whether its bad lines are errors or are skipped. A byte order mark at the beginning of its first line is
+    /// ignored.
     File(RowForm, BadLines),
 }
 
@@ -31,20 +32,20 @@ pub enum SourceKind {
 pub enum Next {
     /// A row: its token and its count.
     Row((String, usize)),
-    /// That isn't known before more bytes are given, or the text is ended.
+    /// No row yet: first, more bytes have to be given, or the text has to be ended.
     Wants,
-    /// Nothing: the text has ended.
+    /// No row: the text has ended.
     End,
 }
 
 /// The rows of a text that is given in blocks.
 ///
-/// The bytes that haven't been read are kept: the last block, and of the line that it cuts off what came before.
+/// The bytes that haven't been read are kept: what is left of the last block, and before it the beginning of a line from earlier blocks.
 #[derive(Drop)]
 pub struct RowSource {
     pub(crate) form: RowForm,
     pub(crate) reading: LinesRead,
-    // Whether a byte order mark at the beginning of the next line is no part of it.
+    // Whether a byte order mark at the beginning of the next line is ignored.
     pub(crate) may_be_marked: bool,
     pub(crate) unread: Unread,
     // Whether no more bytes come.
@@ -52,7 +53,7 @@ pub struct RowSource {
     alloc: Global,
 }
 
-// A line without a byte order mark at its beginning, if that may be there.
+// Returns the line; if `may_be_marked`, without a byte order mark at its beginning.
 fn unmarked(line: &[u8], may_be_marked: bool) -> &[u8]
     ensures plain { may_be_marked ≡ false → result.now ≡ line.now }
     ensures marked { may_be_marked ≡ true → result.now ≡ without_mark line.now }
@@ -63,7 +64,7 @@ fn unmarked(line: &[u8], may_be_marked: bool) -> &[u8]
     line
 }
 
-// The row of a line. A bad one is passed over or rejected.
+// Returns the row of a line, or `None` if the line is bad and bad lines are skipped.
 fn read_line(
     alloc: Global,
     form: RowForm,
@@ -87,7 +88,7 @@ fn read_line(
 }
 
 impl RowSource {
-    // Returns a source of lines of this form that was given nothing.
+    // Returns a source of lines of this form that was given no bytes.
     fn of_lines(alloc: Global, form: RowForm, bad_lines: BadLines, may_be_marked: bool) -> RowSource
         ensures left { (more : List ℕ) → left_with result more ≡ rows_left form bad_lines may_be_marked more }
         ensures not_ended { result.is_ended ≡ false }
@@ -102,9 +103,9 @@ impl RowSource {
         }
     }
 
-    /// Returns a source that was given nothing.
+    /// Returns a source of this kind that was given no bytes.
     pub fn new(alloc: Global, kind: SourceKind) -> RowSource
-        // Nothing of the text was given, and it hasn't ended.
+        // No byte of the text was given, and the text hasn't ended.
         ensures begins { Holds kind [] result }
         ensures not_ended { result.is_ended ≡ false }
     {
@@ -121,7 +122,7 @@ impl RowSource {
         self.reading
     }
 
-    /// Returns how many bytes it keeps: those that were given and haven't been read.
+    /// Returns how many bytes were given and haven't been read.
     pub fn kept(&self) -> usize
         ensures { result ≡ length self.now.unread }
     {
@@ -134,7 +135,7 @@ impl RowSource {
     ///
     /// An allocation fails.
     pub fn give(&mut self, block: &[u8]) -> Result<(), AllocError>
-        // The text is longer by the block; the rows left are the same as if the block were still to come.
+        // The text is longer by the block. The rows left are the same as if the block were still to be given.
         ensures given { OnOk result (self.old.is_ended ≡ false → HoldsMore self.old self.new block.now) }
         ensures left { OnOk result ((more : List ℕ) → left_with self.new more ≡ left_with self.old (block.now ++ more)) }
         ensures ended { self.new.is_ended ≡ self.old.is_ended }
@@ -142,7 +143,7 @@ impl RowSource {
         self.unread.append(self.alloc, block)
     }
 
-    /// Says that no more bytes come.
+    /// Ends the text: no more bytes are given.
     pub fn end(&mut self)
         // The text and the rows left are unchanged.
         ensures given { (kind : _) → (text : List ℕ) → Holds kind text self.old → Holds kind text self.new }
@@ -152,7 +153,7 @@ impl RowSource {
         self.is_ended = true;
     }
 
-    // What comes if no line ends in the bytes that haven't been read; `None` if it was a bad line, which was passed over.
+    // Returns what comes next if no line ends in the bytes that haven't been read, or `None` if they were a bad line that was skipped.
     fn next_unended(&mut self) -> Result<Option<Next>, InputFault>
         ensures meets { IfOk result (λ met. MeetsWhateverComes self.old met self.new) }
         ensures ended { self.new.is_ended ≡ self.old.is_ended }
@@ -172,7 +173,7 @@ impl RowSource {
         Ok(None)
     }
 
-    // What comes next; `None` if it was a bad line, which was passed over.
+    // Returns what comes next, or `None` if that was a bad line that was skipped.
     fn next_line(&mut self) -> Result<Option<Next>, InputFault>
         ensures meets { IfOk result (λ met. MeetsWhateverComes self.old met self.new) }
         ensures ended { self.new.is_ended ≡ self.old.is_ended }
@@ -194,20 +195,21 @@ impl RowSource {
         }
     }
 
-    /// Takes the next row. It returns `End` only after the last byte, whatever the form is and whether bad lines are skipped or not.
+    /// Takes and returns the next row. `End` is returned only after the last byte, in each form, and whether bad lines are skipped or not.
     ///
     /// # Errors
     ///
     /// A line is bad, or has no line feed, and bad lines aren't skipped; or an allocation fails.
     pub fn next_row(&mut self) -> Result<Next, InputFault>
-        // The next of the rows that are left was taken; or none, since none is known or none is left.
+        // The next of the rows that are left was taken; or no row was, because it isn't known yet or no row is left.
         ensures gives { IfOk result (λ next. GivesWhateverComes self.old next self.new) }
         ensures ended { self.new.is_ended ≡ self.old.is_ended }
 
-        // It wants bytes only before the end, and says `End` only once all bytes were read.
+        // `Wants` is returned only if the text hasn't ended, and `End` only if it has ended and all bytes were read.
         ensures wants { IfOk result (λ next. next ≡ Next.Wants → self.old.is_ended ≡ false) }
         ensures end { IfOk result (λ next. next ≡ Next.End → IsAtEnd self.new) }
     {
+        // A bound that shows that the loop ends: no text has 2^64 lines.
         'lines: for _read in 0..u64::MAX {
             if let Some(next) = self.next_line()? {
                 return Ok(next);
@@ -216,8 +218,8 @@ impl RowSource {
         Err(InputFault::Line(BadLine::CutOff))
     }
 
-    // The row taken last is bad: skips it if bad lines are skipped, else returns an error. Where `left_with` is `Some` (form `tsv`, bad lines
-    // rejected) it always returns the error.
+    // Skips the row that was taken last, which is bad, if bad lines are skipped; else returns an error. If `left_with` is `Some` (form
+    // `tsv`, bad lines rejected), it always returns the error.
     pub(crate) fn pass_over(&mut self, bad: BadLine) -> Result<(), InputFault>
         ensures known { (more : List ℕ) → IsSome (left_with self.old more) → IsErr result }
         ensures ended { self.new.is_ended ≡ self.old.is_ended }

@@ -12,7 +12,7 @@ use std::io::{self, Read};
 // How many bytes of the text are built at once, at least.
 const PART: usize = 1 << 16;
 
-/// The text of rows, from which parts are read. It allocates before the first part, and not afterwards.
+/// The text of rows, which is read in parts. [`RowText::new`] allocates, and reading doesn't.
 #[derive(Drop)]
 pub struct RowText<'a> {
     rows: Vec<(&'a String, usize)>,
@@ -37,7 +37,7 @@ fn longest(rows: &Vec<(&String, usize)>) -> usize {
     most
 }
 
-// Returns the room for the row of a token of this length. A byte is written as six at most, as `\\u0001`.
+// Returns how many bytes the row of a token of this length may have. A byte of it is written as six at most, as `\\u0001`.
 fn room(longest: usize) -> usize {
     longest.saturating_mul(6).saturating_add(64)
 }

@@ -1,7 +1,7 @@
 //! A line of counts: a token, a tab and a count.
 //!
-//! A tab, a line feed, a carriage return and a backslash in a token are written `\t`, `\n`, `\r` and `\\`. So each token is on one
-//! line, which is read as that token again.
+//! A tab, a line feed, a carriage return and a backslash in a token are written `\t`, `\n`, `\r` and `\\`. So each token is on one line,
+//! and is read again as the same token.
 ghost use Rattle.std.specs.Prelude.{◌≡◌, ◌≢◌, ◌∷◌, ◌++◌, ◌<◌, ℕ, [], List, Some, false, length, option_map, slice_index, string_bytes, IfNone, IfOk, IfSome, IsUtf8, OnOk};
 ghost use Rattle.hashbag_words_lib.specs.Rows.{byte_of, escaped, letter_of, row, shown_as, unescaped, AreSpaces, IfRow, IsLineOf, IsRead, IsUniqLineOf, ReadsByte};
 
@@ -33,7 +33,7 @@ fn escape_of(byte: u8) -> Option<u8>
     }
 }
 
-// Returns the byte that this letter means after a backslash.
+// Returns the byte that this letter means after a backslash, or `None` if it means none.
 fn meant_by(letter: u8) -> Option<u8>
     ensures { result ≡ byte_of letter }
 {
@@ -94,7 +94,7 @@ fn push_token(text: &mut Vec<u8>, token: &[u8]) -> Result<(), AllocError>
     Ok(())
 }
 
-// Appends the line of a token and its count, without its end.
+// Appends the line of a token and its count, without a line feed.
 pub(crate) fn push_cells(text: &mut Vec<u8>, token: &str, count: usize) -> Result<(), AllocError>
     ensures { OnOk result (text.new.items ≡ text.old.items ++ row token.now count) }
 {
@@ -117,8 +117,8 @@ pub fn push_row(text: &mut Vec<u8>, token: &str, count: usize) -> io::Result<()>
     Ok(())
 }
 
-// Reads the next byte of an escaped token. Returns whether it is a backslash that escapes the byte after it, or `None` if the byte before
-// it was such a backslash and this one is no escape letter.
+// Reads the next byte of an escaped token into `token`. `is_marked`: the byte before it is a backslash that escapes it. Returns whether
+// this byte is a backslash that escapes the next one, or `None` if it is escaped and is no escape letter.
 fn take_byte(token: &mut Vec<u8>, is_marked: bool, byte: u8) -> Result<Option<bool>, AllocError>
     ensures { IfOk result (λ marked. ReadsByte byte token.old.items is_marked token.new.items marked) }
 {
@@ -136,7 +136,7 @@ fn take_byte(token: &mut Vec<u8>, is_marked: bool, byte: u8) -> Result<Option<bo
     Ok(Some(false))
 }
 
-// Returns the bytes that are written like this, or `None` if there is a bad escape.
+// Returns the bytes whose escaped form is `written`, or `None` if `written` has a bad escape.
 fn unescape(alloc: Global, written: &[u8]) -> Result<Option<Vec<u8>>, AllocError>
     ensures { IfOk result (λ token. option_map (λ t. t.items) token ≡ unescaped false written.now) }
 {
@@ -154,7 +154,7 @@ fn unescape(alloc: Global, written: &[u8]) -> Result<Option<Vec<u8>>, AllocError
     Ok(Some(token))
 }
 
-// Returns the token with this written form, or `None` if there is none. Few tokens have a backslash. The others are written as they are.
+// Returns the token whose escaped form is `written`, or `None` if there is none. Without a backslash, as most are, it is the token itself.
 fn read_token(alloc: Global, written: &str) -> Result<Option<String>, AllocError>
     ensures token { IfOk result (λ token. IfSome token (λ t. unescaped false written.now ≡ Some (string_bytes t))) }
     ensures no_token { IfOk result (λ token. IfNone token ((t : List ℕ) → IsUtf8 t → unescaped false written.now ≢ Some t)) }
@@ -171,13 +171,13 @@ fn read_token(alloc: Global, written: &str) -> Result<Option<String>, AllocError
     Ok(Some(token))
 }
 
-/// Returns the token and the count of a line, or what is wrong with the line. It is given without its line feed.
+/// Returns the token and the count of a line, or why the line is bad. The line is given without its line feed.
 ///
 /// # Errors
 ///
-/// An allocation fails.
+/// The outer error is a failed allocation, the inner one a bad line.
 pub fn read_row(alloc: Global, line: &str) -> Result<Result<(String, usize), BadLine>, AllocError>
-    // A line of a token and a count is read as that row. A row that is returned is the line's.
+    // `row`: a line that was written from a token and a count is read as these. `line`: a row that is returned is what the line says.
     ensures row { IfOk result (λ read. IfRow RowForm.Tsv line.now (λ token count. IsRead token count read)) }
     ensures line { IfOk result (λ read. IfOk read (λ p. IsLineOf line.now (string_bytes p.0) p.1)) }
 {
@@ -205,18 +205,18 @@ fn past_spaces(line: &str) -> &str
     rest
 }
 
-/// Returns the token and the count of a line that `uniq -c` wrote, or what is wrong with the line. It is given without its line feed.
+/// Returns the token and the count of a line that `uniq -c` wrote, or why the line is bad. The line is given without its line feed.
 ///
 /// The token is everything after the space that follows the count.
 ///
 /// # Errors
 ///
-/// An allocation fails.
+/// The outer error is a failed allocation, the inner one a bad line.
 pub fn read_uniq_row(
     alloc: Global,
     line: &str,
 ) -> Result<Result<(String, usize), BadLine>, AllocError>
-    // A line of a token and a count is read as that row. A row that is returned is the line's.
+    // `row`: a line that was written from a token and a count is read as these. `line`: a row that is returned is what the line says.
     ensures row { IfOk result (λ read. IfRow RowForm.Uniq line.now (λ token count. IsRead token count read)) }
     ensures line { IfOk result (λ read. IfOk read (λ p. IsUniqLineOf line.now (string_bytes p.0) p.1)) }
 {

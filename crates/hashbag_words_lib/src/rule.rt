@@ -21,8 +21,8 @@ pub enum Pieces<'r> {
     Lines,
     /// The matches of a pattern, from left to right. An empty match is no piece.
     Matches(&'r Regex),
-    /// What the group with this index, from 0 after the whole match, has in each match of a pattern, from left to right. A group that took no part or has
-    /// nothing is no piece, nor is one that the pattern doesn't have.
+    /// What a group has in each match of a pattern, from left to right. Index 0 is the first group after the whole match. A group that took
+    /// no part, is empty, or isn't in the pattern is no piece.
     Groups(&'r Regex, usize),
     /// The field with this index, from 0. A line with fewer fields has no piece.
     Field(usize, Separator),
@@ -35,6 +35,6 @@ pub struct Rule<'r> {
     pub pieces: Pieces<'r>,
     /// Whether upper and lower case are counted as one, by Unicode's full case folding.
     pub fold: bool,
-    /// Whether bytes that aren't UTF-8 are replaced by U+FFFD. If not, a line that has some is bad.
+    /// Whether bytes that aren't UTF-8 are replaced by U+FFFD. If not, a line that has such bytes is bad.
     pub lossy: bool,
 }

@@ -1,4 +1,4 @@
-//! Runs: what a bag has, as rows of `tsv` whose tokens are in ascending order.
+//! Runs: the counts of a bag, as rows of `tsv` in ascending order of tokens.
 ghost use Rattle.std.specs.Prelude.{◌≡◌, ℕ, ◌+◌, List, [], length, IfOk};
 ghost use Rattle.hashbag.specs.Held.{cleared};
 ghost use Rattle.hashbag_words_lib.specs.RowText.{bytes_left};
@@ -11,7 +11,7 @@ use hashbag::{BagError, HashBag};
 use std::alloc::Global;
 use std::hash::BuildHasher;
 
-/// Returns the text of a run of a bag: rows of `tsv`, each token once, in ascending order of tokens. They are read again as these rows.
+/// Returns the text of a run of a bag: rows of `tsv`, each token once, in ascending order. Reading the text gives the same rows.
 ///
 /// # Errors
 ///
@@ -19,12 +19,12 @@ use std::hash::BuildHasher;
 ///
 /// # Complexity
 ///
-/// It allocates a list of all tokens, at once, and sorts it. Then it costs the same as [`RowText::new`].
+/// Allocates a list of all tokens, at once, and sorts it; then the same as [`RowText::new`].
 pub fn run_of<'b, S: BuildHasher + Drop>(
     alloc: Global,
     bag: &'b HashBag<String, S>,
 ) -> Result<RowText<'b>, BagError>
-    // `rows` are the bag's texts with their counts, tokens in ascending order, and are read again as they were written.
+    // `rows` are the bag's texts with their counts, in ascending order of tokens. They are read again as they were written.
     ensures { IfOk result (λ text. (rows : List (List ℕ × ℕ)) × IsRunOf bag.now rows × (bytes_left text ≡ run_text rows)) }
 {
     let rows = chosen(alloc, bag, Order::Rising)?;
@@ -32,9 +32,9 @@ pub fn run_of<'b, S: BuildHasher + Drop>(
     Ok(text)
 }
 
-/// Empties a bag of which a run was written.
+/// Empties a bag whose run was written.
 ///
-/// The limit of the bag falls by what it had. So counting fails at the same total with or without runs. The slots of the bag stay.
+/// The limit of the bag falls by the total that it had. So counting fails at the same total with or without runs. The bag keeps its slots.
 pub fn empty<S: BuildHasher + Drop>(bag: &mut HashBag<String, S>)
     ensures empty { bag.new.items ≡ [] }
     ensures limit { bag.new.most + length bag.old.items ≡ bag.old.most }

@@ -2,12 +2,12 @@
 ghost use Rattle.std.specs.Prelude.{◌≡◌, ◌<◌, IfSome};
 ghost use Rattle.hashbag_words_lib.specs.Shards.{fnv, is_in, is_shown};
 
-/// A shard: one of a number of parts of all tokens. Each token is in the part whose index is its hash modulo that number.
+/// A shard: one of `of` parts of all tokens. A token is in the part whose index is the hash of the token modulo `of`.
 ///
-/// So each token is in exactly one of the shards `0..of`, whatever the bag and the run of the program.
+/// So each token is in exactly one of the shards `0..of`, in every bag and in every run of the program.
 #[derive(Clone, Copy, Debug, PartialEq, Eq)]
 pub struct Shard {
-    /// Which part it is, from 0.
+    /// The index of the part, from 0.
     pub index: u64,
     /// How many parts there are.
     pub of: u64,
@@ -25,7 +25,7 @@ pub fn hash(text: &str) -> u64
 }
 
 impl Shard {
-    /// Returns the shard that is written as `I/N`, where `I` is from 1 to `N`, or `None` if the text isn't that.
+    /// Returns the shard that is written as `I/N`, with `I` from 1 to `N`, or `None` if the text isn't of this form.
     pub fn of_text(text: &str) -> Option<Shard>
         ensures { IfSome result (λ shard. shard.index < shard.of) }
     {
@@ -41,7 +41,7 @@ impl Shard {
         })
     }
 
-    /// Returns whether a token is in this shard. If there are no parts, none is.
+    /// Returns whether a token is in this shard. If `of` is 0, no token is.
     pub fn has(&self, token: &str) -> bool
         ensures { result ≡ is_in self.now token.now }
     {
@@ -49,7 +49,7 @@ impl Shard {
     }
 }
 
-// Returns whether a token is in the shard, or there is none.
+// Returns whether a token is in the shard; without a shard, every token is.
 pub(crate) fn is_shown(shard: Option<Shard>, token: &str) -> bool
     ensures { result ≡ is_shown shard token.now }
 {

@@ -5,7 +5,7 @@ ghost use Rattle.hashbag_words_lib.specs.Shares.{hundredths_of, rounded, two_dec
 use itoa::Buffer;
 use std::alloc::AllocError;
 
-// Returns a quotient: the nearest number, and the upper one of two that are equally near. By 0 it is 0.
+// Returns `n / d`, rounded to the nearest number, and up from the middle between two. Returns 0 if `d` is 0.
 pub(crate) fn rounded(n: u128, d: u128) -> u128
     requires { 2 * n + 2 * d < 2 ^ 128 }
     ensures { result ≡ rounded n d }
@@ -16,7 +16,7 @@ pub(crate) fn rounded(n: u128, d: u128) -> u128
     (2 * n + d) / (2 * d)
 }
 
-/// Appends the percent of the total that a count is, with two decimals.
+/// Appends a count as percent of the total, with two decimals.
 ///
 /// # Errors
 ///

@@ -50,8 +50,8 @@ impl<K: Sink> Sink for ShownRows<'_, K> {
     }
 }
 
-/// Keeps the most common of the rows that come: counts in descending order, then tokens in ascending order. It has one row more in memory
-/// than it keeps.
+/// Keeps the most common of the rows that come: counts in descending order, then tokens in ascending order. While a row is put, it has one row
+/// more in memory than it keeps.
 #[derive(Drop)]
 pub struct TopRows {
     // The last in that order is at the top of the heap.
@@ -88,7 +88,7 @@ impl Sink for TopRows {
     ghost use Rattle.std.specs.BinaryHeap.{heap_len};
     ghost use Rattle.hashbag_words_lib.specs.Top.{PutsTop};
 
-    // The first rows are kept of all that came, and no more than the most.
+    // Of all rows that came the first ones are kept, and never more than `most`.
     ghost put_gives = { λ old row new. (new.most ≡ old.most) × (heap_len old.kept ≤ old.most → heap_len new.kept ≤ new.most)
         × PutsTop old row new };
 

@@ -31,14 +31,14 @@ pub enum Shown<'b> {
     Bars(Vec<u8>),
 }
 
-// Returns the text of what is shown of a bag, of which `keep_shown` has removed all else.
+// Returns the text of a bag from which `keep_shown` has removed all that isn't shown.
 fn shown_text<'b, S: BuildHasher + Drop>(
     alloc: Global,
     bag: &'b HashBag<String, S>,
     choice: Choice<'_>,
     format: Format,
 ) -> Result<RowText<'b>, BagError>
-    // If the bag has what is shown of `texts`, the text is what is written of these.
+    // Whatever texts the bag was made of: if it has what is shown of them, this is what is written of them.
     ensures { IfOk result (λ text. IsTextOfKept choice.entry format bag.now (bytes_left text)) }
 {
     let rows = chosen(alloc, bag, choice.order)?;
@@ -46,14 +46,14 @@ fn shown_text<'b, S: BuildHasher + Drop>(
     Ok(text)
 }
 
-// Returns the text with bars of what is shown of a bag, for a terminal of that many columns. `keep_shown` has removed all else from the bag.
+// Returns the text with bars of a bag from which `keep_shown` has removed all that isn't shown, for a terminal of that many columns.
 fn shown_bars<S: BuildHasher + Drop>(
     alloc: Global,
     bag: &HashBag<String, S>,
     choice: Choice<'_>,
     width: usize,
 ) -> Result<Vec<u8>, BagError>
-    // If the bag has what is shown of `texts`, the text is what is written of these.
+    // Whatever texts the bag was made of: if it has what is shown of them, this is what is written of them.
     ensures { IfOk result (λ text. AreBarsOfKept choice.entry width bag.now text.items) }
 {
     let order = choice.order;

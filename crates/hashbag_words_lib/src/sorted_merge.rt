@@ -1,8 +1,8 @@
 //! Merges the rows of several sources, each with its tokens in ascending order, into one such stream: each token once, with the sum of its
 //! counts.
 //!
-//! A [`Merger`] is given bytes, so its clauses hold whatever they come from. In them `given` is what each source was given so far, and `out`
-//! are the rows that were returned.
+//! A [`Merger`] is given bytes, so its clauses hold for any source of the bytes. In the clauses, `given` has the text that each source was
+//! given so far, and `out` the rows that were returned.
 ghost use Rattle.std.specs.Prelude.{◌≡◌, ℕ, ◌+◌, ◌++◌, ◌<◌, ◌^◌, [], ◌∷◌, None, true, false, List, length, All, slice_index_or, string_bytes, IfOk, IfSome, OnOk};
 ghost use Rattle.hashbag_words_lib.specs.Merged.{count_of, AreBegun, FollowsWhatCameOut, HasMerged, HasMergedItsRuns, IsEnded, IsOpen, IsUnused, LengthensText, MayComeTo, TakesRowWhateverComes};
 ghost use Rattle.hashbag_words_lib.specs.Sorted.{count_held, one_of, shown_of, IsNoLater, Joins};
@@ -14,12 +14,12 @@ use crate::sources::Source;
 use hashbag::BagError;
 use std::alloc::AllocError;
 
-/// Takes rows, one after the other.
+/// Receives rows, one after the other.
 pub trait Sink {
-    /// What a row changes: the sink before, the bytes of the token and its count, and the sink after it.
+    /// What a row changes: the sink before, the row (the bytes of its token, and its count), and the sink after.
     ghost put_gives: { Self → List ℕ × ℕ → Self → Type 0 };
 
-    /// Takes a row.
+    /// Receives a row.
     fn put(&mut self, token: String, count: usize) -> Result<(), InputFault>
         ensures { OnOk result (put_gives self.old (string_bytes token, count) self.new) };
 }
@@ -29,24 +29,25 @@ pub trait Sink {
 pub enum Merged {
     /// A row: its token and its count.
     Row((String, usize)),
-    /// That isn't known before the source of this place is given more bytes, or is ended.
+    /// No row yet: the source with this index has to be given more bytes, or ended, first.
     Wants(usize),
-    /// Nothing: all rows are merged.
+    /// No row: all rows are merged.
     End,
 }
 
 /// Why a merge ends before all rows are merged.
 #[derive(Debug, Drop)]
 pub enum Stop {
-    /// The source of that place failed, or its rows aren't in ascending order, or with its next row the counts add up to more than `usize::MAX`.
+    /// The source with this index failed, its rows aren't in ascending order, or with its next row all counts add up to more than
+    /// `usize::MAX`.
     Source(usize, InputFault),
     /// The counts of one token add up to more than `usize::MAX`.
     TooMany,
-    /// An allocation failed that no source needed.
+    /// An allocation of the merge itself failed.
     Memory,
 }
 
-// Whether the next row of one source comes before that of another.
+// Returns whether the next row of `source` comes before the next row of `other`. A source without a row comes last.
 fn is_before(source: &Source, other: &Source) -> bool
     ensures less { result ≡ true → IsNoLater source.now.head other.now.head }
     ensures later { result ≡ false → IsNoLater other.now.head source.now.head }
@@ -58,7 +59,7 @@ fn is_before(source: &Source, other: &Source) -> bool
     }
 }
 
-// A source whose next row is the least.
+// Returns the index of a source whose next row is the least.
 fn least(sources: &[Source]) -> usize
     requires { 0 < length sources.now }
     ensures within { result < length sources.now }
@@ -73,7 +74,7 @@ fn least(sources: &[Source]) -> usize
     best
 }
 
-// The total with the count of a next row, or `None` if it doesn't fit.
+// Returns the total with the count of a next row, or `None` if the sum is more than `usize::MAX`.
 fn total_with(total: usize, head: &Option<Head>) -> Option<usize>
     ensures sum { IfSome result (λ sum. sum ≡ total + count_held head.now) }
     ensures fits { IfSome result (λ sum. sum < 2 ^ 64) }
@@ -84,7 +85,7 @@ fn total_with(total: usize, head: &Option<Head>) -> Option<usize>
     }
 }
 
-// Takes the least row of all sources, if the row after it is known, and adds its count to the total.
+// Takes the least row of all sources, if the row after it in its source is known, and adds its count to the total.
 fn take_least(sources: &mut Vec<Source>, total: &mut usize) -> Result<Merged, Stop>
     ensures taken { IfOk result (λ next. TakesRowWhateverComes sources.old.items next sources.new.items) }
     ensures total { IfOk result (λ next. total.new ≡ total.old + count_of next) }
@@ -113,7 +114,7 @@ fn take_least(sources: &mut Vec<Source>, total: &mut usize) -> Result<Merged, St
     }
 }
 
-// Takes a row behind the one that is held. If both have one token, their sum is held; else the row that was held is returned.
+// Adds the row to the held one if their tokens are equal. Else returns the held one, if there is one, and holds this row.
 fn join(
     held: &mut Option<(String, usize)>,
     row: (String, usize),
@@ -137,7 +138,7 @@ fn join(
     }
 }
 
-// Returns a row that is done, unless its count is 0.
+// Returns a row whose token doesn't come again, unless its count is 0.
 fn shown(done: Option<(String, usize)>) -> Option<(String, usize)>
     ensures { one_of result ≡ shown_of done }
 {
@@ -148,14 +149,14 @@ fn shown(done: Option<(String, usize)>) -> Option<(String, usize)>
     Some((token, count))
 }
 
-/// Merges the rows of sources whose tokens are in ascending order: gives each token of any of them once, in ascending order, with the sum of its
-/// counts, unless that is 0.
+/// Merges the rows of sources whose tokens are in ascending order: returns each token once, in ascending order, with the sum of its counts,
+/// unless the sum is 0.
 #[derive(Drop)]
 pub struct Merger {
     sources: Vec<Source>,
     // A row whose token may come again.
     held: Option<(String, usize)>,
-    // What the counts of all rows that were taken add up to.
+    // The sum of the counts of all rows that were taken.
     total: usize,
 }
 
@@ -185,21 +186,21 @@ impl Merger {
         self.sources.push(source).map_err(AllocError::from)
     }
 
-    /// The sources. A source that failed has read the line that it was found in.
+    /// Returns the sources. The reading of a source that failed includes the line that failed.
     pub fn sources(&self) -> &[Source]
         ensures { result.now ≡ self.now.sources.items }
     {
         &self.sources
     }
 
-    /// Returns what the counts of the rows that were taken add up to. At the end these are all rows of all sources.
+    /// Returns the sum of the counts of the rows that were taken. At the end these are all rows of all sources.
     pub fn total(&self) -> usize
         ensures { result ≡ self.now.total }
     {
         self.total
     }
 
-    /// Returns how many bytes the source of that place keeps, or 0 if there is no such source.
+    /// Returns how many unread bytes the source with this index keeps, or 0 if there is no such source.
     pub fn kept(&self, i: usize) -> usize {
         match self.sources.get(i) {
             Some(source) => source.rows.kept(),
@@ -207,13 +208,13 @@ impl Merger {
         }
     }
 
-    /// Gives the next bytes of the source of that place.
+    /// Gives the next bytes to the source with this index.
     ///
     /// # Errors
     ///
     /// An allocation fails.
     pub fn give(&mut self, i: usize, block: &[u8]) -> Result<(), AllocError>
-        // What was given to the source of place i is longer by the block.
+        // If source `i` hasn't ended, what it was given is longer by the block.
         ensures given { OnOk result (IsOpen self.old.sources.items i → LengthensText self.old self.new i block.now) }
         ensures wants { IsOpen self.old.sources.items i → IsOpen self.new.sources.items i }
         ensures many { length self.new.sources.items ≡ length self.old.sources.items }
@@ -224,9 +225,9 @@ impl Merger {
         Ok(())
     }
 
-    /// Says that no more bytes come for the source of that place.
+    /// Ends the source with this index: no more bytes are given to it.
     pub fn end(&mut self, i: usize)
-        // What was given is unchanged, and the source has ended.
+        // What the sources were given is unchanged, and source `i` has ended.
         ensures given { (given : _) → (out : List (List ℕ × ℕ)) → HasMerged given self.old out → HasMerged given self.new out }
         ensures ended { i < length self.old.sources.items → IsEnded self.new.sources.items i }
     {
@@ -235,22 +236,25 @@ impl Merger {
         }
     }
 
-    /// Returns the next row. It may be called again after `Merged::Wants`, once the source was given more bytes or was ended.
+    /// Returns the next row. After `Merged::Wants(i)`, it may be called again once source `i` was given more bytes or was ended.
     ///
     /// # Errors
     ///
-    /// `Stop::Source`: a line is bad, a row doesn't come after the one before it (`BadLine::NotInOrder`), the counts add up to more than
-    /// `usize::MAX`, or an allocation fails. Then the merger is of no use.
+    /// `Stop::Source` if a line is bad, a row doesn't come after the one before (`BadLine::NotInOrder`), all counts add up to more than
+    /// `usize::MAX`, or an allocation fails. Not `Stop::TooMany`: `Stop::Source` comes before it. After an error use only
+    /// [`Merger::sources`].
     ///
     /// # Complexity
     ///
-    /// A row that is taken needs a comparison with the next row of each source.
+    /// For each row that is taken, the next rows of all sources are compared.
     pub fn next_row(&mut self) -> Result<Merged, Stop>
-        // A row comes behind those in `out`; or a source wants bytes; or it is the end, `out` is the merge of all rows, and the total theirs.
+        // A row follows those of `out`; or a source wants bytes; or at the end `out` is the merge of all rows, and the total is the sum of
+        // their counts.
         ensures follows { IfOk result (λ next. FollowsWhatCameOut self.old next self.new) }
 
         // At the end, if the sources are runs that are read again as they were written, `out` is their merge.
         ensures runs { IfOk result (λ next. next ≡ Merged.End → HasMergedItsRuns self.old) }
+    // A bound that shows that the loop ends: there are never 2^64 rows.
     {
         'rows: for _row in 0..u64::MAX {
             match take_least(&mut self.sources, &mut self.total)? {

@@ -1,8 +1,8 @@
 //! Sorting rows by their tokens.
 //!
-//! The tokens lie apart in memory, and each is expensive to read. So the list has a number with each row, eight bytes of its token, by
-//! which it is sorted. Rows whose eight bytes are the same are a block, which is sorted by the next eight bytes, and so on. Each round
-//! reads each token of a block once, however many rows it has.
+//! The tokens lie apart in memory, and each is expensive to read. So the list has a number before each row, eight bytes of its token, and
+//! is sorted by these numbers. Rows with equal numbers are a block, which is sorted by the next eight bytes, and so on. Each round reads
+//! each token of a block once, however many rows the block has.
 ghost use Rattle.std.specs.Prelude.{◌≡◌, ℕ, ◌+◌, ◌*◌, ◌<◌, ◌≤◌, ◌^◌, length, take, drop, map, slice_index, All, IfOk};
 ghost use Rattle.std.specs.List.Sorted.{IsNonDecreasingBy, IsPermutation, IsSorted};
 ghost use Rattle.hashbag_words_lib.specs.Prefix.{lead, row_cmp, bare_row, number_of, HasWord, IsPrefixOf, IsWordAt, SortsFrom, SortsRuns};
@@ -20,7 +20,7 @@ fn byte_at(bytes: &[u8], i: usize) -> u8
     if i < bytes.len() { bytes[i] } else { 0 }
 }
 
-// Returns the eight bytes from this place on as a number, the first highest. The compiler reads them at once.
+// Returns the eight bytes from this place on as a big-endian number. The compiler turns the loop into one read.
 fn whole_word(bytes: &[u8], from: usize) -> u64
     requires { from + 8 ≤ length bytes.now }
     ensures { result ≡ lead 0 8 (drop from bytes.now) }
@@ -32,7 +32,7 @@ fn whole_word(bytes: &[u8], from: usize) -> u64
     number
 }
 
-// Returns the eight bytes from this place on as a number, the first highest, with 0 for each byte past the end.
+// Returns the eight bytes from this place on as a big-endian number, with 0 for each byte past the end.
 fn padded_word(bytes: &[u8], from: usize) -> u64
     requires { from < 2 ^ 63 }
     ensures { result ≡ lead 0 8 (drop from bytes.now) }
@@ -44,7 +44,7 @@ fn padded_word(bytes: &[u8], from: usize) -> u64
     number
 }
 
-// Returns the eight bytes of a text from this place on as a number, the first highest, with 0 for each that it lacks.
+// Returns the eight bytes of a text from this place on as a big-endian number, with 0 for each byte past the end.
 fn word(text: &str, from: usize) -> u64
     requires { from < 2 ^ 63 }
     ensures { IsWordAt from result text.now }
@@ -56,14 +56,14 @@ fn word(text: &str, from: usize) -> u64
     padded_word(bytes, from)
 }
 
-// Returns the first eight bytes of a text as a number, the first highest, with 0 for each that it lacks.
+// Returns the first eight bytes of a text as a big-endian number, with 0 for each byte past the end.
 pub(crate) fn prefix(text: &str) -> u64
     ensures { IsPrefixOf result text.now }
 {
     word(text, 0)
 }
 
-// Puts before each row the eight bytes of its token from this place on.
+// Writes before each row its number: the eight bytes of its token from place `from` on.
 fn put_words(rows: &mut [(u64, (&String, usize))], from: usize)
     requires { from < 2 ^ 63 }
     ensures rows { map bare_row rows.new ≡ map bare_row rows.old }
@@ -75,7 +75,7 @@ fn put_words(rows: &mut [(u64, (&String, usize))], from: usize)
     }
 }
 
-// Sorts rows by the eight bytes of their tokens from this place on, and puts these before each row.
+// Writes before each row its number, the eight bytes of its token from place `from` on, and sorts the rows by their numbers.
 fn sort_by_words(rows: &mut [(u64, (&String, usize))], from: usize)
     requires { from < 2 ^ 63 }
     ensures permutation { IsPermutation (map bare_row rows.old) (map bare_row rows.new) }
@@ -86,7 +86,7 @@ fn sort_by_words(rows: &mut [(u64, (&String, usize))], from: usize)
     rows.sort_unstable_by_key(|row| row.0);
 }
 
-// Sorts rows whose tokens agree before this place. The number beside each row is overwritten.
+// Sorts rows whose tokens agree before place `from`. The number before each row is overwritten.
 #[cycle(sorts)]
 fn sort_from(rows: &mut [(u64, (&String, usize))], from: usize, steps: usize)
     requires { from + 8 * steps < 2 ^ 63 }
@@ -96,7 +96,7 @@ fn sort_from(rows: &mut [(u64, (&String, usize))], from: usize, steps: usize)
     sort_runs(rows, from, steps);
 }
 
-// Sorts rows whose tokens agree before this place, and whose numbers are in ascending order: those are the eight bytes from there on.
+// Sorts rows whose tokens agree before place `from`, and whose numbers are the eight bytes from `from` on, in ascending order.
 #[cycle(sorts)]
 fn sort_runs(rows: &mut [(u64, (&String, usize))], from: usize, steps: usize)
     requires { from + 8 * steps < 2 ^ 63 }
@@ -116,7 +116,7 @@ fn sort_runs(rows: &mut [(u64, (&String, usize))], from: usize, steps: usize)
         return;
     }
     let middle = rows[n / 2].0;
-    // If all numbers of the first half are equal, their rows are split off. So neither part is empty.
+    // If all numbers of the first half are equal, the rows with that number are split off. So neither part is empty.
     let least = if first < middle {
         middle
     } else {
@@ -125,7 +125,7 @@ fn sort_runs(rows: &mut [(u64, (&String, usize))], from: usize, steps: usize)
     sort_cut(rows, least, from, steps - 1);
 }
 
-// Splits the rows at `least`, and sorts each part as `sort_runs` does: those whose number is below it, and the others.
+// Splits the rows into those whose number is below `least` and the others, and sorts each part as `sort_runs` does.
 #[cycle(sorts)]
 fn sort_cut(rows: &mut [(u64, (&String, usize))], least: u64, from: usize, steps: usize)
     requires { from + 8 * steps < 2 ^ 63 }
@@ -186,7 +186,7 @@ fn without_numbers<'a>(
     Ok(made)
 }
 
-/// Returns the rows, tokens in ascending order, and of one token the lesser count first.
+/// Returns the rows in ascending order of tokens, and rows of one token in ascending order of counts.
 ///
 /// # Errors
 ///
@@ -194,8 +194,8 @@ fn without_numbers<'a>(
 ///
 /// # Complexity
 ///
-/// It allocates two lists, each at once. It compares numbers of eight bytes as often as a sort of the rows does, and reads each token once
-/// for each eight bytes that another token has too. Tokens that share hundreds of bytes are compared whole.
+/// Allocates two lists, each at once. Compares numbers of eight bytes as often as a sort of the rows does, and reads each token once for
+/// each eight bytes that it shares with another token. Tokens that share hundreds of bytes are compared whole.
 pub fn sort_rows<'a>(
     alloc: Global,
     rows: Vec<(&'a String, usize)>,

@@ -101,6 +101,7 @@ impl Source {
         };
         match mem::replace(&mut self.head, next) {
             Some(head) => Ok(Next::Row(head.into_row())),
+            // Never: the head was `Some` above.
             None => Ok(Next::End),
         }
     }

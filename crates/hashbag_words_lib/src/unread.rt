@@ -8,7 +8,7 @@ use std::marker::Model;
 #[derive(Drop)]
 pub struct Unread {
     bytes: Vec<u8>,
-    // How many of them have been read.
+    // How many of the bytes have been read.
     read: usize,
 }
 
@@ -23,7 +23,7 @@ impl Model for Unread {
 }
 
 impl Unread {
-    /// Returns no bytes.
+    /// Returns an empty list of bytes.
     pub fn new(alloc: Global) -> Unread
         ensures { result ≡ [] }
     {
@@ -31,14 +31,14 @@ impl Unread {
         Unread { bytes, read: 0 }
     }
 
-    /// The bytes.
+    /// Returns the bytes that haven't been read.
     pub fn bytes(&self) -> &[u8]
         ensures { result.now ≡ self.now }
     {
         &self.bytes[self.read..]
     }
 
-    /// Notes that the first `n` of them have been read.
+    /// Notes that the first `n` of these bytes have been read.
     pub fn skip(&mut self, n: usize)
         requires { n ≤ length self.old }
         ensures { self.new ≡ drop n self.old }
@@ -46,7 +46,7 @@ impl Unread {
         self.read += n;
     }
 
-    /// Adds a block behind them.
+    /// Appends a block.
     ///
     /// # Errors
     ///
@@ -54,7 +54,8 @@ impl Unread {
     ///
     /// # Complexity
     ///
-    /// Copies the block, and the bytes that haven't been read if others were. So a line of many blocks is copied a few times in all.
+    /// Copies the block, and also the unread bytes if bytes were read since the last call. So a line of many blocks is copied a few times
+    /// in all.
     pub fn append(&mut self, alloc: Global, block: &[u8]) -> Result<(), AllocError>
         ensures ok { OnOk result (self.new ≡ self.old ++ block.now) }
         ensures err { OnErr result (self.new ≡ self.old) }

@@ -14,7 +14,7 @@ use std::mem;
 pub enum Format {
     /// A line for each token: the token, a tab, the count.
     Tsv,
-    /// The same, then a tab, and the percent of this total that the count is.
+    /// The line of `Tsv`, then a tab, and the count as percent of this total.
     Shares(usize),
     /// One line: a JSON array of pairs of a token and its count.
     Json,
@@ -44,7 +44,7 @@ impl Format {
     }
 }
 
-// Appends a line with the percent of the total.
+// Appends a line with the count as percent of the total.
 fn push_with_share(
     text: &mut Vec<u8>,
     total: usize,
@@ -67,7 +67,7 @@ fn push_uniq(text: &mut Vec<u8>, token: &str, count: usize) -> io::Result<()>
     writeln!(text, "{count:7} {token}")
 }
 
-// Writes a pair of JSON.
+// Writes a token and its count as a JSON array.
 fn write_pair(writer: &mut Writer, token: &str, count: usize) -> Result<(), AllocError>
     ensures before { writer.new.before ≡ writer.old.before }
     ensures tokens { OnOk result (writer.new.tokens ≡ writer.old.tokens ++ pair_tokens (token.now, count)) }
@@ -78,7 +78,7 @@ fn write_pair(writer: &mut Writer, token: &str, count: usize) -> Result<(), Allo
     writer.end_array()
 }
 
-// Appends a pair of JSON.
+// Appends a token and its count as a JSON array.
 fn push_pair(text: &mut Vec<u8>, token: &str, count: usize) -> Result<(), AllocError>
     ensures { OnOk result (text.new.items ≡ text.old.items ++ pair_text (token.now, count)) }
 {
@@ -89,7 +89,7 @@ fn push_pair(text: &mut Vec<u8>, token: &str, count: usize) -> Result<(), AllocE
     done
 }
 
-/// Appends the row of a token and its count. In JSON a comma comes before each but the first.
+/// Appends the row of a token and its count. In JSON a comma comes before each row but the first.
 ///
 /// # Errors
 ///

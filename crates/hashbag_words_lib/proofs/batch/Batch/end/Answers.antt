@@ -1,4 +1,4 @@
-use Rattle.std.proofs.Common.{◌≡◌, ◌<◌, List, length, subst, arith}
+use Rattle.std.proofs.Common.{◌≡◌, ◌<◌, List, length, refl, subst, arith}
 use Rattle.hashbag_words_lib.specs.declared.sources.Source.{Source}
 use Rattle.hashbag_words_lib.proofs.BatchLemmas.{merging_of, taken_merged}
 use Rattle.hashbag_words_lib.proofs.batch.Batch.end.Goals as goal
@@ -15,4 +15,5 @@ returns-then-self-sources c = record {
       let self = c.args.self.now in
       let low : self.wanted < length self.merger.sources.items = subst (λ (l : List Source). self.wanted < length l) c.sources.ensures c.if-self-sources.true in
       absurd (omega arith);
+  same = refl;
 }

@@ -9,11 +9,11 @@ pub returns-clause-fed : goal.returns-clause-fed
 returns-clause-fed c = λ rows later fed run kept written.
     let self = c.args.self.now in
     subst (λ (l : List ℕ). AreKept [] (self.files.items ++ l) c.in-Some.next later (fed ++ run ∷ [])) (sym c.in_ok-push.ensures)
-    (kept_fed self.files.items (runs_in self.kept) self.made c.in-Some.next rows later fed run c.in-Some.ensures.1 written kept)
+    (kept_fed self.files.items (runs_in self.kept) self.next_number c.in-Some.next rows later fed run c.in-Some.ensures.1 written kept)
 
 -- a merge was written
 pub returns-clause-merged : goal.returns-clause-merged
 returns-clause-merged c = λ rows later fed run taken kept merge written.
     let self = c.args.self.now in
     subst (λ (l : List ℕ). AreKept [] (self.files.items ++ l) c.in-Some.next later fed) (sym c.in_ok-push.ensures)
-    (kept_merged self.files.items (runs_in self.kept) self.made c.in-Some.next rows later fed run c.in-Some.ensures.1 written taken kept merge)
+    (kept_merged self.files.items (runs_in self.kept) self.next_number c.in-Some.next rows later fed run c.in-Some.ensures.1 written taken kept merge)

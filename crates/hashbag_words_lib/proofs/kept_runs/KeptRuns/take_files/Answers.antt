@@ -21,6 +21,6 @@ returns-clause-taken c =
     ∙ ap (λ (l : List ℕ). l ++ drop c.min.result self.files.items) (sym first)
     ∙ ap (λ (l : List ℕ). numbers.items ++ l) (sym (ap (λ v. v.items) c.replace-numbers.ensures.after ∙ c.in_ok-later.ensures.tail)) in
     let all : self.files.items ++ runs ≡ numbers.items ++ (later ++ runs) = ap (λ (l : List ℕ). l ++ runs) files ∙ append_assoc numbers.items later runs in
-    taken_numbers self.made rows fed numbers (later ++ runs) full is
-    (kept_first self.made rows fed numbers.items (later ++ runs) (subst (λ (l : List ℕ). AreKept [] l self.made rows fed) all kept)))
+    taken_numbers self.next_number rows fed numbers (later ++ runs) full is
+    (kept_first self.next_number rows fed numbers.items (later ++ runs) (subst (λ (l : List ℕ). AreKept [] l self.next_number rows fed) all kept)))
     c.run_of.ensures.numbers

@@ -15,6 +15,6 @@ returns-in-Some-clause-taken c =
     let left = runs_in c.take_full.new.self in
     let sixteen = subst (λ t. TakesSixteen self.kept t c.take_full.new.self) c.in-Some.is c.in_ok-numbers.ensures.taken in
     let all : files ++ runs_in self.kept ≡ (files ++ left) ++ c.in-Some.numbers.items = ap (λ (l : List ℕ). files ++ l) sixteen.0 ∙ sym (append_assoc files left c.in-Some.numbers.items) in
-    taken_numbers self.made rows fed c.in-Some.numbers (files ++ left) full is
-    (kept_last self.made rows fed (files ++ left) c.in-Some.numbers.items (subst (λ (l : List ℕ). AreKept [] l self.made rows fed) all kept)))
+    taken_numbers self.next_number rows fed c.in-Some.numbers (files ++ left) full is
+    (kept_last self.next_number rows fed (files ++ left) c.in-Some.numbers.items (subst (λ (l : List ℕ). AreKept [] l self.next_number rows fed) all kept)))
     c.run_of.ensures.numbers

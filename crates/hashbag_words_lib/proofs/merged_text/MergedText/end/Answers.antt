@@ -8,4 +8,5 @@ returns c = record {
       put_as given given self.batch c.end.new.self self.rows.choice self.top self.bars self.rows.sink self.is_over taken going (c.end.ensures.given wants given) put;
   merged = c.end.ensures.merged;
   opening = c.end.ensures.opening;
+  numbers = c.end.ensures.same;
 }

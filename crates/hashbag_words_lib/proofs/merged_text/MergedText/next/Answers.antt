@@ -1,35 +1,36 @@
-use Rattle.std.proofs.Common.{◌∙◌, subst}
+use Rattle.std.proofs.Common.{◌∙◌, ap, subst}
 use Rattle.hashbag_words_lib.specs.Batches.{FollowsIn}
 use Rattle.hashbag_words_lib.proofs.MergedTextLemmas.{put_after, put_end, put_next, put_wants}
 use Rattle.hashbag_words_lib.proofs.merged_text.MergedText.next.Goals as goal
 
 -- the end of the text was built before
-pub returns-then-self : goal.returns-then-self
-returns-then-self c = λ given taken put. put_after given c.args.self.now taken c.after_end.result c.if-self.true c.after_end.ensures.wants c.after_end.ensures.part put
+pub returns-then-self-clause-next : goal.returns-then-self-clause-next
+returns-then-self-clause-next c = λ given taken put. put_after given c.args.self.now taken c.after_end.result c.if-self.true c.after_end.ensures.wants c.after_end.ensures.part put
 
 -- a row was put, and the part is long enough
-pub returns-then-part-ge-PART : goal.returns-then-part-ge-PART
-returns-then-part-ge-PART c = λ given taken put.
+pub returns-then-part-ge-PART-clause-next : goal.returns-then-part-ge-PART-clause-next
+returns-then-part-ge-PART-clause-next c = λ given taken put.
     put_next given c.rows.self c.put.new.self c.next_row.new.self c.in_ok-token.field-0 (c.in-Row.token, c.in-Row.count) taken c.rows.invariant.going c.in-Row.is c.in_ok-token.ensures.follows
-    c.in_ok-put-in-Row.ensures.elsewhere.0 c.in_ok-put-in-Row.ensures.put c.in_ok-put-in-Row.ensures.over (c.rows.invariant.put given taken put)
+    c.in_ok-put-in-Row.ensures.elsewhere c.in_ok-put-in-Row.ensures.put c.in_ok-put-in-Row.ensures.over (c.rows.invariant.put given taken put)
 
 -- a row was put
 pub rows-preserved : goal.rows-preserved
 rows-preserved c = record {
   put = λ given taken put.
       put_next given c.rows.self c.put.new.self c.next_row.new.self c.in_ok-token.field-0 (c.in-Row.token, c.in-Row.count) taken c.rows.invariant.going c.in-Row.is c.in_ok-token.ensures.follows
-      c.in_ok-put-in-Row.ensures.elsewhere.0 c.in_ok-put-in-Row.ensures.put c.in_ok-put-in-Row.ensures.over (c.rows.invariant.put given taken put);
+      c.in_ok-put-in-Row.ensures.elsewhere c.in_ok-put-in-Row.ensures.put c.in_ok-put-in-Row.ensures.over (c.rows.invariant.put given taken put);
   going = c.in_ok-put-in-Row.ensures.over ∙ c.rows.invariant.going;
+  numbers = ap (λ b. b.numbers) c.in_ok-put-in-Row.ensures.elsewhere.0 ∙ c.next_row.ensures.same ∙ c.rows.invariant.numbers;
 }
 
 -- a text wants bytes
-pub returns-in-Wants : goal.returns-in-Wants
-returns-in-Wants c = λ given taken put.
+pub returns-in-Wants-clause-next : goal.returns-in-Wants-clause-next
+returns-in-Wants-clause-next c = λ given taken put.
     put_wants given c.rows.self c.next_row.new.self c.in_ok-token.field-0 c.in-Wants.number taken c.rows.invariant.going c.in-Wants.is c.in_ok-token.ensures.follows (c.rows.invariant.put given taken put)
 
 -- all rows are merged
-pub returns-in-End : goal.returns-in-End
-returns-in-End c = λ given taken put.
+pub returns-in-End-clause-next : goal.returns-in-End-clause-next
+returns-in-End-clause-next c = λ given taken put.
     let was = c.rows.invariant.put given taken put in
     let ends = c.in_ok-build_end-in-End.ensures in
     let same = ends.elsewhere in

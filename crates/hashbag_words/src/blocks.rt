@@ -1,0 +1,146 @@
+//! The inputs that the system has, which are read block by block: files, and standard input, which is named `-`.
+ghost use Rattle.hashbag_words_lib.specs.BlockReaders.{begun_in, ended_in, last_in};
+
+use crate::input::Input;
+use hashbag_shell::input::{read_file, said};
+use hashbag_shell::progress::Progress;
+use hashbag_shell::status::BAD_INPUT;
+use hashbag_shell::trouble::{Trouble, plural};
+use hashbag_words_lib::block_reader::BlockReader;
+use hashbag_words_lib::inputs::Blocks;
+use hashbag_words_lib::lines::LinesRead;
+
+/// The inputs that the system has. Progress is reported.
+#[derive(Drop)]
+pub struct HostBlocks<'s, 'a> {
+    rt: &'s HostRuntime,
+    progress: Progress,
+    // Whether an input is rejected whose first bytes show another format than UTF-8.
+    is_checked: bool,
+    // Whether no block of the input that is open was read.
+    is_first: bool,
+    // What messages call it.
+    name: &'a str,
+    reader: BlockReader<'a, Input>,
+}
+
+// Returns the format these first bytes show, if it isn't UTF-8, and a command that converts it.
+fn kind_of(block: &[u8]) -> Option<&'static str> {
+    if block.starts_with(b"\x1f\x8b") {
+        return Some("gzip; `zcat` makes it text");
+    }
+    if block.starts_with(b"\xff\xfe") || block.starts_with(b"\xfe\xff") {
+        return Some("UTF-16; `--encoding UTF-16` reads it");
+    }
+    None
+}
+
+impl<'s, 'a> HostBlocks<'s, 'a> {
+    /// Returns the inputs, of which none was read. `is_checked` says whether one is rejected whose first bytes show another format than UTF-8.
+    pub fn new(rt: &'s HostRuntime, progress: Progress, is_checked: bool) -> HostBlocks<'s, 'a> {
+        HostBlocks {
+            rt,
+            progress,
+            is_checked,
+            is_first: false,
+            name: "",
+            reader: BlockReader::new(rt.alloc()),
+        }
+    }
+
+    // Returns why an input with these first bytes is rejected, if it is.
+    fn other_kind(&self, name: &'a str, block: &[u8]) -> Option<Trouble<'a>> {
+        if !self.is_checked {
+            return None;
+        }
+        let kind = kind_of(block)?;
+        let what = format!(in self.rt.alloc(); "{name}: {kind}");
+        Some(Trouble::with_status(what, BAD_INPUT))
+    }
+
+    /// Reads the whole input of that name.
+    ///
+    /// # Errors
+    ///
+    /// Why it can't be read.
+    pub fn read_whole(&mut self, name: &'a str) -> Result<Vec<u8>, Trouble<'a>> {
+        let bytes = match read_file(self.rt, &mut self.progress, name) {
+            Ok(bytes) => bytes,
+            Err(Trouble::File { error, .. }) => return Err(Trouble::of_file(said(name), error)),
+            Err(trouble) => return Err(trouble),
+        };
+        match self.other_kind(said(name), &bytes) {
+            Some(trouble) => Err(trouble),
+            None => Ok(bytes),
+        }
+    }
+
+    /// Erases the report that a terminal shows.
+    pub fn erase(&mut self) {
+        self.progress.erase(self.rt);
+    }
+}
+
+impl<'a> Blocks<'a> for HostBlocks<'_, 'a> {
+    ghost ended = { λ blocks. ended_in blocks.reader };
+
+    ghost begun = { λ blocks. begun_in blocks.reader };
+
+    ghost last = { λ blocks. last_in blocks.reader };
+
+    fn open(&mut self, name: &'a str) -> Result<(), Trouble<'a>> {
+        match Input::open(self.rt, name) {
+            Ok(input) => self.reader.begin(self.rt.alloc(), name, input)?,
+            Err(error) => return Err(Trouble::of_file(said(name), error)),
+        }
+        self.is_first = true;
+        self.name = said(name);
+        Ok(())
+    }
+
+    fn read(&mut self) -> Result<(), Trouble<'a>> {
+        let n = self.reader.block().len();
+        if n > 0 {
+            self.progress.tell(self.rt, self.name, n);
+        }
+        if let Err(error) = self.reader.read() {
+            return Err(Trouble::of_file(self.name, error));
+        }
+        if self.is_first
+            && let Some(trouble) = self.other_kind(self.name, self.reader.block())
+        {
+            return Err(trouble);
+        }
+        self.is_first = false;
+        Ok(())
+    }
+
+    fn block(&self) -> &[u8] {
+        self.reader.block()
+    }
+
+    fn report_nul(&mut self, name: &str) {
+        self.progress.erase(self.rt);
+        let _ = eprintln!(self.rt;
+            "hashbag_words: {name}: it has NUL bytes; if it is UTF-16, `--encoding UTF-16LE`"
+        );
+    }
+
+    fn report(&mut self, name: &str, reading: &LinesRead) {
+        if reading.skipped > 0 || reading.replaced > 0 {
+            self.progress.erase(self.rt);
+        }
+        if reading.skipped > 0 {
+            let skipped = reading.skipped;
+            let s = plural(&skipped);
+            let _ = eprintln!(self.rt; "hashbag_words: {name}: {skipped} bad line{s} skipped");
+        }
+        if reading.replaced > 0 {
+            let replaced = reading.replaced;
+            let s = plural(&replaced);
+            let _ = eprintln!(self.rt;
+                "hashbag_words: {name}: bytes replaced in {replaced} line{s}"
+            );
+        }
+    }
+}

@@ -1,0 +1,11 @@
+use Rattle.std.proofs.Common.{◌≡◌}
+use Rattle.hashbag_words_lib.specs.Numbered.{GivesRead, Wanted}
+use Rattle.hashbag_words_lib.proofs.numbered.give.Given as goal
+
+-- what was read so far was given, and the text is still wanted
+abbrev pub invariant-reads : goal.invariant-reads
+invariant-reads g l = record {
+  given : GivesRead l.number (g.T.NumberedTexts.bytes_read l.fn.texts) l.fn.text (g.T.NumberedTexts.bytes_read l.texts) l.text;
+  wanted : Wanted l.number l.fn.text → Wanted l.number l.text;
+  numbers : l.text.batch.numbers ≡ l.fn.text.batch.numbers;
+}

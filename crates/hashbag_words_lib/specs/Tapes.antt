@@ -1,0 +1,16 @@
+-- The bytes that a tape stands for.
+use Rattle.std.specs.Prelude.{ℕ, List, [], ◌++◌, take, Option, None, Some}
+use Rattle.std.specs.declared.snapshot.Snapshot.{Snapshot}
+use Rattle.hashbag_words_lib.specs.declared.tape.Part.{Part, Part', Held-Part-before, None', Some'}
+
+abbrev mutual
+  pub bytes_of : Part → List ℕ
+  bytes_of (Part' before block n) = bytes_before before ++ take n block.value.items
+
+  pub bytes_before : Held-Part-before → List ℕ
+  bytes_before None' = []
+  bytes_before (Some' s b) = bytes_of b
+
+abbrev pub bytes_in : Option (Snapshot Part) → List ℕ
+bytes_in None = []
+bytes_in (Some s) = bytes_of s.value

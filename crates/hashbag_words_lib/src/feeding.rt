@@ -1,0 +1,215 @@
+//! Counting in a bag that is emptied into runs whenever it is full.
+//!
+//! What counts is a [`Counter`], and a [`KeepsRuns`] keeps the runs. In the clauses `has` says what a bag and runs have together: what is counted of
+//! texts that ended, and of one that has begun.
+ghost use Rattle.std.specs.Prelude.{◌≡◌, ℕ, List, [], ◌∷◌, ◌++◌, IfOk, OnOk};
+ghost use Rattle.hashbag_words_lib.specs.Counted.{fed_of, IsWithin};
+ghost use Rattle.hashbag_words_lib.specs.Feeding.{EndsIn, EndsText, FeedsIn, HasAlso, HasStill, KeepsRun, MakesRunsIn};
+ghost use Rattle.hashbag_words_lib.specs.RowText.{bytes_left};
+ghost use Rattle.hashbag_words_lib.specs.Runs.{run_text};
+
+use crate::counter::{Fed, TextCounter};
+use crate::errors::InputFault;
+use crate::lines::LinesRead;
+use crate::row_counter::RowCounter;
+use crate::row_text::RowText;
+use crate::troubles::of_input;
+use hashbag::BagError;
+use hashbag_shell::trouble::Trouble;
+use std::alloc::Global;
+use std::hash::BuildHasher;
+
+/// Counts what texts have, which are fed in blocks. Its bag may be emptied into runs.
+pub trait Counter {
+    /// Holds of runs, of texts that ended and of a text that has begun, if the bag and these runs together have what is counted of these texts.
+    ghost has: { Self → List (List (List ℕ × ℕ)) → List (List ℕ) → List ℕ → Type 0 };
+
+    /// Holds of rows that are a run of the bag.
+    ghost is_run: { Self → List (List ℕ × ℕ) → Type 0 };
+
+    /// Counts what a block brings, as far as the bag has room.
+    ///
+    /// # Errors
+    ///
+    /// What is wrong with a line. Then the counter is of no use.
+    fn feed(&mut self, block: &[u8]) -> Result<Fed, InputFault>
+        ensures counted { IfOk result (λ fed. HasAlso has self.old self.new (fed_of fed block.now)) }
+        ensures within { IfOk result (λ fed. IsWithin fed block.now) };
+
+    /// Ends a text. Returns how its lines were read.
+    ///
+    /// # Errors
+    ///
+    /// What is wrong with its last line. Then the counter is of no use.
+    fn end(&mut self) -> Result<LinesRead, InputFault>
+        ensures { OnOk result (EndsText has self.old self.new) };
+
+    /// Returns how the lines of the present text were read.
+    fn reading(&self) -> LinesRead;
+
+    /// Returns whether the bag is full.
+    fn is_full(&mut self) -> bool
+        ensures { HasStill has self.old self.new };
+
+    /// Returns the text of a run of the bag.
+    ///
+    /// # Errors
+    ///
+    /// `Memory` if an allocation fails.
+    fn run(&self) -> Result<RowText<'_>, BagError>
+        ensures { IfOk result (λ text. (rows : List (List ℕ × ℕ)) × is_run self.now rows × (bytes_left text ≡ run_text rows)) };
+
+    /// Empties the bag, since a run of it was kept.
+    fn end_run(&mut self)
+        ensures { (rows : List (List ℕ × ℕ)) → is_run self.old rows → KeepsRun has self.old self.new rows };
+}
+
+impl<S: BuildHasher + Drop> Counter for TextCounter<'_, S> {
+    ghost use Rattle.hashbag_words_lib.specs.Feeding.{HasCountedTexts};
+    ghost use Rattle.hashbag_words_lib.specs.Runs.{IsRunOf};
+
+    ghost has = { HasCountedTexts };
+
+    ghost is_run = { λ counter rows. IsRunOf counter.bag rows };
+
+    fn feed(&mut self, block: &[u8]) -> Result<Fed, InputFault> {
+        TextCounter::feed(self, block)
+    }
+
+    fn end(&mut self) -> Result<LinesRead, InputFault> {
+        self.end_text()
+    }
+
+    fn reading(&self) -> LinesRead {
+        TextCounter::reading(self)
+    }
+
+    fn is_full(&mut self) -> bool {
+        TextCounter::is_full(self)
+    }
+
+    fn run(&self) -> Result<RowText<'_>, BagError> {
+        TextCounter::run(self)
+    }
+
+    fn end_run(&mut self) {
+        TextCounter::end_run(self)
+    }
+}
+
+impl<S: BuildHasher + Drop> Counter for RowCounter<S> {
+    ghost use Rattle.hashbag_words_lib.specs.Feeding.{HasAddedTexts};
+    ghost use Rattle.hashbag_words_lib.specs.Runs.{IsRunOf};
+
+    ghost has = { HasAddedTexts };
+
+    ghost is_run = { λ counter rows. IsRunOf counter.bag rows };
+
+    fn feed(&mut self, block: &[u8]) -> Result<Fed, InputFault> {
+        RowCounter::feed(self, block)
+    }
+
+    fn end(&mut self) -> Result<LinesRead, InputFault> {
+        self.end_file()
+    }
+
+    fn reading(&self) -> LinesRead {
+        RowCounter::reading(self)
+    }
+
+    fn is_full(&mut self) -> bool {
+        RowCounter::is_full(self)
+    }
+
+    fn run(&self) -> Result<RowText<'_>, BagError> {
+        RowCounter::run(self)
+    }
+
+    fn end_run(&mut self) {
+        RowCounter::end_run(self)
+    }
+}
+
+/// Keeps runs.
+pub trait KeepsRuns<'a> {
+    /// The texts of the runs that were kept, in order.
+    ghost kept: { Self → List (List ℕ) };
+
+    /// Keeps a run of this text.
+    ///
+    /// # Errors
+    ///
+    /// Why it isn't kept.
+    fn keep(&mut self, text: &mut RowText<'_>) -> Result<(), Trouble<'a>>
+        ensures { OnOk result (kept self.new ≡ kept self.old ++ bytes_left text.old ∷ []) };
+}
+
+// Keeps a run of what is in the bag, and empties the bag. Without runs nothing changes.
+fn make_run<'a, C: Counter, R: KeepsRuns<'a>>(
+    counter: &mut C,
+    runs: &mut Option<R>,
+) -> Result<(), Trouble<'a>>
+    ensures { OnOk result (MakesRunsIn C.has R.kept counter.old counter.new runs.old runs.new) }
+{
+    let Some(runs) = runs else {
+        return Ok(());
+    };
+    match counter.run() {
+        Ok(mut text) => runs.keep(&mut text)?,
+        Err(_refused) => return Err(Trouble::Memory),
+    }
+    counter.end_run();
+    Ok(())
+}
+
+/// Counts all that a block of the text `name` brings. Each time the bag is full, a run is kept and the bag is emptied.
+///
+/// # Errors
+///
+/// What is wrong with a line, or why a run isn't kept.
+pub fn feed<'a, C: Counter, R: KeepsRuns<'a>>(
+    alloc: Global,
+    counter: &mut C,
+    runs: &mut Option<R>,
+    name: &'a str,
+    block: &[u8],
+) -> Result<(), Trouble<'a>>
+    // The bag and all runs have what is counted of the whole block too.
+    ensures { OnOk result (FeedsIn C.has R.kept counter.old counter.new runs.old runs.new block.now) }
+{
+    let mut rest = block;
+    'parts: loop {
+        match counter.feed(rest) {
+            Ok(Fed::Whole) => return Ok(()),
+            Ok(Fed::Full(n)) => {
+                make_run(counter, runs)?;
+                rest = &rest[n..];
+            }
+            Err(fault) => return Err(of_input(alloc, name, counter.reading().line, fault)),
+        }
+    }
+}
+
+/// Ends the text `name`. Returns how its lines were read.
+///
+/// # Errors
+///
+/// What is wrong with its last line, or why a run isn't kept.
+pub fn end<'a, C: Counter, R: KeepsRuns<'a>>(
+    alloc: Global,
+    counter: &mut C,
+    runs: &mut Option<R>,
+    name: &'a str,
+) -> Result<LinesRead, Trouble<'a>>
+    // The bag and all runs have what is counted of the whole text, and the next text hasn't begun.
+    ensures { OnOk result (EndsIn C.has R.kept counter.old counter.new runs.old runs.new) }
+{
+    let reading = match counter.end() {
+        Ok(reading) => reading,
+        Err(fault) => return Err(of_input(alloc, name, counter.reading().line, fault)),
+    };
+    if counter.is_full() {
+        make_run(counter, runs)?;
+    }
+    Ok(reading)
+}

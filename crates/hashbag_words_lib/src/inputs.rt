@@ -1,0 +1,191 @@
+//! Counting all inputs of a call, which are read block by block. What has them is a [`Blocks`], so the clauses hold whatever they have.
+ghost use Rattle.std.specs.Prelude.{◌≡◌, ℕ, List, [], ◌∷◌, ◌++◌, Option, None, Some, map, OnOk, IfOk};
+ghost use Rattle.hashbag_text.specs.Encodings.{text_in};
+ghost use Rattle.hashbag_words_lib.specs.Inputs.{left_in, Counts, FeedsNext, Reads, ReadsBlock, Takes};
+
+use crate::feeding::{Counter, KeepsRuns, end, feed};
+use crate::lines::LinesRead;
+use hashbag_shell::input::said;
+use hashbag_shell::text::of_decoding;
+use hashbag_shell::trouble::Trouble;
+use hashbag_text::decoder::Decoder;
+use hashbag_text::encoding::Encoding;
+use memchr::memchr;
+use std::alloc::Global;
+
+/// Inputs by their names, which are read block by block.
+pub trait Blocks<'a> {
+    /// The name and all bytes of each input that was read to its end, in order.
+    ghost ended: { Self → List (List ℕ × List ℕ) };
+
+    /// The name of the input that is open, and the bytes that were read of it so far.
+    ghost begun: { Self → Option (List ℕ × List ℕ) };
+
+    /// The block that was read last.
+    ghost last: { Self → List ℕ };
+
+    /// Opens the input of that name.
+    ///
+    /// # Errors
+    ///
+    /// Why it can't be read.
+    fn open(&mut self, name: &'a str) -> Result<(), Trouble<'a>>
+        ensures begun { OnOk result (begun self.new ≡ Some (name.entry.now, [])) }
+        ensures ended { OnOk result (ended self.new ≡ ended self.old) };
+
+    /// Reads the next block of the input that is open. It has no bytes if the input has ended.
+    ///
+    /// # Errors
+    ///
+    /// Why it can't be read.
+    fn read(&mut self) -> Result<(), Trouble<'a>>
+        ensures { OnOk result (ReadsBlock (begun self.old) (ended self.old) (last self.new) (begun self.new) (ended self.new)) };
+
+    /// The block that was read last.
+    fn block(&self) -> &[u8]
+        ensures { result.now ≡ last self.now };
+
+    /// Reports that the input of that name has NUL bytes.
+    fn report_nul(&mut self, name: &str)
+        ensures { ended self.new ≡ ended self.old };
+
+    /// Reports how the lines of the input of that name were read.
+    fn report(&mut self, name: &str, reading: &LinesRead)
+        ensures { ended self.new ≡ ended self.old };
+}
+
+// The text of an input that comes in blocks.
+#[derive(Drop)]
+struct Decoding<'a> {
+    alloc: Global,
+    // What messages call the input.
+    name: &'a str,
+    // `None` if the bytes are UTF-8.
+    decoder: Option<Decoder>,
+    // What the decoder has made of the last block.
+    text: String,
+    // Whether the text has a NUL byte so far.
+    has_nul: bool,
+}
+
+impl<'a> Decoding<'a> {
+    // Returns the text of an input of which no block has come.
+    fn new(alloc: Global, name: &'a str, encoding: Option<Encoding>) -> Decoding<'a>
+        ensures { (bytes : List ℕ) → left_in result.decoder bytes ≡ text_in encoding bytes }
+    {
+        let decoder = match encoding {
+            Some(encoding) => Some(Decoder::new(encoding)),
+            None => None,
+        };
+        Decoding {
+            alloc,
+            name,
+            decoder,
+            text: String::new(alloc),
+            has_nul: false,
+        }
+    }
+
+    // Counts the text that the next block brings.
+    fn feed<C: Counter, R: KeepsRuns<'a>>(
+        &mut self,
+        tally: &mut C,
+        runs: &mut Option<R>,
+        block: &[u8],
+    ) -> Result<(), Trouble<'a>>
+        ensures { OnOk result (FeedsNext C.has R.kept tally.old tally.new runs.old runs.new self.old.decoder block.now self.new.decoder) }
+    {
+        let Some(decoder) = &mut self.decoder else {
+            feed(self.alloc, tally, runs, self.name, block)?;
+            self.has_nul = self.has_nul || memchr(0, block).is_some();
+            return Ok(());
+        };
+        self.text.clear();
+        let pushed = decoder.push(block, &mut self.text);
+        feed(self.alloc, tally, runs, self.name, self.text.as_bytes())?;
+        if let Err(error) = pushed {
+            return Err(of_decoding(self.alloc, self.name, error));
+        }
+        self.has_nul = self.has_nul || memchr(0, self.text.as_bytes()).is_some();
+        Ok(())
+    }
+
+    // Ends the text, since no block comes any more. Returns whether it has a NUL byte.
+    fn end(self) -> Result<bool, Trouble<'a>>
+        ensures { OnOk result (left_in self.entry.decoder [] ≡ Some []) }
+    {
+        let Some(decoder) = self.decoder else {
+            return Ok(self.has_nul);
+        };
+        match decoder.end() {
+            Ok(()) => Ok(self.has_nul),
+            Err(error) => Err(of_decoding(self.alloc, self.name, error)),
+        }
+    }
+}
+
+// Counts the text of the input of that name, and doesn't end it. Returns whether it has a NUL byte.
+fn read_input<'a, B: Blocks<'a>, C: Counter, R: KeepsRuns<'a>>(
+    alloc: Global,
+    inputs: &mut B,
+    tally: &mut C,
+    runs: &mut Option<R>,
+    name: &'a str,
+    encoding: Option<Encoding>,
+) -> Result<bool, Trouble<'a>>
+    ensures { OnOk result (Reads C.has R.kept B.ended encoding name.now inputs.old inputs.new tally.old tally.new runs.old runs.new) }
+{
+    inputs.open(name)?;
+    let mut decoding = Decoding::new(alloc, said(name), encoding);
+    'steps: for _block in 0..u64::MAX {
+        inputs.read()?;
+        let block = inputs.block();
+        if block.is_empty() {
+            return decoding.end();
+        }
+        decoding.feed(tally, runs, block)?;
+    }
+    Err(Trouble::Memory)
+}
+
+// Counts the input of that name.
+fn count_named<'a, B: Blocks<'a>, C: Counter, R: KeepsRuns<'a>>(
+    alloc: Global,
+    inputs: &mut B,
+    tally: &mut C,
+    runs: &mut Option<R>,
+    name: &'a str,
+    encoding: Option<Encoding>,
+) -> Result<(), Trouble<'a>>
+    ensures { OnOk result (Takes C.has R.kept B.ended encoding name.now inputs.old inputs.new tally.old tally.new runs.old runs.new) }
+{
+    let has_nul = read_input(alloc, inputs, tally, runs, name, encoding)?;
+    if has_nul {
+        inputs.report_nul(said(name));
+    }
+    let reading = end(alloc, tally, runs, said(name))?;
+    inputs.report(said(name), &reading);
+    Ok(())
+}
+
+/// Counts the inputs of these names, in order. Their bytes are in this encoding; `None` is UTF-8.
+///
+/// # Errors
+///
+/// What is wrong with an input or one of its lines, or why a run isn't kept. What came before the error may be counted.
+pub fn count_all<'a, B: Blocks<'a>, C: Counter, R: KeepsRuns<'a>>(
+    alloc: Global,
+    inputs: &mut B,
+    tally: &mut C,
+    runs: &mut Option<R>,
+    encoding: Option<Encoding>,
+    names: &[&'a str],
+) -> Result<(), Trouble<'a>>
+    // Exactly these inputs were read to their ends, each is text in the encoding, and the counter and all runs have what is counted of all texts.
+    ensures { OnOk result (Counts C.has R.kept B.ended encoding names.now inputs.old inputs.new tally.old tally.new runs.old runs.new) }
+{
+    for name in names {
+        count_named(alloc, inputs, tally, runs, *name, encoding)?;
+    }
+    Ok(())
+}

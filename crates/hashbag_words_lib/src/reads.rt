@@ -1,0 +1,71 @@
+//! What was read of numbered texts, for contracts alone.
+ghost use Rattle.std.specs.Prelude.{◌≡◌, ◌∷◌, [], take, true};
+ghost use Rattle.hashbag_words_lib.specs.Numbered.{ReadsText};
+ghost use Rattle.hashbag_words_lib.specs.Reads.{bytes_of, is_read};
+
+use std::marker::Model;
+use std::mem;
+use std::snapshot::Snapshot;
+
+// The reads before, and one behind them, if there is one: of the text of that number, which gave the first `n` bytes of the block.
+#[derive(Drop)]
+struct OneRead {
+    before: Option<Snapshot<OneRead>>,
+    block: Option<Snapshot<Vec<u8>>>,
+    number: usize,
+    n: usize,
+}
+
+/// What was read of numbered texts. It takes no memory. Contracts see a list of the reads, the last one first: a number, and the bytes that were read
+/// of its text.
+#[derive(Drop)]
+pub struct Reads {
+    last: Snapshot<OneRead>,
+}
+
+impl Model for Reads {
+    ghost use Rattle.std.specs.Prelude.{ℕ, List};
+    ghost use Rattle.hashbag_words_lib.specs.Reads.{reads_to};
+
+    ghost Value = { List (ℕ × List ℕ) };
+
+    ghost view = { λ reads. reads_to reads.last.value };
+}
+
+impl Reads {
+    /// Nothing was read.
+    pub fn none() -> Reads
+        ensures { result ≡ [] }
+    {
+        Reads {
+            last: Snapshot::of(&OneRead {
+                before: None,
+                block: None,
+                number: 0,
+                n: 0,
+            }),
+        }
+    }
+
+    // Adds a read.
+    fn push(&mut self, number: usize, block: &Vec<u8>, n: usize)
+        ensures { self.new ≡ (number, take n block.now.items) ∷ self.old }
+    {
+        let none = Reads::none();
+        let before = mem::replace(&mut self.last, none.last);
+        self.last = Snapshot::of(&OneRead {
+            before: Some(before),
+            block: Some(Snapshot::of(block)),
+            number,
+            n,
+        });
+    }
+
+    /// Adds a read of the text of that number, which gave the first `n` bytes of the block: 0 at its end.
+    pub fn add(&mut self, number: usize, block: &Vec<u8>, n: usize)
+        ensures bytes { ReadsText (bytes_of self.old) (bytes_of self.new) number (take n block.now.items) }
+        ensures end { n ≡ 0 → is_read self.new number ≡ true }
+    {
+        self.push(number, block, n);
+    }
+}

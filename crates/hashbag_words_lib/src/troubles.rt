@@ -1,0 +1,55 @@
+//! What is wrong with an input, as the trouble of a program.
+use crate::errors::InputFault;
+use hashbag::{BagError, JsonError};
+use hashbag_shell::status::{BAD_INPUT, TOTAL_TOO_LARGE};
+use hashbag_shell::trouble::Trouble;
+use std::alloc::Global;
+use std::io::{self, ErrorKind};
+
+// Returns the trouble of a total that is too large with this line, or with the whole input if its lines aren't counted.
+fn too_many<'a>(alloc: Global, file: &'a str, line: u64) -> Trouble<'a> {
+    let what = match line {
+        0 => format!(in alloc; "{file}: total past 2^64-1"),
+        _ => format!(in alloc; "{file}:{line}: total past 2^64-1"),
+    };
+    Trouble::with_status(what, TOTAL_TOO_LARGE)
+}
+
+/// Returns the trouble of a fault of this input, of which that many lines were read.
+pub fn of_input<'a>(alloc: Global, file: &'a str, lines: u64, fault: InputFault) -> Trouble<'a> {
+    match fault {
+        InputFault::Line(bad) => Trouble::of_line(file, lines, bad.to_string(alloc)),
+        InputFault::Text(error) if error.is_memory() => Trouble::MemoryIn { file, lines },
+        InputFault::Text(error) => {
+            Trouble::with_status(format!(in alloc; "{file}: {error}"), BAD_INPUT)
+        }
+        InputFault::Tree(JsonError::Memory) => Trouble::MemoryIn { file, lines },
+        InputFault::Tree(JsonError::TooMany(_)) => too_many(alloc, file, lines),
+        InputFault::Tree(error) => {
+            Trouble::with_status(format!(in alloc; "{file}: {error}"), BAD_INPUT)
+        }
+        InputFault::PastLimit(limit) => {
+            let what = format!(in alloc; "{file}: total past its limit, {limit}");
+            Trouble::with_status(what, TOTAL_TOO_LARGE)
+        }
+        InputFault::Bag(BagError::Memory) => Trouble::MemoryIn {
+            file,
+            lines: lines.saturating_sub(1),
+        },
+        InputFault::Bag(_) => too_many(alloc, file, lines),
+        InputFault::Read(error) => Trouble::of_file(file, error),
+    }
+}
+
+/// Returns the trouble of a file that isn't read as UTF-8, since it can't be read or isn't UTF-8.
+pub fn of_text<'a>(alloc: Global, file: &'a str, error: io::Error) -> Trouble<'a> {
+    if error.kind() == ErrorKind::InvalidData {
+        return Trouble::with_status(format!(in alloc; "{file}: {error}"), BAD_INPUT);
+    }
+    Trouble::of_file(file, error)
+}
+
+/// Returns the trouble of a total that is too large with the runs in this folder.
+pub fn too_many_in_all<'a>(alloc: Global, folder: &'a str) -> Trouble<'a> {
+    too_many(alloc, folder, 0)
+}
