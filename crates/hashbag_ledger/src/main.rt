@@ -1,20 +1,17 @@
 //! Enters movements into a stock, reports those that ask for more than is there, and writes the balance.
 #![tactic(auto)]
 
-mod inputs;
 mod outputs;
 mod stock;
 
-use crate::inputs::HostInputs;
 use crate::outputs::{Outputs, conflict};
 use hashbag_ledger_args::arguments::{Request, parse};
 use hashbag_ledger_args::command::PROGRAM;
 use hashbag_ledger_args::jobs::has_job;
 use hashbag_ledger_db::unkept::{Report, enter_unkept};
-use hashbag_shell::program::{status_of, words_of};
-use hashbag_shell::progress::Progress;
+use hashbag_shell::inputs::HostInputs;
+use hashbag_shell::program::program;
 use hashbag_shell::trouble::Trouble;
-use std::cell::Cell;
 use std::hash::RandomState;
 use std::process::ExitCode;
 
@@ -25,10 +22,9 @@ fn report_of<'a>(rt: &HostRuntime, request: &Request<'a>) -> Result<Report, Trou
         Ok(state) => state,
         Err(error) => return Err(Trouble::Random(error)),
     };
-    let progress = Cell::new(Progress::new(rt, request.reports, &request.files));
-    let inputs = HostInputs { rt, progress };
+    let inputs = HostInputs::new(rt, request.reports, &request.files);
     let report = enter_unkept(rt.alloc(), state, &inputs, request);
-    inputs.progress.into_inner().erase(rt);
+    inputs.end();
     report
 }
 
@@ -53,17 +49,14 @@ fn answer<'a>(rt: &HostRuntime, words: &'a [String]) -> Result<u8, Trouble<'a>> 
     }
 }
 
-fn run(rt: &HostRuntime) -> u8 {
-    let words = match words_of(rt) {
-        Ok(words) => words,
-        Err(trouble) => return trouble.report(rt, PROGRAM),
-    };
-    if has_job(words.as_slice()) {
-        return stock::run(rt, words.as_slice());
+// Does what the arguments ask for, with a database if they name a subcommand, and returns the exit status.
+fn run<'a>(rt: &HostRuntime, words: &'a [String]) -> Result<u8, Trouble<'a>> {
+    if has_job(words) {
+        return Ok(stock::run(rt, words));
     }
-    status_of(rt, PROGRAM, answer(rt, words.as_slice()))
+    answer(rt, words)
 }
 
 fn main(rt: HostRuntime) -> ExitCode {
-    ExitCode::from(run(&rt))
+    ExitCode::from(program(&rt, PROGRAM, |words| run(&rt, words)))
 }

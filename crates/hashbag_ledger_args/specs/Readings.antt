@@ -1,4 +1,4 @@
--- How the files of a job are read: by its options, and else as the stock keeps it.
+-- How the files of a job are read: as its options say, else as the stock keeps it.
 use Rattle.std.specs.Prelude.{◌≡◌, ℕ, Bool, ◌-◌, ◌^◌, nat_le, if◌then◌else◌, List, Option, None, Some, String, string_bytes, codes, unwrap_or}
 use Rattle.std.specs.Global.{Global}
 use Rattle.hashbag_csv.specs.Decimals.{most_decimals}
@@ -15,37 +15,37 @@ use Rattle.hashbag_ledger_lib.specs.declared.reading.Columns.{Columns}
 use Rattle.hashbag_ledger_lib.specs.declared.style.Style.{Style}
 use Rattle.hashbag_text.specs.declared.encoding.Encoding.{Encoding}
 
--- how files are written: the mark and the delimiter of the options that are given, else those that are kept. With `--mark ,` alone and `.`
--- and `;` kept: `,` and `;`
+-- how files are written: with the mark and the delimiter of the job's options, else with those of `kept`. With `--mark ,` alone and `.` and
+-- `;` kept: `,` and `;`
 abbrev pub style_by : Job → Style → Style
 style_by job kept = record { scale = kept.scale; mark = unwrap_or job.mark kept.mark; delimiter = unwrap_or job.delimiter kept.delimiter }
 
--- n decimals, or none if no scale has so many
+-- n decimals, or none if n is more than any scale has
 abbrev pub decimals_by : ℕ → ℕ
 decimals_by n = if nat_le n most_decimals then n else 0
 
--- the mark before the decimals of a style, or `.` if no scale has so many
+-- the mark before the decimals of a style, or `.` if no scale has as many decimals
 abbrev pub mark_by : Style → Mark
 mark_by style = if nat_le style.scale most_decimals then style.mark else Point
 
--- texts have the delimiter, and numbers the mark, of the job's options, and else those that are kept; numbers have the kept decimals, and
--- none is past the greatest of a database
+-- texts have the delimiter, and numbers the mark, of the job's options, else those of `kept`. Numbers have the decimals of `kept`, and are
+-- at most the greatest number of a database
 pub record IsReadingOf (job : Job) (kept : Style) (reading : Reading) : Type 0 where
   pub delimiter : reading.delimiter ≡ (style_by job kept).delimiter
   pub decimals : reading.scale.decimals ≡ decimals_by kept.scale
   pub mark : reading.scale.mark ≡ mark_by (style_by job kept)
   pub most : reading.scale.most ≡ 2 ^ 63 - 1
 
--- what a new stock is taken to keep before its first call: as many decimals as the job asks for, none if it names no scale
+-- the style that a new stock keeps at first: as many decimals as the job asks for, or none if the job names no scale
 abbrev pub asked_style : Job → Style
 asked_style job = plain_style (unwrap_or job.scale 0)
 
--- the columns of a change: with a kind, or alone
+-- the columns of a change: kind and number, or a signed number alone
 abbrev pub change_named : Option (String Global) → String Global → ChangeColumns (List ℕ)
 change_named None number = Signed (string_bytes number)
 change_named (Some kind) number = ByKind (string_bytes kind) (string_bytes number)
 
--- the names of the columns that are kept
+-- the names of the columns that a stock keeps
 abbrev pub kept_names : KeptColumns → Columns (List ℕ)
 kept_names kept = record { article = string_bytes kept.article; change = change_named kept.kind kept.number }
 
@@ -53,7 +53,7 @@ kept_names kept = record { article = string_bytes kept.article; change = change_
 abbrev pub plain_names : Columns (List ℕ)
 plain_names = record { article = codes "article"; change = Signed (codes "change") }
 
--- the names of the columns of movements: those that the job gives, else those that are kept
+-- the names of the columns of movements: those of the job, else those of `kept`
 abbrev pub names_by : Job → Columns (List ℕ) → Columns (List ℕ)
 names_by job kept = elim job.columns [ None ↦ kept | Some given ↦ columns_by (λ n. n.now) given ]
 

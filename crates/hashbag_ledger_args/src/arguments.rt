@@ -17,13 +17,13 @@ use std::alloc::{AllocError, Global};
 pub struct Request<'a> {
     /// The file of the stock at the beginning, if there is one.
     pub start: Option<&'a str>,
-    /// Its columns of articles and of numbers.
+    /// The columns of articles and of numbers of that stock.
     pub start_columns: (&'a str, &'a str),
-    /// Its encoding, `None` for UTF-8.
+    /// The encoding of that file, `None` for UTF-8.
     pub start_encoding: Option<Encoding>,
     /// The files of movements.
     pub files: Vec<&'a str>,
-    /// Their encoding, `None` for UTF-8.
+    /// The encoding of the files of movements, `None` for UTF-8.
     pub encoding: Option<Encoding>,
     /// The columns of movements.
     pub columns: Columns<&'a str>,
@@ -39,7 +39,7 @@ pub struct Request<'a> {
     pub reports: Reports,
 }
 
-// Returns the delimiter, and how numbers are written.
+// Returns the delimiter of fields, and how numbers are written.
 fn reading_of(given: &ArgMatches<'_>) -> Reading {
     Reading::named(
         word(given, "delimiter", ","),
@@ -81,8 +81,8 @@ fn request_of<'a>(
 ///
 /// # Errors
 ///
-/// `Printed` after the help, the version, or what is wrong with the arguments. `Words` if columns have too few or too many names. `Memory`
-/// if an allocation fails.
+/// `Printed` after the help, the version or a message on bad arguments was printed. `Words` if columns have too few or too many names.
+/// `Memory` if an allocation fails.
 pub fn parse<'a, R: Print + Eprint + AllocGlobal>(
     rt: &R,
     words: &'a [String],

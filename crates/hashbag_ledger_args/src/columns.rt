@@ -7,7 +7,7 @@ use hashbag_ledger_lib::reading::{ChangeColumns, Columns};
 use hashbag_shell::trouble::Trouble;
 use std::alloc::{AllocError, Global};
 
-// Returns the columns of two or three names with commas between them.
+// Returns the columns of two or three names with commas between them, or `None` for any other number of names.
 fn split_columns(names: &str) -> Option<Columns<&str>> {
     let mut parts = names.split(',');
     let article = parts.next()?;
@@ -23,7 +23,7 @@ fn split_columns(names: &str) -> Option<Columns<&str>> {
     Some(Columns { article, change })
 }
 
-// Returns two names that have a comma between them.
+// Returns the two names of a text with one comma, or `None` for any other text.
 fn split_pair(names: &str) -> Option<(&str, &str)> {
     let (first, second) = names.split_once(',')?;
     if second.contains(',') {
@@ -32,11 +32,11 @@ fn split_pair(names: &str) -> Option<(&str, &str)> {
     Some((first, second))
 }
 
-/// Returns the columns of movements.
+/// Returns the columns of movements that these names are.
 ///
 /// # Errors
 ///
-/// `Words` if these aren't two or three names with commas between them. `Memory` if an allocation fails.
+/// `Words` if `names` isn't two or three names with commas between them. `Memory` if an allocation fails.
 pub fn columns_of<'a>(alloc: Global, names: &'a str) -> Result<Columns<&'a str>, Trouble<'a>> {
     match split_columns(names) {
         Some(columns) => Ok(columns),
@@ -64,17 +64,18 @@ pub struct KeptColumns {
     pub article: String,
     /// The column of kinds, if there is one.
     pub kind: Option<String>,
-    /// The column of changes, or of numbers if there is one of kinds.
+    /// The column of changes; or, if there is a column of kinds, the column of numbers.
     pub number: String,
 }
 
 impl KeptColumns {
-    /// Returns a copy of these names.
+    /// Copies the names of these columns.
     ///
     /// # Errors
     ///
     /// An allocation fails.
     pub fn copy_of(alloc: Global, columns: Columns<&str>) -> Result<KeptColumns, AllocError>
+        // Each name is the same, at its place. `n.now` is the text of a lent name.
         ensures { IfOk result (λ kept. kept_names kept ≡ columns_by (λ n. n.now) columns.entry) }
     {
         let article = String::from_str(alloc, columns.article)?;
@@ -92,7 +93,7 @@ impl KeptColumns {
         }
     }
 
-    /// Returns the columns of a text that a database keeps. `None` if these aren't two or three names with commas between them.
+    /// Copies the names of a text that a database keeps. Returns `None` if the text isn't two or three names with commas between them.
     ///
     /// # Errors
     ///
@@ -104,7 +105,7 @@ impl KeptColumns {
         }
     }
 
-    /// Returns the names.
+    /// Returns the names of these columns.
     pub fn names(&self) -> Columns<&str>
         ensures { columns_by (λ n. n.now) result ≡ kept_names self.now }
     {
@@ -119,7 +120,7 @@ impl KeptColumns {
     }
 }
 
-/// Returns the names of columns with commas between them.
+/// Returns a text of the names of these columns, with commas between them.
 ///
 /// # Errors
 ///
@@ -132,11 +133,11 @@ pub fn columns_text(alloc: Global, columns: Columns<&str>) -> Result<String, All
     }
 }
 
-/// Returns the columns of the stock at the beginning: of articles, and of numbers.
+/// Returns the columns of the stock at the beginning: the column of articles, and that of numbers.
 ///
 /// # Errors
 ///
-/// `Words` if these aren't two names with a comma between them. `Memory` if an allocation fails.
+/// `Words` if `names` isn't two names with a comma between them. `Memory` if an allocation fails.
 pub fn start_columns_of<'a>(
     alloc: Global,
     names: &'a str,

@@ -6,7 +6,7 @@ use hashbag_shell::options::{
 };
 use std::alloc::Global;
 
-/// The name of the program. Its messages on standard error begin with it.
+/// The name of the program, with which its messages on standard error begin.
 pub const PROGRAM: &str = "hashbag_ledger";
 
 /// The default columns of movements.

@@ -25,15 +25,15 @@ use std::alloc::{AllocError, Global};
 pub struct Job<'a> {
     /// The file of the database.
     pub db: &'a str,
-    /// For how many seconds to wait while it is in use.
+    /// For how many seconds to wait while the database is in use.
     pub wait: usize,
     /// The files of movements.
     pub files: Vec<&'a str>,
     /// The file of the stock at the beginning.
     pub from: Option<&'a str>,
-    /// Its columns of articles and of numbers.
+    /// The columns of articles and of numbers of that stock, or of what was counted.
     pub start_columns: (&'a str, &'a str),
-    /// Its encoding, `None` for UTF-8.
+    /// The encoding of the file of that stock, `None` for UTF-8.
     pub start_encoding: Option<Encoding>,
     /// The encoding of movements, or of what was counted, `None` for UTF-8.
     pub encoding: Option<Encoding>,
@@ -45,9 +45,9 @@ pub struct Job<'a> {
     pub at: Option<&'a str>,
     /// The scale, if one is named.
     pub scale: Option<u32>,
-    /// What is before decimals, if it is named.
+    /// The mark before decimals, if it is named.
     pub mark: Option<Mark>,
-    /// What is between fields, if it is named.
+    /// The delimiter of fields, if it is named.
     pub delimiter: Option<Delimiter>,
     /// The file to which refusals are written; `None` is standard error.
     pub refused: Option<&'a str>,
@@ -55,31 +55,31 @@ pub struct Job<'a> {
     pub output: Option<&'a str>,
     /// Whether nothing is entered if there is a refusal.
     pub strict: bool,
-    /// Whether a file is entered that was entered before.
+    /// Whether a file that was entered before is entered again.
     pub again: bool,
     /// How a balance is written.
     pub form: Form,
     /// The file of what was counted.
     pub counted: &'a str,
-    /// Whether of an article that it doesn't name none was counted.
+    /// Whether an article that the file of what was counted doesn't name was counted as 0.
     pub all: bool,
     /// The articles that are asked for.
     pub articles: Vec<&'a str>,
-    /// The number of a movement that is typed.
+    /// The number of the movement that is typed.
     pub number: &'a str,
     /// The number of the batch that is asked for, or the name of its file.
     pub batch: Option<&'a str>,
     /// Whether the last batch is asked for.
     pub last: bool,
-    /// Whether nothing is said of what was done.
+    /// Whether no message says what was done.
     pub quiet: bool,
     /// When the progress of reading is reported.
     pub reports: Reports,
-    /// The new database.
+    /// The file of the new database.
     pub into: &'a str,
 }
 
-// Returns the words of a list.
+// Returns the words of the argument `name`, which is a list.
 fn words_of<'a>(
     alloc: Global,
     given: &ArgMatches<'a>,
@@ -92,7 +92,7 @@ fn words_of<'a>(
     Ok(words)
 }
 
-// Returns the files of movements: standard input if none is named, and no stock at the beginning either.
+// Returns the files of movements: standard input if neither a file nor a stock at the beginning is named.
 fn files_of<'a>(alloc: Global, given: &ArgMatches<'a>) -> Result<Vec<&'a str>, AllocError> {
     let mut files = words_of(alloc, given, "MOVES.csv")?;
     if files.is_empty() && given.get_str("from").is_none() {
@@ -101,7 +101,7 @@ fn files_of<'a>(alloc: Global, given: &ArgMatches<'a>) -> Result<Vec<&'a str>, A
     Ok(files)
 }
 
-// Returns the mark, if it is named.
+// Returns the mark before decimals, if it is named.
 fn mark_of(given: &ArgMatches<'_>) -> Option<Mark> {
     match given.get_str("mark") {
         Some(",") => Some(Mark::Comma),
@@ -110,7 +110,7 @@ fn mark_of(given: &ArgMatches<'_>) -> Option<Mark> {
     }
 }
 
-// Returns the delimiter, if it is named.
+// Returns the delimiter of fields, if it is named.
 fn delimiter_of(given: &ArgMatches<'_>) -> Option<Delimiter> {
     match given.get_str("delimiter") {
         Some(name) => Some(Delimiter::named(name)),
@@ -118,7 +118,7 @@ fn delimiter_of(given: &ArgMatches<'_>) -> Option<Delimiter> {
     }
 }
 
-// Returns the columns of dates and of notes.
+// Returns the columns of dates and of notes that are named.
 fn extras_of<'a>(given: &ArgMatches<'a>) -> ExtraColumns<&'a str> {
     let (date, note) = (given.get_str("date"), given.get_str("note"));
     ExtraColumns { date, note }
@@ -129,7 +129,7 @@ impl<'a> Job<'a> {
     ///
     /// # Errors
     ///
-    /// `Words` if the names of columns are too few or too many, `Memory` if an allocation fails.
+    /// `Words` if columns have too few or too many names, `Memory` if an allocation fails.
     pub fn of(alloc: Global, given: &ArgMatches<'a>) -> Result<Job<'a>, Trouble<'a>> {
         let columns = match given.get_str("columns") {
             Some(names) => Some(columns_of(alloc, names)?),
@@ -181,7 +181,7 @@ impl<'a> Job<'a> {
         self.encoding
     }
 
-    /// Returns it for a movement that is typed, whose text has the columns `article` and `change`, and commas between fields.
+    /// Returns the job for a movement that is typed: its text has the columns `article` and `change`, and commas between fields.
     pub fn typed(self) -> Job<'a> {
         let mut job = self;
         job.columns = Some(plain_columns());
@@ -189,14 +189,14 @@ impl<'a> Job<'a> {
         job
     }
 
-    /// Returns what a new stock is taken to keep before its first call.
+    /// Returns the style that a new stock keeps at first: as many decimals as are named, or none.
     pub fn asked_style(&self) -> Style
         ensures { result ≡ asked_style self.now }
     {
         Style::plain(self.scale.unwrap_or(0))
     }
 
-    /// Returns how files are written: by the mark and the delimiter that are named, and else by those that are kept.
+    /// Returns how files are written: by the mark and the delimiter that are named, else by those of `kept`.
     pub fn style(&self, kept: Style) -> Style
         ensures { result ≡ style_by self.now kept }
     {
@@ -207,7 +207,7 @@ impl<'a> Job<'a> {
         }
     }
 
-    /// Returns how texts are read and written, if a stock keeps this. No number is past the greatest of a database.
+    /// Returns how texts are read and written if a stock keeps `kept`. A number is at most the greatest number of a database.
     pub fn reading(&self, kept: Style) -> Reading
         ensures { IsReadingOf self.now kept result }
     {
@@ -220,7 +220,7 @@ impl<'a> Job<'a> {
         }
     }
 
-    /// Returns the columns of movements: those that are named, and else those that are kept.
+    /// Returns the names of the columns of movements: those that the job has, else `kept`.
     pub fn columns_or<'k>(&'k self, kept: Columns<&'k str>) -> Columns<&'k str>
         ensures { columns_by (λ n. n.now) result ≡ names_by self.entry.now (columns_by (λ n. n.now) kept.entry) }
     {

@@ -40,19 +40,18 @@ fn is_job(word: &str) -> bool {
     )
 }
 
-// Returns whether a word is `--db`, also with a name behind it.
+// Returns whether a word is `--db`, or begins with `--db=`.
 fn is_database(word: &str) -> bool {
     word == "--db" || word.starts_with("--db=")
 }
 
-/// Returns whether these words, of which the first is the program's name, ask for a subcommand: the next one names one, or a database is
-/// named.
+/// Returns whether these words ask for a subcommand: the second word names one, or a word is `--db`. The first word is the program's name.
 pub fn has_job(words: &[String]) -> bool {
     words.get(1).is_some_and(|word| is_job(word.as_str()))
         || words.iter().any(|word| is_database(word.as_str()))
 }
 
-// Adds a subcommand.
+// Adds the subcommand `job` to a command.
 fn with_job<'a>(command: CommandResult<'a>, job: CommandResult<'a>) -> CommandResult<'a> {
     command?.subcommand(job?)
 }
@@ -75,7 +74,7 @@ fn job<'a>(alloc: Global, name: &'a str, about: &'a str) -> CommandResult<'a> {
     with(with(Ok(command), db), wait)
 }
 
-// Adds what is before decimals.
+// Adds the mark before decimals.
 fn with_mark<'a>(alloc: Global, command: CommandResult<'a>) -> CommandResult<'a> {
     let mark = Arg::new(alloc, "mark")
         .long("mark")
@@ -85,7 +84,7 @@ fn with_mark<'a>(alloc: Global, command: CommandResult<'a>) -> CommandResult<'a>
     with(command, mark)
 }
 
-// Adds how fields are delimited, and numbers written.
+// Adds the mark before decimals, and the delimiter of fields.
 fn with_form<'a>(alloc: Global, command: CommandResult<'a>) -> CommandResult<'a> {
     let delimiter = Arg::new(alloc, "delimiter")
         .short('d')
@@ -96,13 +95,13 @@ fn with_form<'a>(alloc: Global, command: CommandResult<'a>) -> CommandResult<'a>
     with(with_mark(alloc, command), delimiter)
 }
 
-// Adds where a table is written.
+// Adds the file to which a table is written, and its form.
 fn with_output<'a>(alloc: Global, command: CommandResult<'a>) -> CommandResult<'a> {
     let help = "Where the table is written, in place of standard output";
     options::with_output(alloc, with_form(alloc, command), help)
 }
 
-// Adds the columns of articles and numbers.
+// Adds the columns of articles and of numbers.
 fn with_start_columns<'a>(
     alloc: Global,
     command: CommandResult<'a>,
@@ -138,7 +137,7 @@ fn with_columns<'a>(alloc: Global, command: CommandResult<'a>) -> CommandResult<
     with(command, columns)
 }
 
-// Adds the movements.
+// Adds the files of movements, and their columns.
 fn with_moves<'a>(alloc: Global, command: CommandResult<'a>) -> CommandResult<'a> {
     let moves = Arg::new(alloc, "MOVES.csv")
         .num_args(0..)
@@ -149,7 +148,7 @@ fn with_moves<'a>(alloc: Global, command: CommandResult<'a>) -> CommandResult<'a
     with(with_columns(alloc, command), moves)
 }
 
-// Adds the columns that movements carry along.
+// Adds the columns of dates and of notes.
 fn with_extras<'a>(alloc: Global, command: CommandResult<'a>) -> CommandResult<'a> {
     let date = Arg::new(alloc, "date").long("date").value_name("NAME").help(
         "The column of movements with their dates, each as 2026-02-28",
@@ -160,7 +159,7 @@ fn with_extras<'a>(alloc: Global, command: CommandResult<'a>) -> CommandResult<'
     with(with(command, date), note)
 }
 
-// Adds how many decimals numbers have, and what is done with refusals.
+// Adds how many decimals numbers have, and the file to which refusals are written.
 fn with_rules<'a>(alloc: Global, command: CommandResult<'a>) -> CommandResult<'a> {
     let scale = Arg::new(alloc, "scale")
         .short('s')
@@ -347,7 +346,7 @@ fn with_views<'a>(alloc: Global, command: CommandResult<'a>) -> CommandResult<'a
     with_job(with_job(command, with_output(alloc, batches)), show(alloc))
 }
 
-// Adds the subcommands that follow on those.
+// Adds the subcommands `undo`, `verify` and `close`.
 fn with_checks<'a>(alloc: Global, command: CommandResult<'a>) -> CommandResult<'a> {
     let verify = job(
         alloc,

@@ -5,7 +5,7 @@ use hashbag_csv::fault::{Fault, SheetError, in_file};
 use hashbag_shell::trouble::Trouble;
 use std::alloc::{AllocError, Global};
 
-// Returns what is said of a text in another encoding, and `None` of another fault.
+// Returns the message if the fault is that a text is in another encoding, else `None`.
 fn other_encoding(alloc: Global, fault: &Fault) -> Result<Option<String>, AllocError> {
     let what = match fault {
         Fault::Utf16 => format!(in alloc; "UTF-16; `--start-encoding UTF-16` reads it")?,
@@ -19,11 +19,11 @@ fn other_encoding(alloc: Global, fault: &Fault) -> Result<Option<String>, AllocE
     Ok(Some(what))
 }
 
-/// Names the file of the stock at the beginning in which a line is bad, as [`in_file`] does another one.
+/// Returns what was read. An error names the file of the stock at the beginning, as [`in_file`] names other files.
 ///
 /// # Errors
 ///
-/// `BadLine` if a line is bad, which names `--start-encoding` if the text is in another encoding. `Memory` if an allocation failed or fails.
+/// `BadLine` if a line is bad; it names `--start-encoding` if the text is in another encoding. `Memory` if an allocation failed or fails.
 pub fn in_start<T: Drop>(
     alloc: Global,
     file: &str,

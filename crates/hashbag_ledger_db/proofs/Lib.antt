@@ -2,5 +2,4 @@ pub mod CountedLemmas
 pub mod FiledLemmas
 pub mod FormLemmas
 pub mod InputLemmas
-pub mod StartLemmas
 pub mod UnkeptLemmas

@@ -70,12 +70,12 @@ style_in Empty job = asked_style job
 style_in (Stock shape) job = shape.style
 
 -- on the balance that was read of the database, and read by the columns that it keeps, the decimals, the delimiter and the mark
-pub record IsFiledIn (job : Job) (form : Contents) (inputs : List Input) (ready : Ready) : Type 0 where
-  pub is : ready.before.form ≡ form
-  pub empty : form ≡ Empty → ready.before.balance.items ≡ []
-  pub new : form ≡ Empty → kept_names ready.before.columns ≡ plain_names
+pub record IsFiledIn (job : Job) (contents : Contents) (inputs : List Input) (ready : Ready) : Type 0 where
+  pub is : ready.before.contents ≡ contents
+  pub empty : contents ≡ Empty → ready.before.balance.items ≡ []
+  pub new : contents ≡ Empty → kept_names ready.before.columns ≡ plain_names
   pub rising : Rises ready.before.balance.items
-  pub all : IsFiledAs job (style_in form job) (kept_names ready.before.columns) inputs ready.before.balance.items ready.filed
+  pub all : IsFiledAs job (style_in contents job) (kept_names ready.before.columns) inputs ready.before.balance.items ready.filed
 
 -- whether a movement was refused
 abbrev pub has_refusal : Filed → Bool
@@ -91,8 +91,8 @@ IsAnewIfThere job inputs anew = IfSome anew (IsFiledAnew job inputs)
 
 -- P of the shape of a stock, if the database has one
 abbrev pub IfStock : Contents → (Shape → Type 0) → Type 0
-IfStock form P = (shape : Shape) → form ≡ Stock shape → P shape
+IfStock contents P = (shape : Shape) → contents ≡ Stock shape → P shape
 
 -- it is there, and is what the inputs do to the balance that was read of the database
 abbrev pub IsThereAsFiled : Job → Contents → List Input → Option Ready → Type 0
-IsThereAsFiled job form inputs ready = IsSomeAnd ready (IsFiledIn job form inputs)
+IsThereAsFiled job contents inputs ready = IsSomeAnd ready (IsFiledIn job contents inputs)

@@ -39,6 +39,6 @@ pub record AreInputsOf (gives : List ℕ → List ℕ → Type 0) (job : Job) (i
 pub record IsReadyOf (gives : List ℕ → List ℕ → Type 0) (has : List ℕ → Contents → Type 0) (job : Job) (ready : Ready) : Type 0 where
   pub inputs : List Input
   pub are : AreInputsOf gives job inputs
-  pub form : Contents
-  pub opened : has job.db.now form
-  pub filed : IsFiledIn job form inputs ready
+  pub contents : Contents
+  pub opened : has job.db.now contents
+  pub filed : IsFiledIn job contents inputs ready

@@ -1,5 +1,4 @@
 pub mod Counted
 pub mod Filed
 pub mod Inputs
-pub mod Starts
 pub mod Unkept

@@ -1,25 +1,18 @@
 -- What a call without a database does: the movements of its files come to the stock at the beginning.
-use Rattle.std.specs.Prelude.{◌≡◌, ℕ, ◌+◌, nat_lt, if◌then◌else◌, Bool, List, [], ◌∷◌, ◌++◌, length, map, All, String, string_cmp, Option, Some, MatchOption}
+use Rattle.std.specs.Prelude.{◌≡◌, ℕ, ◌+◌, nat_lt, if◌then◌else◌, Bool, List, [], ◌∷◌, ◌++◌, length, map, All, String, string_cmp, MatchOption}
 use Rattle.std.specs.Borrow.{Bor}
 use Rattle.std.specs.Global.{Global}
 use Rattle.std.specs.String.{string_eq}
+use Rattle.hashbag_csv.specs.Counts.{count_line, counts_in}
 use Rattle.hashbag_csv.specs.Quantities.{IsBalance}
 use Rattle.hashbag_ledger_args.specs.declared.arguments.Request.{Request}
-use Rattle.hashbag_ledger_db.specs.Starts.{start_line, starts_in}
 use Rattle.hashbag_ledger_lib.specs.Ledger.{in_the_end, refused_of, Leaves}
 use Rattle.hashbag_ledger_lib.specs.Movements.{movements_named, said}
 use Rattle.hashbag_ledger_lib.specs.Settled.{listed, IsLedgerOf}
 use Rattle.hashbag_ledger_lib.specs.declared.ledger.Entered.{Entered}
 use Rattle.hashbag_ledger_lib.specs.declared.ledger.Ledger.{Ledger}
 use Rattle.hashbag_ledger_lib.specs.declared.movements.Movement.{Movement}
-use Rattle.hashbag_text.specs.Encodings.{text_in}
-use Rattle.hashbag_text.specs.declared.encoding.Encoding.{Encoding}
-
--- a file was read, and its bytes are this text in the encoding
-pub record IsTextRead (gives : List ℕ → List ℕ → Type 0) (encoding : Option Encoding) (file text : List ℕ) : Type 0 where
-  pub bytes : List ℕ
-  pub given : gives file bytes
-  pub decoded : text_in encoding bytes ≡ Some text
+use Rattle.hashbag_shell.specs.Inputs.{IsTextRead}
 
 -- these movements came to the old ledger, behind those that it had, and left the new one
 abbrev pub Comes : {S H : Type 0} → List (Movement (String Global)) → Ledger (String Global) S H → Ledger (String Global) S H → Type 0
@@ -31,7 +24,7 @@ module _ (gives : List ℕ → List ℕ → Type 0) (request : Request) where
   pub record IsStartIn (start : List (String Global × ℕ)) (file : Bor (List ℕ)) : Type 0 where
     pub text : List ℕ
     pub read : IsTextRead gives request.start_encoding file.now text
-    pub lines : map start_line start ≡ starts_in request.reading request.start_columns.0.now request.start_columns.1.now text
+    pub lines : map count_line start ≡ counts_in request.reading request.start_columns.0.now request.start_columns.1.now text
 
   -- a list is the stock at the beginning: empty if no file is named
   abbrev pub IsStartOf : List (String Global × ℕ) → Type 0

@@ -21,7 +21,7 @@ use std::alloc::Global;
 /// What a database has before the inputs are entered.
 #[derive(Drop)]
 pub struct Before {
-    form: Contents,
+    contents: Contents,
     balance: Vec<(String, usize)>,
     // The columns of movements that it keeps.
     columns: KeptColumns,
@@ -123,16 +123,16 @@ pub fn before_in<'a, D: Alter>(
     request: &Job<'a>,
     inputs: &[Input<'a>],
     conn: &mut Connection<D>,
-    form: Contents,
+    contents: Contents,
 ) -> Result<Before, Failure<'a>>
-    ensures form { IfOk result (λ before. before.form ≡ form) }
-    ensures empty { form ≡ Contents.Empty → IfOk result (λ before. before.balance.items ≡ []) }
-    ensures new { form ≡ Contents.Empty → IfOk result (λ before. kept_names before.columns ≡ plain_names) }
+    ensures contents { IfOk result (λ before. before.contents ≡ contents) }
+    ensures empty { contents ≡ Contents.Empty → IfOk result (λ before. before.balance.items ≡ []) }
+    ensures new { contents ≡ Contents.Empty → IfOk result (λ before. kept_names before.columns ≡ plain_names) }
     ensures rising { IfOk result (λ before. Rises before.balance.items) }
 {
-    let Contents::Stock(shape) = form else {
+    let Contents::Stock(shape) = contents else {
         return Ok(Before {
-            form,
+            contents,
             balance: Vec::new(alloc),
             columns: KeptColumns::copy_of(alloc, plain_columns())?,
             number: 1,
@@ -148,7 +148,7 @@ pub fn before_in<'a, D: Alter>(
         entered_twice(inputs, &batches)?;
     }
     Ok(Before {
-        form,
+        contents,
         balance: in_database(db, balance_of(alloc, conn))?,
         columns: kept_columns(alloc, db, conn, shape)?,
         number: next_number(&batches),

@@ -53,7 +53,7 @@ pub struct Report {
     pub said: String,
     /// The status with which the program ends.
     pub status: u8,
-    /// What the inputs do, of which the above is written. `None` if no database was opened.
+    /// What the inputs do, from which the fields above are made. `None` if no database was opened.
     pub ready: Option<Ready>,
 }
 
@@ -152,9 +152,9 @@ fn filed_of<'a, S: BuildHasher + Drop>(
 }
 
 // Returns what holds of the rows of the stock.
-fn shape_of<'a>(request: &Job<'a>, form: Contents) -> Result<Shape, Failure<'a>> {
+fn shape_of<'a>(request: &Job<'a>, contents: Contents) -> Result<Shape, Failure<'a>> {
     let db = request.db;
-    match (form, request.scale) {
+    match (contents, request.scale) {
         (Contents::Empty, _) => Ok(Shape::of_new(request.style(request.asked_style()))),
         (Contents::Stock(shape), Some(asked)) if shape.style.scale != asked => {
             Err(Failure::OtherScale {
@@ -171,8 +171,8 @@ fn shape_of<'a>(request: &Job<'a>, form: Contents) -> Result<Shape, Failure<'a>>
 }
 
 // Returns what a stock of this shape keeps with these columns, if it is new.
-fn new_stock_of(form: Contents, shape: Shape, columns: &str) -> Option<NewStock<'_>> {
-    match form {
+fn new_stock_of(contents: Contents, shape: Shape, columns: &str) -> Option<NewStock<'_>> {
+    match contents {
         Contents::Empty => Some(NewStock {
             style: shape.style,
             columns,
@@ -257,6 +257,7 @@ fn text_of<'a>(
 ) -> Result<Vec<u8>, AllocError> {
     let refusals = refusals_of(alloc, &filed.booked.entries, request.strict)?;
     let names = names_of(alloc, inputs)?;
+    // A table for a file, lines for standard error.
     match request.refused {
         Some(_) => refusals_table(alloc, &names, reading, &refusals),
         None => Ok(refusals_text(alloc, &names, reading.scale, &refusals)?.into_bytes()),
@@ -308,14 +309,14 @@ fn filed_in<'a, S: BuildHasher + Drop>(
     request: &Job<'a>,
     inputs: &[Input<'a>],
     before: &Before,
-    form: Contents,
+    contents: Contents,
     anew: Option<Filed>,
 ) -> Result<Filed, Failure<'a>>
-    ensures empty { form ≡ Contents.Empty → IsAnewIfThere request.now inputs.now anew → IfOk result (IsFiledAnew request.now inputs.now) }
-    ensures stock { IfStock form (λ shape. IfOk result
+    ensures empty { contents ≡ Contents.Empty → IsAnewIfThere request.now inputs.now anew → IfOk result (IsFiledAnew request.now inputs.now) }
+    ensures stock { IfStock contents (λ shape. IfOk result
         (IsFiledAs request.now shape.style (kept_names before.now.columns) inputs.now before.now.balance.items)) }
 {
-    match (form, anew) {
+    match (contents, anew) {
         (Contents::Empty, Some(filed)) => Ok(filed),
         (Contents::Empty, None) => filed_anew(alloc, state, request, inputs),
         (Contents::Stock(shape), _) => {
@@ -342,13 +343,13 @@ fn ready_in<'a, D: Alter, S: BuildHasher + Drop>(
     request: &Job<'a>,
     inputs: &[Input<'a>],
     conn: &mut Connection<D>,
-    form: Contents,
+    contents: Contents,
     anew: Option<Filed>,
 ) -> Result<Ready, Failure<'a>>
-    ensures { IsAnewIfThere request.now inputs.now anew → IfOk result (IsFiledIn request.now form inputs.now) }
+    ensures { IsAnewIfThere request.now inputs.now anew → IfOk result (IsFiledIn request.now contents inputs.now) }
 {
-    let before = before_in(alloc, request, inputs, conn, form)?;
-    let filed = filed_in(alloc, state, request, inputs, &before, form, anew)?;
+    let before = before_in(alloc, request, inputs, conn, contents)?;
+    let filed = filed_in(alloc, state, request, inputs, &before, contents, anew)?;
     Ok(Ready { before, filed })
 }
 
@@ -364,21 +365,21 @@ pub fn report_in<'a, D: Alter, S: BuildHasher + Drop>(
     request: &Job<'a>,
     inputs: &[Input<'a>],
     conn: &mut Connection<D>,
-    form: Contents,
+    contents: Contents,
     anew: Option<Filed>,
 ) -> Result<Report, Failure<'a>>
     // If `anew` is what the inputs do to an empty stock, as `filed_anew` returns it, then `ready` is what they do to the balance that was
     // read: all movements of all inputs are booked on it.
     ensures filed { IsAnewIfThere request.now inputs.now anew
-        → IfOk result (λ r. IsThereAsFiled request.now form inputs.now r.ready) }
+        → IfOk result (λ r. IsThereAsFiled request.now contents inputs.now r.ready) }
 
     // The status is 1 exactly if a movement is refused.
     ensures status { IfOk result (λ report. IsSomeAnd report.ready (λ ready.
         report.status ≡ status_after ready.filed)) }
 {
     let db = request.db;
-    let shape = shape_of(request, form)?;
-    let ready = ready_in(alloc, state, request, inputs, conn, form, anew)?;
+    let shape = shape_of(request, contents)?;
+    let ready = ready_in(alloc, state, request, inputs, conn, contents, anew)?;
     let reading = request.reading(shape.style);
     let extras = extras_of(alloc, request, inputs, reading.delimiter)?;
     let refusals = text_of(alloc, request, inputs, reading, &ready.filed)?;
@@ -386,7 +387,7 @@ pub fn report_in<'a, D: Alter, S: BuildHasher + Drop>(
         String::new(alloc)
     } else {
         let columns = columns_text(alloc, request.columns_or(ready.before.names()))?;
-        let new_stock = new_stock_of(form, shape, columns.as_str());
+        let new_stock = new_stock_of(contents, shape, columns.as_str());
         write(alloc, conn, db, shape, new_stock, inputs, &extras, &ready)?
     };
     Ok(Report {
@@ -397,7 +398,7 @@ pub fn report_in<'a, D: Alter, S: BuildHasher + Drop>(
     })
 }
 
-/// Returns what a run of a subcommand writes that enters nothing, because of a refusal, and since the stock would be a new one.
+/// Returns the report of a run with `--strict` that makes no database, since it has a refusal.
 ///
 /// # Errors
 ///
@@ -478,16 +479,16 @@ pub fn begin_in<'a, D: Alter, S: BuildHasher + Drop>(
     inputs: &[Input<'a>],
     conn: &mut Connection<D>,
 ) -> Result<(), Failure<'a>> {
-    let (form, db) = (Contents::Empty, request.into);
+    let (contents, db) = (Contents::Empty, request.into);
     let reading = request.reading(closed.shape.style);
     let columns = request.columns_or(closed.columns.names());
     let ready = Ready {
-        before: before_in(alloc, request, inputs, conn, form)?,
+        before: before_in(alloc, request, inputs, conn, contents)?,
         filed: filed_of(alloc, state, request, inputs, columns, reading, &[])?,
     };
     let shape = Shape::of_new(request.style(closed.shape.style));
     let text = columns_text(alloc, columns)?;
-    let new_stock = new_stock_of(form, shape, text.as_str());
+    let new_stock = new_stock_of(contents, shape, text.as_str());
     write(alloc, conn, db, shape, new_stock, inputs, &[], &ready)?;
     Ok(())
 }

@@ -1,4 +1,5 @@
-//! The files of a call: inputs, which are read whole, and databases. What of them is entered is decided here, so its clauses hold whatever they are.
+//! The files of a call: inputs, which are read whole, and databases. What of them is entered is decided here, so the clauses hold whatever the
+//! files contain.
 ghost use Rattle.std.specs.Prelude.{◌≡◌, ℕ, List, None, true, IfOk, IfSome};
 ghost use Rattle.hashbag_stock.specs.declared.tables.Contents.{Contents};
 ghost use Rattle.hashbag_ledger_db.specs.Filed.{status_after};
@@ -8,26 +9,16 @@ use crate::entering::{Report, denied_report, filed_anew, is_refused, report_in};
 use crate::failure::Failure;
 use crate::movements::{Input, input_of};
 use hashbag_ledger_args::job::Job;
+use hashbag_shell::inputs::Inputs;
 use hashbag_stock::tables::Contents;
 use sqlite::{Alter, Connection};
 use std::alloc::Global;
 use std::hash::BuildHasher;
 
-/// The files that a program has. An open database is a `C`.
-pub trait Files<C> {
-    /// Holds of the name of a file and its bytes.
-    ghost gives: { Self → List ℕ → List ℕ → Type 0 };
-
+/// The databases that a program has. An open one is a `C`.
+pub trait Databases<C> {
     /// Holds of the name of a database and what it has when it is opened.
     ghost has: { Self → List ℕ → Contents → Type 0 };
-
-    /// Returns the bytes of a file.
-    ///
-    /// # Errors
-    ///
-    /// Why it can't be read.
-    fn read<'a>(&self, file: &'a str) -> Result<Vec<u8>, Failure<'a>>
-        ensures { IfOk result (λ bytes. gives self.now file.now bytes.items) };
 
     /// Returns whether there is no database of this name.
     ///
@@ -49,34 +40,34 @@ pub trait Files<C> {
 }
 
 // Reads the stock at the beginning, or a file of movements.
-fn read_input<'a, C, F: Files<C>>(
+fn read_input<'a, I: Inputs>(
     alloc: Global,
-    files: &F,
+    files: &I,
     request: &Job<'_>,
     file: &'a str,
     is_start: bool,
 ) -> Result<Input<'a>, Failure<'a>>
     ensures named { IfOk result (λ input. named input ≡ (file.now, is_start)) }
-    ensures read { IfOk result (IsRead (F.gives files.now) request.now) }
+    ensures read { IfOk result (IsRead (I.gives files.now) request.now) }
 {
     let bytes = files.read(file)?;
     input_of(alloc, file, bytes, request.encoding_of(is_start), is_start)
 }
 
 // Reads the stock at the beginning, if there is one, and all files of movements.
-fn inputs_of<'a, C, F: Files<C>>(
+fn inputs_of<'a, I: Inputs>(
     alloc: Global,
-    files: &F,
+    files: &I,
     request: &Job<'a>,
 ) -> Result<Vec<Input<'a>>, Failure<'a>>
-    ensures { IfOk result (λ inputs. AreInputsOf (F.gives files.now) request.now inputs.items) }
+    ensures { IfOk result (λ inputs. AreInputsOf (I.gives files.now) request.now inputs.items) }
 {
     let mut inputs = Vec::new(alloc);
     if let Some(file) = request.from {
-        inputs.push(read_input::<C, F>(alloc, files, request, file, true)?)?;
+        inputs.push(read_input(alloc, files, request, file, true)?)?;
     }
     for file in &request.files {
-        inputs.push(read_input::<C, F>(alloc, files, request, *file, false)?)?;
+        inputs.push(read_input(alloc, files, request, *file, false)?)?;
     }
     Ok(inputs)
 }
@@ -87,32 +78,39 @@ fn inputs_of<'a, C, F: Files<C>>(
 /// # Errors
 ///
 /// Why nothing is entered.
-pub fn enter_named<'a, D: Alter + Drop, F: Files<Connection<D>>, S: BuildHasher + Copy + Drop>(
+pub fn enter_named<
+    'a,
+    D: Alter + Drop,
+    I: Inputs,
+    F: Databases<Connection<D>>,
+    S: BuildHasher + Copy + Drop,
+>(
     alloc: Global,
     state: S,
-    files: &F,
+    files: &I,
+    databases: &F,
     request: &Job<'a>,
 ) -> Result<Report, Failure<'a>>
     // All movements of all files that are named are booked on the balance that the database had.
-    ensures filed { IfOk result (λ report. IfSome report.ready (IsReadyOf (F.gives files.now) (F.has files.now) request.now)) }
+    ensures filed { IfOk result (λ report. IfSome report.ready (IsReadyOf (I.gives files.now) (F.has databases.now) request.now)) }
 
     // The status is 1 exactly if a movement is refused.
     ensures status { IfOk result (λ report. IfSome report.ready (λ ready. report.status ≡ status_after ready.filed)) }
 
-    // No database is opened only if that was asked for, and a movement is refused.
+    // No database is opened only if `strict` is set, and a movement is refused.
     ensures denied { IfOk result (λ report. report.ready ≡ None → (request.now.strict ≡ true) × (report.status ≡ 1)) }
 {
-    let inputs = inputs_of::<Connection<D>, F>(alloc, files, request)?;
+    let inputs = inputs_of(alloc, files, request)?;
     let mut anew = None;
-    if files.is_new(request.db)? {
+    if databases.is_new(request.db)? {
         let filed = filed_anew(alloc, state, request, &inputs)?;
         if request.strict && is_refused(&filed) {
             return Ok(denied_report(alloc, request, &inputs, &filed)?);
         }
         anew = Some(filed);
     }
-    let (mut conn, form) = files.open_or_make(request.db, request.wait)?;
-    let report = report_in(alloc, state, request, &inputs, &mut conn, form, anew)?;
-    files.close(conn);
+    let (mut conn, contents) = databases.open_or_make(request.db, request.wait)?;
+    let report = report_in(alloc, state, request, &inputs, &mut conn, contents, anew)?;
+    databases.close(conn);
     Ok(report)
 }

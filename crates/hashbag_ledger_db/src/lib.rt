@@ -1,5 +1,5 @@
 //! What the subcommands of `hashbag_ledger` do in a database, in any store, and what a call without one does: bytes of files and rows in, rows and
-//! texts out. It opens no file but by [`files::Files`] and [`unkept::Inputs`].
+//! texts out. It opens no database but by [`files::Databases`], and no other file but by [`hashbag_shell::inputs::Inputs`].
 #![tactic(auto)]
 
 pub mod before;
@@ -11,7 +11,6 @@ pub mod movements;
 pub mod putting;
 pub mod said;
 pub mod showing;
-pub mod starting;
 pub mod undoing;
 pub mod unkept;
 pub mod verifying;

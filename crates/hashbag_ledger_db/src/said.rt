@@ -3,15 +3,12 @@ use hashbag_csv::escaped::Escaped;
 use hashbag_ledger_args::command::PROGRAM;
 use hashbag_ledger_lib::movements::Change;
 use hashbag_ledger_lib::once::Batch;
+use hashbag_shell::tips::is_near;
 use std::alloc::{AllocError, Global};
 use std::fmt::Write;
-use strsim::levenshtein;
 
 // From how many movements on a new database is suggested: the open of a file with that many takes about a second.
 const MANY: u64 = 1_000_000;
-
-// How many letters are other ones in a name that is near.
-const NEAR: usize = 2;
 
 // Returns the ending of a noun behind this number.
 fn ending(count: u64) -> &'static str {
@@ -67,22 +64,18 @@ pub fn entered_text(
     Ok(text)
 }
 
-// Returns the article of a balance whose name is the most like this one, if one is near.
+// Returns the first article of a balance whose name is near to this one, if there is one.
 fn near_to<'b>(
     alloc: Global,
     balance: &[(&'b str, Change)],
     article: &str,
 ) -> Result<Option<&'b str>, AllocError> {
-    let mut near = None;
-    let mut most = NEAR;
     for entry in balance {
-        let edits = levenshtein(alloc, entry.0, article)?;
-        if edits > 0 && edits <= most && edits < article.len() {
-            near = Some(entry.0);
-            most = edits - 1;
+        if is_near(alloc, article, entry.0)? {
+            return Ok(Some(entry.0));
         }
     }
-    Ok(near)
+    Ok(None)
 }
 
 // Appends an article of the balance whose name is near to this one, if there is one, and ends the line.

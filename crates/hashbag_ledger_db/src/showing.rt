@@ -8,17 +8,15 @@ use crate::said::{absent_text, unmoved_text};
 use crate::undoing::wanted_of;
 use hashbag_ledger_args::job::Job;
 use hashbag_ledger_lib::balance_forms::{formed_text, rows_of};
-use hashbag_ledger_lib::dated::balance_at;
+use hashbag_ledger_lib::dated::{DatedError, balance_at};
 use hashbag_ledger_lib::dates::is_date;
 use hashbag_ledger_lib::entering::LedgerError;
 use hashbag_ledger_lib::listing::{batches_text, history_text, movements_text};
 use hashbag_ledger_lib::movements::{Change, Entry};
 use hashbag_ledger_lib::numbers::size_of;
 use hashbag_ledger_lib::recalling::{recall, recall_batch};
-use hashbag_ledger_lib::verifying::movements_from;
 use hashbag_stock::reading::{
-    History, balance_of, batches_of, days_of, extras_of_batch, history_of, movements_of,
-    movements_until,
+    balance_of, batches_of, dated_movements_of, movements_of_article, movements_until,
 };
 use hashbag_stock::tables::Shape;
 use sqlite::{Alter, Connection};
@@ -131,24 +129,23 @@ pub fn balance_at_in<'a, D: Alter, S: BuildHasher + Copy + Drop>(
         return Err(Failure::NoDay);
     }
     let db = request.db;
-    let movements = movements_from(alloc, in_database(db, movements_of(alloc, conn))?)?;
-    let days = in_database(db, days_of(alloc, conn, shape))?;
+    let movements = in_database(db, dated_movements_of(alloc, conn, shape))?;
     let entries = recalled_in(db, recall(alloc, state, movements))?;
-    match balance_at(alloc, state, date, &entries, &days) {
+    match balance_at(alloc, state, date, &entries) {
         Ok(all) => {
             let rows = rows_with_some(alloc, &all)?;
             Ok(shown_of(alloc, request, shape, rows)?)
         }
-        Err(LedgerError::Memory) => Err(Failure::from(AllocError)),
-        Err(_) => Err(Failure::MovedTooMuch { db }),
+        Err(DatedError::Memory) => Err(Failure::from(AllocError)),
+        Err(DatedError::MovedTooMuch) => Err(Failure::MovedTooMuch { db }),
     }
 }
 
-// Returns what became of movements of a database.
-fn recalled_in<'a>(
+// Returns what became of movements of a database, each with what it carries along.
+fn recalled_in<'a, X>(
     db: &'a str,
-    recalled: Result<Vec<Entry<String>>, LedgerError>,
-) -> Result<Vec<Entry<String>>, Failure<'a>>
+    recalled: Result<Vec<(Entry<String>, X)>, LedgerError>,
+) -> Result<Vec<(Entry<String>, X)>, Failure<'a>>
     ensures { IfOk result (λ entries. recalled ≡ Ok entries) }
 {
     match recalled {
@@ -174,11 +171,10 @@ pub fn show_in<'a, D: Alter, S: BuildHasher + Drop>(
     let db = request.db;
     let batches = in_database(db, batches_of(alloc, conn, shape))?;
     let number = wanted_of(request, &batches)?.number;
-    let movements = in_database(db, movements_until(alloc, conn, number))?;
+    let movements = in_database(db, movements_until(alloc, conn, shape, number))?;
     let batch = number.unsigned_abs() as usize;
     let entries = recalled_in(db, recall_batch(alloc, state, movements, batch))?;
-    let extras = in_database(db, extras_of_batch(alloc, conn, shape, number))?;
-    let table = movements_text(alloc, request.reading(shape.style), &entries, &extras)?;
+    let table = movements_text(alloc, request.reading(shape.style), &entries)?;
     let said = String::new(alloc);
     Ok(Shown { table, said })
 }
@@ -196,21 +192,17 @@ pub fn history_in<'a, D: Alter, S: BuildHasher + Drop>(
     conn: &mut Connection<D>,
 ) -> Result<Shown, Failure<'a>> {
     let article = request.articles.first().copied().unwrap_or("");
-    let found = in_database(request.db, history_of(alloc, conn, shape, article))?;
-    let History {
-        batches,
-        movements,
-        extras,
-    } = found;
+    let db = request.db;
+    let batches = in_database(db, batches_of(alloc, conn, shape))?;
+    let movements = in_database(db, movements_of_article(alloc, conn, shape, article))?;
     let said = if movements.is_empty() {
-        let balance = in_database(request.db, balance_of(alloc, conn))?;
-        unmoved_text(alloc, request.db, &rows_of(alloc, &balance)?, article)?
+        let balance = in_database(db, balance_of(alloc, conn))?;
+        unmoved_text(alloc, db, &rows_of(alloc, &balance)?, article)?
     } else {
         String::new(alloc)
     };
-    let entries = recalled_in(request.db, recall(alloc, state, movements))?;
-    let reading = request.reading(shape.style);
-    let table = history_text(alloc, reading, &batches, &entries, &extras)?;
+    let entries = recalled_in(db, recall(alloc, state, movements))?;
+    let table = history_text(alloc, request.reading(shape.style), &batches, &entries)?;
     Ok(Shown { table, said })
 }
 

@@ -12,12 +12,13 @@ use hashbag_ledger_lib::movements::{Movement, Refusal};
 use hashbag_ledger_lib::numbers::MOST;
 use hashbag_ledger_lib::once::{Batch, Kind, batch_of, next_number, undone_by};
 use hashbag_ledger_lib::output::refusals_text;
+use hashbag_ledger_lib::pairs::halves;
 use hashbag_ledger_lib::rows::RowChange;
 use hashbag_ledger_lib::sealing::{Draft, sealed_rows};
 use hashbag_ledger_lib::style::Style;
 use hashbag_ledger_lib::undoing::{Undo, undo_batch};
 use hashbag_shell::status::{DENIED, DONE};
-use hashbag_stock::reading::{balance_of, batches_of, entered_extras_of, entered_of, time_of};
+use hashbag_stock::reading::{balance_of, batches_of, entered_of, time_of};
 use hashbag_stock::tables::Shape;
 use hashbag_stock::writing::NewRows;
 use sqlite::{Alter, Connection};
@@ -191,9 +192,13 @@ fn take_back_in<'a, D: Alter, S: BuildHasher + Drop>(
     found: &Found,
 ) -> Result<Undone, Failure<'a>> {
     let db = request.db;
-    let entered = in_database(db, entered_of(alloc, conn, found.number))?;
-    let carried = in_database(db, entered_extras_of(alloc, conn, shape, found.number))?;
-    let extras = opposite_extras(alloc, &entered, &carried)?;
+    let entered = in_database(db, entered_of(alloc, conn, shape, found.number))?;
+    let extras = if shape.is_dated() {
+        opposite_extras(alloc, &entered)?
+    } else {
+        Vec::new(alloc)
+    };
+    let (entered, _) = halves(alloc, entered)?;
     let kept = in_database(db, balance_of(alloc, conn))?;
     let file = found.file.as_str();
     let (undo, changed) = undo_of(alloc, state, request, shape.style, file, &kept, entered)?;

@@ -1,8 +1,9 @@
-//! A stock that isn't kept: a call without a database. Which files are read and entered is decided here, so its clauses hold whatever they have.
-ghost use Rattle.std.specs.Prelude.{◌≡◌, ◌↔◌, ℕ, List, None, true, IfOk, OnOk};
-ghost use Rattle.hashbag_ledger_db.specs.Unkept.{EntersFileOf, EntersFiles, IsBegunFrom, IsEnteredOf, IsStartOf, IsTextRead, has_refusal, status_with};
+//! A stock that isn't kept: a call without a database. Which files are read and entered is decided here, so the clauses hold whatever the files
+//! contain.
+ghost use Rattle.std.specs.Prelude.{◌≡◌, ◌↔◌, None, true, IfOk, OnOk};
+ghost use Rattle.hashbag_ledger_db.specs.Unkept.{EntersFileOf, EntersFiles, IsBegunFrom, IsEnteredOf, IsStartOf, has_refusal, status_with};
 
-use crate::starting::read_start;
+use hashbag_csv::counts::read_counts_as;
 use hashbag_csv::fault::in_file;
 use hashbag_ledger_args::arguments::Request;
 use hashbag_ledger_args::start::in_start;
@@ -10,26 +11,11 @@ use hashbag_ledger_lib::ledger::{Entered, Ledger, end};
 use hashbag_ledger_lib::movements::Refusal;
 use hashbag_ledger_lib::output::{balance_text, refusals_table, refusals_text};
 use hashbag_ledger_lib::reading::enter_movements;
+use hashbag_shell::inputs::{Inputs, read_text};
 use hashbag_shell::status::{DENIED, DONE};
-use hashbag_shell::text::text_of;
 use hashbag_shell::trouble::Trouble;
-use hashbag_text::encoding::Encoding;
 use std::alloc::{AllocError, Global};
 use std::hash::BuildHasher;
-
-/// The inputs that a program has.
-pub trait Inputs {
-    /// Holds of the name of a file and its bytes.
-    ghost gives: { Self → List ℕ → List ℕ → Type 0 };
-
-    /// Returns the bytes of a file.
-    ///
-    /// # Errors
-    ///
-    /// Why it can't be read.
-    fn read<'a>(&self, file: &'a str) -> Result<Vec<u8>, Trouble<'a>>
-        ensures { IfOk result (λ bytes. gives self.now file.now bytes.items) };
-}
 
 /// What a call writes.
 #[derive(Drop)]
@@ -40,22 +26,8 @@ pub struct Report {
     pub balance: Option<Vec<u8>>,
     /// The status with which the program ends.
     pub status: u8,
-    /// The balance and all refusals, of which the above is written.
+    /// The balance and all refusals, from which the fields above are made.
     pub entered: Entered<String>,
-}
-
-// Reads the text of a file.
-fn read_text<'a, I: Inputs>(
-    alloc: Global,
-    inputs: &I,
-    file: &'a str,
-    encoding: Option<Encoding>,
-) -> Result<Vec<u8>, Trouble<'a>>
-    ensures { IfOk result (λ text. IsTextRead (I.gives inputs.now) encoding file.now text.items) }
-{
-    let bytes = inputs.read(file)?;
-    let text = text_of(alloc, file, encoding, bytes)?;
-    Ok(text)
 }
 
 // Reads the stock at the beginning, which is empty if no file is named.
@@ -71,7 +43,7 @@ fn start_of<'a, I: Inputs>(
     };
     let text = read_text(alloc, inputs, file, request.start_encoding)?;
     let (article, number) = request.start_columns;
-    let start = read_start(alloc, text.as_slice(), article, number, request.reading);
+    let start = read_counts_as(alloc, text.as_slice(), article, number, request.reading);
     Ok(in_start(alloc, file, start)?)
 }
 
@@ -149,6 +121,7 @@ fn refused_text(
     } else {
         all
     };
+    // A table for a file, lines for standard error.
     match request.refused {
         Some(_) => refusals_table(alloc, &request.files, request.reading, named),
         None => {
@@ -205,7 +178,7 @@ pub fn enter_unkept<'a, I: Inputs, S: BuildHasher + Drop>(
     // The status is 1 exactly if a movement is refused.
     ensures status { IfOk result (λ report. report.status ≡ status_with report.entered) }
 
-    // No balance is written exactly if that was asked for, and a movement is refused.
+    // No balance is written exactly if `strict` is set, and a movement is refused.
     ensures denied { IfOk result (λ report. report.balance ≡ None ↔ (request.now.strict ≡ true) × (report.status ≡ 1)) }
 {
     let entered = entered_of(alloc, state, inputs, request)?;

@@ -87,7 +87,6 @@ fn difference_of<'a, S: BuildHasher + Drop>(
     let Kept {
         shape,
         movements,
-        extras,
         refusals,
         balance,
         batches,
@@ -97,7 +96,7 @@ fn difference_of<'a, S: BuildHasher + Drop>(
             "batch {number}: other numbers of movements than it has"
         )?));
     }
-    let movements = movements_from(alloc, movements)?;
+    let (movements, extras) = movements_from(alloc, movements)?;
     match book_batch(alloc, state, Vec::new(alloc), movements) {
         Ok(booked) => {
             Ok(wrong_row(

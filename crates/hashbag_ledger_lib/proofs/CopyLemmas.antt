@@ -9,7 +9,7 @@ use Rattle.hashbag_ledger_lib.specs.Entries.{entries_of, IsBooked}
 use Rattle.hashbag_ledger_lib.specs.Ledger.{in_the_end, refused_of, Leaves, IsPast}
 use Rattle.hashbag_ledger_lib.specs.Rows.{row, rows_of}
 use Rattle.hashbag_ledger_lib.specs.Settled.{listed, IsPastWithin}
-use Rattle.hashbag_ledger_lib.specs.Undos.{opposites_of, IsUndo, IsUndoOf, HasRisingRows}
+use Rattle.hashbag_ledger_lib.specs.Undos.{opposites_of, IsUndo, EntersOrRefuses, HasRisingRows}
 use Rattle.hashbag_ledger_lib.specs.declared.undoing.Undo.{Undo}
 use Rattle.hashbag_ledger_lib.specs.declared.undoing.Undo.TheVariants.{Done, Refused}
 
@@ -64,7 +64,7 @@ module _ (L M : Articles) (same : rows_of L ≡ rows_of M) where
   pub undo_same : (batch : List (Movement (String Global))) (u : Undo (String Global)) → IsUndo string_eq string_cmp (listed string_eq L) batch u → IsUndo string_eq string_cmp (listed string_eq M) batch u
   undo_same batch u is = subst (λ (s : String Global → ℕ). IsUndo string_eq string_cmp s batch u) listed_same is
 
-  pub each_same : (batch : List (Movement (String Global))) (u : Undo (String Global)) → IsUndoOf string_eq L batch u → IsUndoOf string_eq M batch u
+  pub each_same : (batch : List (Movement (String Global))) (u : Undo (String Global)) → EntersOrRefuses string_eq L batch u → EntersOrRefuses string_eq M batch u
   each_same batch (Done booked) is = is ∙ ap (λ (s : String Global → ℕ). entries_of string_eq s (opposites_of batch)) listed_same
   each_same batch (Refused refusals) is = is ∙ ap (λ (s : String Global → ℕ). refused_of string_eq s (opposites_of batch)) listed_same
 

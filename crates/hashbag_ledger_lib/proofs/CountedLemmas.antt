@@ -15,7 +15,7 @@ use Rattle.hashbag_ledger_lib.proofs.CopyLemmas.{listed_same}
 use Rattle.hashbag_ledger_lib.proofs.CountLemmas.{sum_alike, there_alike, none_refused, numbers_set}
 
 -- the entries of movements are of these movements
-movements_after : {T : Type 0} (eq : T → T → Bool) (start : T → ℕ) (E ms : List (Movement T)) → movements_of (entries_after eq start E ms) ≡ ms
+pub movements_after : {T : Type 0} (eq : T → T → Bool) (start : T → ℕ) (E ms : List (Movement T)) → movements_of (entries_after eq start E ms) ≡ ms
 movements_after eq start E [] = refl
 movements_after {T} eq start E (m ∷ ms) = ap (λ (l : List (Movement T)). m ∷ l) (movements_after eq start (cond (asks_too_much eq start E m) E (E ++ m ∷ [])) ms)
 

@@ -1,5 +1,5 @@
 -- The balance of a day, one entry after the other.
-use Rattle.std.proofs.Common.{◌≡◌, ℕ, ◌+◌, Bool, true, false, cond, List, [], ◌∷◌, ◌++◌, map, sum_by, bytes_eq, String, Global, refl, sym, ◌∙◌, ap, subst, append_assoc, ◌<◌, All, get_or, arith}
+use Rattle.std.proofs.Common.{◌≡◌, ℕ, ◌+◌, Bool, true, false, cond, List, [], ◌∷◌, ◌++◌, map, bytes_eq, String, Global, refl, sym, ◌∙◌, ap, subst, append_assoc, ◌<◌, All, get_or, arith}
 use Rattle.std.proofs.lemmas.List.{append-nil, get_or-map, length-map, map-append}
 use Rattle.std.proofs.lemmas.List.Sums.{sum_by-cons}
 use Rattle.std.specs.Borrow.{Bor}
@@ -10,44 +10,43 @@ use Rattle.std.specs.Map.{keys_of}
 use Rattle.std.specs.Ordering.{nat_cmp}
 use Rattle.std.specs.String.{string_bytes}
 use Rattle.hashbag_csv.specs.Quantities.{quantity, IsBalance}
-use Rattle.hashbag_ledger_lib.specs.Dated.{came_of, count_of, counted, counts_at, moved, named, named_sum, net, went_of, IsBalanceAt, IsNetOf}
+use Rattle.hashbag_ledger_lib.specs.Dated.{came_of, count_of, counted, counts_at, moved, named, named_sum, net, went_of, Dated, IsBalanceAt, IsNetOf}
 use Rattle.hashbag_ledger_lib.specs.Ledger.{coming, going}
 use Rattle.hashbag_ledger_lib.specs.Numbers.{size}
 use Rattle.hashbag_ledger_lib.specs.declared.dated.Part.{Part}
 use Rattle.hashbag_ledger_lib.specs.declared.dated.Part.TheVariants.{In as Came, Out as Went, Both}
 use Rattle.hashbag_ledger_lib.specs.declared.movements.Change.{Change}
 use Rattle.hashbag_ledger_lib.specs.declared.movements.Change.TheVariants.{In, Out}
-use Rattle.hashbag_ledger_lib.specs.declared.movements.Entry.{Entry}
 use Rattle.hashbag_ledger_lib.specs.declared.movements.Movement.{Movement}
 
-module _ (date : List ℕ) (e : Entry (String Global)) (day : List ℕ) (part : Part) (xs : List (Bor (List ℕ) × ℕ)) where
-  counted_next : (es : List (Entry (String Global))) (days : List (List ℕ)) → counted date (e ∷ es) (day ∷ days) ≡ counted date (e ∷ []) (day ∷ []) ++ counted date es days
-  counted_next es days = by_case (counts_at date e day)
+module _ (date : List ℕ) (e : Dated) (part : Part) (xs : List (Bor (List ℕ) × ℕ)) where
+  counted_next : (es : List Dated) → counted date (e ∷ es) ≡ counted date (e ∷ []) ++ counted date es
+  counted_next es = by_case (counts_at date e)
     where
-      by_case : (b : Bool) → cond b (e.movement ∷ counted date es days) (counted date es days) ≡ cond b (e.movement ∷ []) [] ++ counted date es days
+      by_case : (b : Bool) → cond b (e.0.movement ∷ counted date es) (counted date es) ≡ cond b (e.0.movement ∷ []) [] ++ counted date es
       by_case true = refl
       by_case false = refl
 
   -- it counts
-  pub pushed_one : (ys : List (Bor (List ℕ) × ℕ)) (x : Bor (List ℕ) × ℕ) → counts_at date e day ≡ true → ys ≡ xs ++ x ∷ [] → named x ≡ moved part e.movement
-      → map named ys ≡ map named xs ++ map (moved part) (counted date (e ∷ []) (day ∷ []))
+  pub pushed_one : (ys : List (Bor (List ℕ) × ℕ)) (x : Bor (List ℕ) × ℕ) → counts_at date e ≡ true → ys ≡ xs ++ x ∷ [] → named x ≡ moved part e.0.movement
+      → map named ys ≡ map named xs ++ map (moved part) (counted date (e ∷ []))
   pushed_one ys x counts is same =
       ap (map named) is ∙ map-append named xs (x ∷ []) ∙ ap (λ (r : List ℕ × ℕ). map named xs ++ r ∷ []) same
-      ∙ ap (λ (b : Bool). map named xs ++ map (moved part) (cond b (e.movement ∷ []) [])) (sym counts)
+      ∙ ap (λ (b : Bool). map named xs ++ map (moved part) (cond b (e.0.movement ∷ []) [])) (sym counts)
 
   -- it doesn't
-  pub pushed_none : counts_at date e day ≡ false → map named xs ≡ map named xs ++ map (moved part) (counted date (e ∷ []) (day ∷ []))
-  pushed_none counts = sym (append-nil (map named xs)) ∙ ap (λ (b : Bool). map named xs ++ map (moved part) (cond b (e.movement ∷ []) [])) (sym counts)
+  pub pushed_none : counts_at date e ≡ false → map named xs ≡ map named xs ++ map (moved part) (counted date (e ∷ []))
+  pushed_none counts = sym (append-nil (map named xs)) ∙ ap (λ (b : Bool). map named xs ++ map (moved part) (cond b (e.0.movement ∷ []) [])) (sym counts)
 
   -- one entry less is left
-  pub next_moved : (all : List (List ℕ × ℕ)) (ys : List (Bor (List ℕ) × ℕ)) (es : List (Entry (String Global))) (days : List (List ℕ))
-      → map named xs ++ map (moved part) (counted date (e ∷ es) (day ∷ days)) ≡ all
-      → map named ys ≡ map named xs ++ map (moved part) (counted date (e ∷ []) (day ∷ []))
-      → map named ys ++ map (moved part) (counted date es days) ≡ all
-  next_moved all ys es days whole pushed =
-      ap (λ (l : List (List ℕ × ℕ)). l ++ map (moved part) (counted date es days)) pushed
-      ∙ append_assoc (map named xs) (map (moved part) (counted date (e ∷ []) (day ∷ []))) (map (moved part) (counted date es days))
-      ∙ ap (λ (l : List (List ℕ × ℕ)). map named xs ++ l) (sym (map-append (moved part) (counted date (e ∷ []) (day ∷ [])) (counted date es days)) ∙ ap (map (moved part)) (sym (counted_next es days)))
+  pub next_moved : (all : List (List ℕ × ℕ)) (ys : List (Bor (List ℕ) × ℕ)) (es : List Dated)
+      → map named xs ++ map (moved part) (counted date (e ∷ es)) ≡ all
+      → map named ys ≡ map named xs ++ map (moved part) (counted date (e ∷ []))
+      → map named ys ++ map (moved part) (counted date es) ≡ all
+  next_moved all ys es whole pushed =
+      ap (λ (l : List (List ℕ × ℕ)). l ++ map (moved part) (counted date es)) pushed
+      ∙ append_assoc (map named xs) (map (moved part) (counted date (e ∷ []))) (map (moved part) (counted date es))
+      ∙ ap (λ (l : List (List ℕ × ℕ)). map named xs ++ l) (sym (map-append (moved part) (counted date (e ∷ [])) (counted date es)) ∙ ap (map (moved part)) (sym (counted_next es)))
       ∙ whole
 
 -- ---- sums
@@ -107,9 +106,9 @@ key_within L e there =
     let below = there.1 in
     (there.0, omega arith, get_or-map (λ x. x.0) L there.0 e e.0 below ∙ ap (λ (x : Bor (List ℕ) × ℕ). x.0) there.2)
 
-module _ (date : List ℕ) (es : List (Entry (String Global))) (days : List (List ℕ)) where
+module _ (date : List ℕ) (es : List Dated) where
   abbrev all_counted : List (Movement (String Global))
-  all_counted = counted date es days
+  all_counted = counted date es
 
   -- a bag whose list has what these movements move
   abbrev IsOf : Part → List (Bor (List ℕ)) → List (Bor (List ℕ) × ℕ) → Type 0
@@ -121,7 +120,7 @@ module _ (date : List ℕ) (es : List (Entry (String Global))) (days : List (Lis
   pub is_balance : (came went all : List (Bor (List ℕ))) (c w a articles : List (Bor (List ℕ) × ℕ)) (rows : List (Bor (List ℕ) × Change))
       → IsOf Came came c → IsOf Went went w → IsOf Both all a
       → IsBalance (λ x y. bytes_eq x.now y.now) (λ x y. slice_cmp nat_cmp x.now y.now) (λ v. count_of v all) articles
-      → keys_of rows ≡ keys_of articles → All (IsNetOf came went) rows → IsBalanceAt date es days rows
+      → keys_of rows ≡ keys_of articles → All (IsNetOf came went) rows → IsBalanceAt date es rows
   is_balance came went all c w a articles rows is_came is_went is_all balance keys nets = record {
     numbers = λ k d within.
         let r = get_or rows k d in

@@ -11,6 +11,7 @@ pub mod ExtraLemmas
 pub mod LedgerLemmas
 pub mod ListLemmas
 pub mod ReadLemmas
+pub mod RecallLemmas
 pub mod RunLemmas
 pub mod SealLemmas
 pub mod UndoLemmas

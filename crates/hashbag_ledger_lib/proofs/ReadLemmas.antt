@@ -1,5 +1,5 @@
 -- Movements that are read one after the other.
-use Rattle.std.proofs.Common.{◌≡◌, ℕ, Bor, List, [], ◌∷◌, ◌++◌, map, All, String, Global, refl, sym, ◌∙◌, ap, append_assoc, arith}
+use Rattle.std.proofs.Common.{◌≡◌, ℕ, Bor, List, [], ◌∷◌, ◌++◌, map, String, Global, refl, sym, ◌∙◌, ap, append_assoc, arith}
 use Rattle.std.proofs.lemmas.List.{append-nil, map-append}
 use Rattle.std.proofs.lemmas.List.Elements.{All-push}
 use Rattle.std.specs.String.{string_eq}
@@ -14,7 +14,6 @@ use Rattle.hashbag_ledger_lib.specs.declared.reading.ChangeColumns.{ChangeColumn
 use Rattle.hashbag_ledger_lib.specs.declared.reading.ChangeColumns.TheVariants.{Signed, ByKind}
 use Rattle.hashbag_ledger_lib.specs.declared.reading.Columns.{Columns}
 use Rattle.hashbag_ledger_lib.specs.Movements.{said, change_by, columns_by, movement_in, movements_under, EntersFile}
-use Rattle.hashbag_ledger_lib.specs.Settled.{IsLedgerOf}
 use Rattle.hashbag_ledger_lib.proofs.RunLemmas.{Takes, none_more, one_more}
 
 -- ---- columns

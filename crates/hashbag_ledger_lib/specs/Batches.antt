@@ -1,4 +1,4 @@
--- Batches of movements that are entered in turn, each into the balance that the ones before left.
+-- Batches of movements that are entered in turn, each into the balance that the batches before it left.
 use Rattle.std.specs.Prelude.{◌≡◌, ℕ, ◌++◌, Bool, List, [], ◌∷◌}
 use Rattle.std.specs.declared.cmp.Ordering.{Ordering}
 use Rattle.std.specs.Global.{Vec}
@@ -14,7 +14,8 @@ all_of [] = []
 all_of (f ∷ fs) = f.items ++ all_of fs
 
 module _ {T : Type 0} (eq : T → T → Bool) (cmp : T → T → Ordering) where
-  -- the balance and the refusals of a batch, after the movements of the batches before it, are those of all the movements in one turn
+  -- after the movements `before`, a batch left the balance `left` and these refusals. The balance, and the refusals with the earlier ones
+  -- before them, are those of all the movements in one turn
   pub record Continues (start : T → ℕ) (before batch : List (Movement T)) (left : List (T × ℕ)) (refusals : List (Refusal T)) : Type 0 where
     pub balance : IsBalance eq cmp (in_the_end eq start (before ++ batch)) left
     pub leaves : Leaves eq start (before ++ batch) (listed eq left)

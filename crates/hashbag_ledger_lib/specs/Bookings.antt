@@ -1,4 +1,4 @@
--- What booking movements says: it holds of whatever list the stock began as, and whatever movements came before.
+-- Clauses about booked movements. They hold for any list L that the stock began as, and for any earlier movements ms.
 use Rattle.std.specs.Prelude.{ℕ, ◌++◌, List, [], ◌∷◌, String, string_cmp}
 use Rattle.std.specs.Global.{Global}
 use Rattle.std.specs.String.{string_eq}
@@ -12,29 +12,29 @@ use Rattle.hashbag_ledger_lib.specs.Entries.{refusals_in, IsStockAfter, TakesNex
 use Rattle.hashbag_ledger_lib.specs.Ledger.{Leaves}
 use Rattle.hashbag_ledger_lib.specs.Settled.{listed, IsPastWithin}
 
--- what was booked are these movements, into a stock that began as L
+-- `booked` is what the movements ms leave of a stock that began as L, and what became of each movement
 abbrev pub HasBooked : ℕ → List (String Global × ℕ) → List (Movement (String Global)) → Booked (String Global) → Type 0
 HasBooked most L ms booked = IsBooked string_eq string_cmp most L ms booked.balance.items booked.entries.items
 
--- a movement was booked with this outcome, and left the new stock
+-- the movement m was booked with this outcome, and left the stock `new`
 abbrev pub BooksMovement : {S : Type 0} → Bag (String Global) S → Bag (String Global) S → Movement (String Global) → Outcome → Type 0
 BooksMovement old new m outcome =
     (L : List (String Global × ℕ)) (ms : List (Movement (String Global))) → IsStockAfter string_eq L ms old → TakesNext string_eq L ms m new outcome
 
--- with this movement, which is at the place, the total would pass the limit of the stock
+-- with the movement m, which is at the place, the total would pass the limit of the stock
 abbrev pub StockPassesLimitWith : {S : Type 0} → Bag (String Global) S → Movement (String Global) → Place → Type 0
 StockPassesLimitWith stock m place =
     (L : List (String Global × ℕ)) (ms : List (Movement (String Global))) → IsStockAfter string_eq L ms stock → IsPastWithin string_eq stock.most L (ms ++ m ∷ []) place
 
--- what was booked are these movements, the first ones of this stock
+-- if no movement came to the stock before, `booked` is what the movements ms leave, and what became of each movement
 abbrev pub BooksFirst : {S : Type 0} → Bag (String Global) S → List (Movement (String Global)) → Booked (String Global) → Type 0
 BooksFirst stock ms booked = (L : List (String Global × ℕ)) → IsStockAfter string_eq L [] stock → HasBooked stock.most L ms booked
 
--- with the one of these movements, the first ones of this stock, that is at the place, the total would pass the limit of the stock
+-- if no movement came to the stock before, the total would pass its limit with the movement of ms at the place
 abbrev pub StockPassesLimitAmong : {S : Type 0} → Bag (String Global) S → List (Movement (String Global)) → Place → Type 0
 StockPassesLimitAmong stock ms place = (L : List (String Global × ℕ)) → IsStockAfter string_eq L [] stock → IsPastWithin string_eq stock.most L ms place
 
--- whatever movements left this balance, what was booked of the batch is that of all movements in one turn
+-- for any movements `before` that left the balance `kept`, what was booked of the batch is that of all movements in one turn
 abbrev pub ContinuesFrom : List (String Global × ℕ) → List (Movement (String Global)) → Booked (String Global) → Type 0
 ContinuesFrom kept batch booked =
     (start : String Global → ℕ) (before : List (Movement (String Global))) → Leaves string_eq start before (listed string_eq kept) → Continues string_eq string_cmp start before batch booked.balance.items (refusals_in booked.entries.items)

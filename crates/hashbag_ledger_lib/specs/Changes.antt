@@ -14,7 +14,7 @@ use Rattle.hashbag_ledger_lib.specs.declared.rows.RowChange.TheVariants.{Put, Re
 abbrev pub Rises : List (String Global × ℕ) → Type 0
 Rises L = IsStrictlySortedBy string_cmp (keys_of L)
 
--- a text comes before the first article of these rows, if there is one
+-- a text comes before the article of the first of these rows; true without rows
 abbrev pub IsBefore : List ℕ → List (String Global × ℕ) → Type 0
 IsBefore v [] = Unit {0}
 IsBefore v (e ∷ L) = slice_cmp nat_cmp v (string_bytes e.0) ≡ Less
@@ -28,12 +28,12 @@ abbrev pub article_of : RowChange → String Global
 article_of (Put article n) = article
 article_of (Remove article) = article
 
--- the number that its row has afterwards, if there is a row
+-- the number that the row of the article has after a change; `None` if no row is left
 abbrev pub new_number : RowChange → Option ℕ
 new_number (Put article n) = Some n
 new_number (Remove article) = None
 
--- the number of v after these changes in turn, if it was `was` before
+-- the number of v after these changes in turn, if the number before was `was`
 abbrev pub applied : List ℕ → List RowChange → Option ℕ → Option ℕ
 applied v [] was = was
 applied v (c ∷ cs) was = applied v cs (if bytes_eq v (string_bytes (article_of c)) then new_number c else was)
@@ -50,7 +50,7 @@ abbrev pub listed_of : Option RowChange → List RowChange
 listed_of None = []
 listed_of (Some c) = c ∷ []
 
--- followed by the changes of the rows that are left, these changes are those of all rows
+-- the changes `first`, followed by the changes that turn the rows `befores` into `afters`, turn `before` into `after`
 abbrev pub Begins : (before after : List (String Global × ℕ)) (first : List RowChange) (befores afters : List (String Global × ℕ)) → Type 0
 Begins before after first befores afters = (cs : List RowChange) → (Rises befores → Rises afters → AreChanges befores afters cs)
     → Rises before → Rises after → AreChanges before after (first ++ cs)
@@ -67,6 +67,6 @@ HaveRisingArticles cs = IsStrictlySortedBy string_cmp (map article_of cs)
 abbrev pub AreNeeded : List (String Global × ℕ) → List (String Global × ℕ) → List RowChange → Type 0
 AreNeeded before after cs = All (λ c. let v = string_bytes (article_of c) in number_in v before ≢ number_in v after) cs
 
--- fewer rows are left of two balances, unless both had none
+-- `befores` and `afters` together have fewer rows than `before` and `after`, unless these have none
 abbrev pub LeavesFewerRows : (before after befores afters : List (String Global × ℕ)) → Type 0
 LeavesFewerRows before after befores afters = 0 < length before + length after → length befores + length afters < length before + length after

@@ -1,4 +1,4 @@
--- A stock that is counted. The records of a count are movements into an empty stock: an article that two records name has their sum.
+-- A stock that is counted. The records of a count are movements into an empty stock, so the numbers of an article are added.
 use Rattle.std.specs.Prelude.{◌≡◌, ℕ, ◌+◌, ◌-◌, ◌^◌, if◌then◌else◌, nat_lt, Bool, List, [], ◌∷◌, ◌++◌, map, sum_by, String, string_bytes, string_cmp}
 use Rattle.std.specs.Global.{Global}
 use Rattle.std.specs.String.{string_eq}
@@ -12,7 +12,7 @@ use Rattle.hashbag_ledger_lib.specs.Entries.{refusals_in, IsBooked}
 use Rattle.hashbag_ledger_lib.specs.Ledger.{in_the_end, stock_of}
 use Rattle.hashbag_ledger_lib.specs.Settled.{listed}
 
--- the change from a number that is there to one that was counted: from 10 to 7 it is Out 3, from 7 to 10 In 3
+-- the change that turns the number `there` into `counted`: from 10 to 7 it is Out 3, from 7 to 10 In 3
 abbrev pub change_to : ℕ → ℕ → Change
 change_to there counted = if nat_lt counted there then Out (there - counted) else In (counted - there)
 
@@ -29,42 +29,42 @@ module _ {T : Type 0} (eq : T → T → Bool) where
   abbrev pub is_named : T → List (Movement T) → Bool
   is_named v records = nat_lt 0 (times_named v records)
 
-  -- how many of v were counted: what the records make of an empty stock
+  -- how many of v were counted: what the records, as movements, leave of an empty stock
   abbrev pub counted_in : List (Movement T) → T → ℕ
   counted_in records v = in_the_end eq (listed eq []) records v
 
   module _ (there counted : T → ℕ) where
-    -- the difference of the article of a record, if no record of those before names it
+    -- the difference of a record's article; none if a record of `before` names the article
     abbrev pub difference : List (Movement T) → Movement T → List (Movement T)
     difference before m = if is_named m.article before then [] else (record { place = m.place; article = m.article; change = change_to (there m.article) (counted m.article) }) ∷ []
 
-    -- the differences of the articles that these records name and no record before names
+    -- the differences of the articles that these records name and no record of `before` names
     abbrev pub differences_after : List (Movement T) → List (Movement T) → List (Movement T)
     differences_after before [] = []
     differences_after before (m ∷ ms) = difference before m ++ differences_after (before ++ m ∷ []) ms
 
-  -- of each article that the records name, in the order in which they first do: what it takes to turn the number that is there into the
-  -- counted one. With 10 bolts there, the records `bolt 4`, `nut 1` and `bolt 3` give Out 3 of bolt and In 1 of nut
+  -- for each article that the records name, at the first record that names it: the change that turns the number there into the counted
+  -- number. With 10 bolts there, the records `bolt 4`, `nut 1` and `bolt 3` give Out 3 of bolt and In 1 of nut
   abbrev pub differences : (T → ℕ) → List (Movement T) → List (Movement T)
   differences there records = differences_after there (counted_in records) [] records
 
 module _ {T : Type 0} (eq : T → T → Bool) where
-  -- an article was noted once more
+  -- `new` has the article once more than `old`, and any other value as often
   abbrev pub NotesArticle : T → List T → List T → Type 0
   NotesArticle article old new = (v : T) → stock_of eq new v ≡ stock_of eq old v + (if eq v article then 1 else 0)
 
-  -- the difference of a record's article was appended, unless it was noted before
+  -- the difference of a record's article was appended, unless `noted` has the article
   abbrev pub AppendsDifference : List T → List T → List T → Movement T → List (Movement T) → List (Movement T) → Type 0
   AppendsDifference there counted noted m old new =
       new ≡ old ++ (if nat_lt 0 (stock_of eq noted m.article) then [] else (record { place = m.place; article = m.article; change = change_to (stock_of eq there m.article) (stock_of eq counted m.article) }) ∷ [])
 
-  -- the differences of the articles that records name, if none was noted before
+  -- if `noted` is empty, `found` are the differences of the articles that records name
   abbrev pub AreDifferencesOf : List T → List T → List T → List (Entry T) → List (Movement T) → Type 0
   AreDifferencesOf there counted noted records found =
       ((v : T) → stock_of eq noted v ≡ 0) → found ≡ differences_after eq (stock_of eq there) (stock_of eq counted) [] (movements_of records)
 
 -- the stock was counted: the differences are entered, and none of them is refused. Then each article that a record names has the counted
--- number, and every other one the number that it had
+-- number, and any other article the number that it had
 pub record IsCounted (kept : List (String Global × ℕ)) (records : List (Movement (String Global))) (filed : Filed) : Type 0 where
   pub booked : IsBooked string_eq string_cmp (2 ^ 63 - 1) kept (differences string_eq (listed string_eq kept) records) filed.booked.balance.items filed.booked.entries.items
   pub none_refused : refusals_in filed.booked.entries.items ≡ []

@@ -33,14 +33,17 @@ abbrev pub counts_by : List ℕ → Outcome → List ℕ → Bool
 counts_by date (Entered n) day = is_up_to (slice_cmp nat_cmp day date)
 counts_by date (Refused n) day = false
 
-abbrev pub counts_at : List ℕ → Entry (String Global) → List ℕ → Bool
-counts_at date e day = counts_by date e.outcome day
+-- an entry, and its day
+abbrev pub Dated : Type 0
+Dated = Entry (String Global) × String Global
 
--- of these entries, whose days are in the second list, the movements that count on a date
-abbrev pub counted : List ℕ → List (Entry (String Global)) → List (List ℕ) → List (Movement (String Global))
-counted date [] days = []
-counted date (e ∷ es) [] = []
-counted date (e ∷ es) (day ∷ days) = if counts_at date e day then e.movement ∷ counted date es days else counted date es days
+abbrev pub counts_at : List ℕ → Dated → Bool
+counts_at date e = counts_by date e.0.outcome (string_bytes e.1)
+
+-- of these entries the movements that count on a date
+abbrev pub counted : List ℕ → List Dated → List (Movement (String Global))
+counted date [] = []
+counted date (e ∷ es) = if counts_at date e then e.0.movement ∷ counted date es else counted date es
 
 -- how many of v these movements bring in, and take out
 abbrev pub came_of : List ℕ → List (Movement (String Global)) → ℕ
@@ -54,8 +57,8 @@ abbrev pub net : ℕ → ℕ → Change
 net came went = if nat_lt came went then Out (went - came) else In (came - went)
 
 -- the number of v on a date
-abbrev pub balance_at : List ℕ → List (Entry (String Global)) → List (List ℕ) → List ℕ → Change
-balance_at date es days v = net (came_of v (counted date es days)) (went_of v (counted date es days))
+abbrev pub balance_at : List ℕ → List Dated → List ℕ → Change
+balance_at date es v = net (came_of v (counted date es)) (went_of v (counted date es))
 
 -- an article of a list, by its bytes, with its number
 abbrev pub named : {N : Type 0} → Bor (List ℕ) × N → List ℕ × N
@@ -83,12 +86,12 @@ amount Both change = size change
 abbrev pub moved : Part → Movement (String Global) → List ℕ × ℕ
 moved part m = (string_bytes m.article, amount part m.change)
 
--- what an entry of this day adds on a date, if it counts
-abbrev pub moved_at : Part → List ℕ → Entry (String Global) → List ℕ → List (List ℕ × ℕ)
-moved_at part date e day = map (moved part) (counted date (e ∷ []) (day ∷ []))
+-- what an entry adds on a date, if it counts
+abbrev pub moved_at : Part → List ℕ → Dated → List (List ℕ × ℕ)
+moved_at part date e = map (moved part) (counted date (e ∷ []))
 
 -- the rows have each article that moved, once, with its number on that date, articles in ascending order
-pub record IsBalanceAt (date : List ℕ) (es : List (Entry (String Global))) (days : List (List ℕ)) (rows : List (Bor (List ℕ) × Change)) : Type 0 where
-  pub numbers : All (λ r. r.1 ≡ balance_at date es days r.0.now) rows
+pub record IsBalanceAt (date : List ℕ) (es : List Dated) (rows : List (Bor (List ℕ) × Change)) : Type 0 where
+  pub numbers : All (λ r. r.1 ≡ balance_at date es r.0.now) rows
   pub rising : IsStrictlySortedBy (λ a b. slice_cmp nat_cmp a.now b.now) (keys_of rows)
-  pub each : (v : List ℕ) → 0 < came_of v (counted date es days) + went_of v (counted date es days) → (k : Bor (List ℕ)) × Contains (keys_of rows) k × (bytes_eq v k.now ≡ true)
+  pub each : (v : List ℕ) → 0 < came_of v (counted date es) + went_of v (counted date es) → (k : Bor (List ℕ)) × Contains (keys_of rows) k × (bytes_eq v k.now ≡ true)

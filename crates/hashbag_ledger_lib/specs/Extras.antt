@@ -1,5 +1,5 @@
 -- The dates and notes of movements, as the records of a CSV text have them.
-use Rattle.std.specs.Prelude.{◌≡◌, ℕ, true, List, [], ◌∷◌, map, get_or, Option, IfSome, MatchOption, option_map, String}
+use Rattle.std.specs.Prelude.{◌≡◌, ℕ, true, List, [], ◌∷◌, map, get_or, Option, IfSome, MatchOption, option_map}
 use Rattle.std.specs.String.{string_bytes}
 use Rattle.hashbag_csv.specs.Lines.{place_of}
 use Rattle.hashbag_csv.specs.Readers.{Record, records_in}
@@ -15,8 +15,8 @@ abbrev pub carried : Extra → Option (List ℕ) × Option (List ℕ)
 carried x = (option_map string_bytes x.date, option_map string_bytes x.note)
 
 -- its date, if there is one, is a date
-abbrev pub HasDate : Extra → Type 0
-HasDate x = IfSome x.date (λ d. is_date (string_bytes d) ≡ true)
+abbrev pub HasNoBadDate : Extra → Type 0
+HasNoBadDate x = IfSome x.date (λ d. is_date (string_bytes d) ≡ true)
 
 -- f of each column, in its place: for example a column's place for its name
 abbrev pub columns_of : {C D : Type 0} → (C → D) → ExtraColumns C → ExtraColumns D

@@ -1,5 +1,5 @@
 -- The definition of the dates and notes of records computes.
-use Rattle.std.specs.Prelude.{◌≡◌, ℕ, List, [], ◌∷◌, Option, None, Some, codes, refl}
+use Rattle.std.specs.Prelude.{◌≡◌, ℕ, List, [], ◌∷◌, None, Some, codes, refl}
 use Rattle.hashbag_csv.specs.Readers.{Record}
 use Rattle.hashbag_ledger_lib.specs.Extras.{extras_under}
 use Rattle.hashbag_ledger_lib.specs.declared.extras.ExtraColumns.{ExtraColumns}

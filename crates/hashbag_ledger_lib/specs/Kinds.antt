@@ -1,4 +1,4 @@
--- How the table of batches names what a batch is.
+-- The names of the kinds of batches in the table of batches.
 use Rattle.std.specs.Prelude.{◌≡◌, ◌≢◌, ℕ, ℤ, List, All, Contains, Option, None, Some, MatchOption, string_bytes, codes}
 use Rattle.std.specs.Borrow.{Bor}
 use Rattle.hashbag_ledger_lib.specs.declared.once.Batch.{Batch}
@@ -12,14 +12,14 @@ name_of Moves = codes "moves"
 name_of Count = codes "count"
 name_of (Undo n) = codes "undo"
 
--- the batch that it undoes
+-- the number of the batch that an undo undoes; `None` for any other kind
 abbrev pub undone_of : Kind → Option ℤ
 undone_of Start = None
 undone_of Moves = None
 undone_of Count = None
 undone_of (Undo n) = Some n
 
--- the batch among these whose file has this digest, or none has it
+-- `found` is a batch whose file has this digest; or no batch has it, and `found` is `None`
 abbrev pub IsBatchOfDigest : List ℕ → List Batch → Option (Bor Batch) → Type 0
 IsBatchOfDigest digest batches found =
     MatchOption found (All (λ b. string_bytes b.sha256 ≢ digest) batches) (λ b. Contains batches b.now × (string_bytes b.now.sha256 ≡ digest))

@@ -1,4 +1,4 @@
--- Movements of a stock. A stock is how many there are of each article.
+-- Movements of a stock. A stock is a function: for each article how many there are.
 use Rattle.std.specs.Prelude.{◌≡◌, ℕ, ◌+◌, ◌-◌, ◌<◌, ◌≤◌, if◌then◌else◌, nat_lt, Bool, List, [], ◌∷◌, ◌++◌, length, sum_by, take}
 use Rattle.hashbag.specs.Occurrences.{count}
 use Rattle.hashbag_ledger_lib.specs.declared.movements.Change.{Change}
@@ -22,16 +22,16 @@ abbrev pub total_after : {T : Type 0} → ℕ → List (Movement T) → ℕ
 total_after total entered = total + sum_by (λ m. coming m.change) entered - sum_by (λ m. going m.change) entered
 
 module _ {T : Type 0} (eq : T → T → Bool) where
-  -- the stock whose items are these
+  -- the stock that has the items X
   abbrev pub stock_of : List T → T → ℕ
   stock_of X v = count eq v X
 
-  -- a movement that takes out no more than is there changes the stock of its article alone, by its number
+  -- the movement m takes out no more than is there, and changes the number of its article alone
   pub record Changes (m : Movement T) (before after : T → ℕ) : Type 0 where
     pub enough : going m.change ≤ before m.article
     pub counts : (v : T) → after v + (if eq v m.article then going m.change else 0) ≡ before v + (if eq v m.article then coming m.change else 0)
 
-  -- a movement that would take out more than is there is refused, with how many there are
+  -- the movement m would take out more than is there, and r is its refusal, with how many there are
   pub record RefusesMovement (m : Movement T) (before : T → ℕ) (r : Refusal T) : Type 0 where
     pub too_much : before m.article < going m.change
     pub is : r ≡ record { place = m.place; article = m.article; asked = going m.change; there = before m.article }
@@ -45,45 +45,45 @@ module _ {T : Type 0} (eq : T → T → Bool) where
   went v ms = sum_by (λ m. if eq v m.article then going m.change else 0) ms
 
   module _ (start : T → ℕ) where
-    -- how many of v there are after these movements were entered
+    -- how many of v there are after the movements `entered`
     abbrev pub there : List (Movement T) → T → ℕ
     there entered v = start v + came v entered - went v entered
 
-    -- a movement that comes after these would take out more than there is
+    -- whether the movement m, after the movements `entered`, would take out more than is there
     abbrev pub asks_too_much : List (Movement T) → Movement T → Bool
     asks_too_much entered m = nat_lt (there entered m.article) (going m.change)
 
-    -- of `entered`, which were entered before, and of ms, all movements that are then entered
+    -- `entered`, and then the movements of ms that are entered after these
     abbrev pub entered_after : List (Movement T) → List (Movement T) → List (Movement T)
     entered_after entered [] = entered
     entered_after entered (m ∷ ms) = entered_after (if asks_too_much entered m then entered else entered ++ m ∷ []) ms
 
-    -- a refused movement, with how many there were
+    -- the refusal of the movement m after `entered`, with how many there are
     abbrev pub refusal : List (Movement T) → Movement T → Refusal T
     refusal entered m = record { place = m.place; article = m.article; asked = going m.change; there = there entered m.article }
 
-    -- the refusals of those of the movements ms that are refused, if these were entered before
+    -- the refusals among ms, after `entered` were entered
     abbrev pub refused_after : List (Movement T) → List (Movement T) → List (Refusal T)
     refused_after entered [] = []
     refused_after entered (m ∷ ms) = if asks_too_much entered m then refusal entered m ∷ refused_after entered ms else refused_after (entered ++ m ∷ []) ms
 
-    -- of all movements, those that are entered
+    -- the movements of ms that are entered
     abbrev pub entered_of : List (Movement T) → List (Movement T)
     entered_of ms = entered_after [] ms
 
-    -- of all movements, the refusals of those that are refused
+    -- the refusals among ms
     abbrev pub refused_of : List (Movement T) → List (Refusal T)
     refused_of ms = refused_after [] ms
 
-    -- how many there are of each article once all movements have come
+    -- the stock after the movements ms
     abbrev pub in_the_end : List (Movement T) → T → ℕ
     in_the_end ms = there (entered_of ms)
 
-    -- at no time more went out than was there: of each article, after the first k movements that were entered, whichever k
+    -- after each number k of entered movements, no more of an article went out than was there at first and came in
     abbrev pub IsNeverBelowZero : List (Movement T) → Type 0
     IsNeverBelowZero entered = (k : ℕ) (v : T) → went v (take k entered) ≤ start v + came v (take k entered)
 
-    -- what movements leave of a stock: what there was and what came in is what there is and what went out
+    -- `end` is the stock after these movements: for each article, start + in = end + out
     pub record Leaves (ms : List (Movement T)) (end : T → ℕ) : Type 0 where
       pub counts : (v : T) → end v ≡ in_the_end ms v
       pub conserved : (v : T) → start v + came v (entered_of ms) ≡ end v + went v (entered_of ms)
@@ -98,6 +98,6 @@ module _ {T : Type 0} (eq : T → T → Bool) where
       pub at_place : place ≡ movement.place
       pub over : most < total_after total (entered_of before) + coming movement.change
 
--- of all articles there are more by what comes in, and fewer by what goes out
+-- the total rises by what comes in, and falls by what goes out
 abbrev pub ChangesTotal : {T : Type 0} → Change → List T → List T → Type 0
 ChangesTotal change old new = length new + going change ≡ length old + coming change

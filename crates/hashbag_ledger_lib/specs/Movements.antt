@@ -1,5 +1,5 @@
--- The movements of a CSV text under its header: of each record an article and a change.
-use Rattle.std.specs.Prelude.{◌≡◌, ℕ, Bool, true, false, List, [], ◌∷◌, ◌==◌, ◌++◌, if◌then◌else◌, map, get_or, bytes_eq, codes, All, String, Option, MatchOption}
+-- The movements of a CSV text below its header: for each record an article and a change.
+use Rattle.std.specs.Prelude.{◌≡◌, ℕ, List, [], ◌∷◌, ◌==◌, ◌++◌, if◌then◌else◌, map, get_or, bytes_eq, codes, All, String, Option, MatchOption}
 use Rattle.std.specs.Borrow.{Bor}
 use Rattle.std.specs.Global.{Global}
 use Rattle.std.specs.String.{string_bytes, string_eq}
@@ -19,25 +19,25 @@ use Rattle.hashbag_ledger_lib.specs.declared.reading.ChangeColumns.TheVariants.{
 use Rattle.hashbag_ledger_lib.specs.declared.reading.Columns.{Columns}
 use Rattle.hashbag_ledger_lib.specs.Settled.{IsLedgerOf}
 
--- what a movement says, wherever it is: its article, as bytes, and its change
+-- what a movement says, without its place: the article, as bytes, and the change
 abbrev pub said : Movement (String Global) → List ℕ × Change
 said m = (string_bytes m.article, m.change)
 
--- a number after `-` goes out; one after `+`, or alone, comes in
+-- a number after `-` goes out; a number after `+`, or without a sign, comes in
 abbrev pub signed : Scale → List ℕ → Change
 signed scale [] = In (number_in scale [])
 signed scale (c ∷ digits) = if c == 45 then Out (number_in scale digits) else (if c == 43 then In (number_in scale digits) else In (number_in scale (c ∷ digits)))
 
--- of the kind `in` it comes, of another it goes
+-- the kind `in` adds n; any other kind removes n
 abbrev pub of_kind : List ℕ → ℕ → Change
 of_kind kind n = if bytes_eq (codes "in") kind then In n else Out n
 
--- f of each column of a change: for example its place, from its name
+-- f applied to each column of a change
 abbrev pub change_by : {C D : Type 0} → (C → D) → ChangeColumns C → ChangeColumns D
 change_by f (Signed change) = Signed (f change)
 change_by f (ByKind kind number) = ByKind (f kind) (f number)
 
--- the columns of a movement, with f of each in its place: for example a column's place for its name
+-- f applied to each column of a movement: it turns names into places, for example
 abbrev pub columns_by : {C D : Type 0} → (C → D) → Columns C → Columns D
 columns_by f columns = record { article = f columns.article; change = change_by f columns.change }
 
@@ -46,11 +46,11 @@ abbrev pub change_in : Scale → ChangeColumns ℕ → Record → Change
 change_in scale (Signed change) r = signed scale (get_or r change [])
 change_in scale (ByKind kind number) r = of_kind (get_or r kind []) (number_in scale (get_or r number []))
 
--- what the movement of a record says: its article and its change
+-- what the movement of a record says: the article and the change
 abbrev pub movement_in : Scale → Columns ℕ → Record → List ℕ × Change
 movement_in scale columns r = (get_or r columns.article [], change_in scale columns.change r)
 
--- the movements of the records after the first one, which is their header: `names` are the names of the columns
+-- the movements below a header, which is the first of these records; `names` are the names of its columns
 abbrev pub movements_under : Scale → Columns (List ℕ) → List Record → List (List ℕ × Change)
 movements_under scale names [] = []
 movements_under scale names (header ∷ records) = map (movement_in scale (columns_by (place_of header) names)) records
@@ -59,11 +59,11 @@ movements_under scale names (header ∷ records) = map (movement_in scale (colum
 abbrev pub movements_in : Reading → Columns (List ℕ) → List ℕ → List (List ℕ × Change)
 movements_in reading names text = movements_under reading.scale names (records_in reading.delimiter text)
 
--- `before` is a record and then `after`, and m is that record's movement
+-- `before` is one record r and then `after`; m is the movement of r
 abbrev pub IsNextMovement : Scale → Columns ℕ → List Record → List Record → Movement (String Global) → Type 0
 IsNextMovement scale columns before after m = (r : Record) × (before ≡ r ∷ after) × (said m ≡ movement_in scale columns r)
 
--- movements that say this were entered, whatever came before: those of this file
+-- the movements of one file were entered: `moved` is what they say, and any earlier movements may have come before
 pub record EntersFile {S : Type 0} (file : ℕ) (moved : List (List ℕ × Change)) (refused : List (Refusal (String Global))) (stock : Bag (String Global) S) (refused' : List (Refusal (String Global))) (stock' : Bag (String Global) S) : Type 0 where
   pub read : List (Movement (String Global))
   pub all : map said read ≡ moved
@@ -74,6 +74,6 @@ pub record EntersFile {S : Type 0} (file : ℕ) (moved : List (List ℕ × Chang
 abbrev pub movements_named : Reading → Columns (Bor (List ℕ)) → List ℕ → List (List ℕ × Change)
 movements_named reading names text = movements_in reading (columns_by (λ n. n.now) names) text
 
--- the next record was read, as its movement, or none was left
+-- the next record was read, and `next` is its movement; or no record was left, and `next` is `None`
 abbrev pub ReadsNextMovement : Scale → Columns ℕ → Sheet → Option (Movement (String Global)) → Sheet → Type 0
 ReadsNextMovement scale columns old next new = MatchOption next (left old ≡ []) (λ m. IsNextMovement scale columns (left old) (left new) m)

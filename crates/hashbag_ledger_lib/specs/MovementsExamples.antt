@@ -24,7 +24,7 @@ row a b = a ∷ b ∷ []
 abbrev row_of_three : List ℕ → List ℕ → List ℕ → Record
 row_of_three a b c = a ∷ b ∷ c ∷ []
 
--- columns in any order; an article may come more than once
+-- columns may be in any order, and an article may occur more than once
 signs : movements_under tenths by_sign (row (codes "n") (codes "a") ∷ row (codes "5") (codes "nut") ∷ row (codes "-1.5") (codes "nut") ∷ row (codes "+2") (codes "x") ∷ [])
     ≡ (codes "nut", In 50) ∷ (codes "nut", Out 15) ∷ (codes "x", In 20) ∷ []
 signs = refl

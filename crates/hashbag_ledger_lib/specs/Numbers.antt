@@ -3,7 +3,7 @@ use Rattle.std.specs.Prelude.{ℕ, ◌+◌, ℤ, pos, negsuc, zero, suc}
 use Rattle.hashbag_ledger_lib.specs.declared.movements.Change.{Change}
 use Rattle.hashbag_ledger_lib.specs.declared.movements.Change.TheVariants.{In, Out}
 
--- the change that a row with this number has: what is below 0 goes out
+-- the change of a row with this number: `Out` below 0, else `In`
 abbrev pub change_at : ℤ → Change
 change_at (pos n) = In n
 change_at (negsuc n) = Out (n + 1)

@@ -1,20 +1,23 @@
--- What became of movements that a database has. The stock was empty before the first one.
+-- What became of the movements in a database. The stock was empty before the first movement.
 use Rattle.std.specs.Prelude.{ℕ, Bool, List, [], ◌==◌, filter, String}
 use Rattle.std.specs.Global.{Global}
+use Rattle.std.specs.List.{zip}
+use Rattle.std.specs.Map.{keys_of, values_of}
 use Rattle.std.specs.String.{string_eq}
 use Rattle.hashbag_ledger_lib.specs.declared.movements.Entry.{Entry}
 use Rattle.hashbag_ledger_lib.specs.declared.movements.Movement.{Movement}
 use Rattle.hashbag_ledger_lib.specs.Entries.{entries_of}
 use Rattle.hashbag_ledger_lib.specs.Settled.{listed}
 
--- these movements, which are all, with what became of them
-abbrev pub recalled : List (Movement (String Global)) → List (Entry (String Global))
-recalled ms = entries_of string_eq (listed string_eq []) ms
+module _ {X : Type 0} where
+  -- the movements ms, each with what became of it, from an empty stock, and with what it carries along
+  abbrev pub recalled : List (Movement (String Global) × X) → List (Entry (String Global) × X)
+  recalled ms = zip (entries_of string_eq (listed string_eq []) (keys_of ms)) (values_of ms)
 
--- an entry is of this batch, if the file of a place is the number of a batch
-abbrev pub is_of : ℕ → Entry (String Global) → Bool
-is_of batch e = e.movement.place.file == batch
+  -- whether an entry is of this batch; `place.file` is the number of the batch
+  abbrev pub is_of : ℕ → Entry (String Global) × X → Bool
+  is_of batch e = e.0.movement.place.file == batch
 
--- the movements of a batch with what became of them: all movements before them count too
-abbrev pub recalled_of : ℕ → List (Movement (String Global)) → List (Entry (String Global))
-recalled_of batch ms = filter (is_of batch) (recalled ms)
+  -- the movements of a batch, each with what became of it; all movements before the batch count too
+  abbrev pub recalled_of : ℕ → List (Movement (String Global) × X) → List (Entry (String Global) × X)
+  recalled_of batch ms = filter (is_of batch) (recalled ms)

@@ -19,39 +19,39 @@ row e = (string_bytes e.0, e.1)
 abbrev pub rows_of : List (String Global × ℕ) → List (List ℕ × ℕ)
 rows_of L = map row L
 
--- the row of a refusal, whose movement has the number of its file
+-- the row of a refusal; `place.file` is the number of the movement
 abbrev pub kept_of : Refusal (String Global) → KeptRefusal
 kept_of r = record { movement = r.place.file; there = r.there }
 
--- what is said of two lists at the first place where they differ
+-- `wrong` is what `wrong_at` says of the elements of two lists at the first place where the lists differ
 pub record IsFirstDifference {X W : Type 0} (wrong_at : Option X → Option X → W) (kept counted : List X) (wrong : W) : Type 0 where
   pub place : ℕ
   pub before : (k : ℕ) → k < place → slice_get kept k ≡ slice_get counted k
   pub differ : slice_get kept place ≢ slice_get counted place
   pub is : wrong ≡ wrong_at (slice_get kept place) (slice_get counted place)
 
--- of two rows the article that comes first, with its number in each; 0 if the row is another one's
+-- the lower article of two rows, with its number in each row; 0 if the row is of the other article
 abbrev pub lower_row : (k c : List ℕ × ℕ) → Ordering → List ℕ × ℕ × ℕ
 lower_row k c Less = (k.0, k.1, 0)
 lower_row k c Equal = (k.0, k.1, c.1)
 lower_row k c Greater = (c.0, 0, c.1)
 
--- of a kept row and a counted one at the same place, the article that comes first, with both numbers; a missing row has none, so its number
--- is 0
+-- the lower article of a kept and a counted row at the same place, with its number in each row; 0 if the row is of the other article, or
+-- missing
 abbrev pub wrong_row : Option (List ℕ × ℕ) → Option (List ℕ × ℕ) → Option (List ℕ × ℕ × ℕ)
 wrong_row (Some k) (Some c) = Some (lower_row k c (slice_cmp nat_cmp k.0 c.0))
 wrong_row (Some k) None = Some (k.0, k.1, 0)
 wrong_row None (Some c) = Some (c.0, 0, c.1)
 wrong_row None None = None
 
--- the lower number of two movements, or that of the only one
+-- the lower movement number of two refusals, or the movement number of the only one
 abbrev pub wrong_movement : Option KeptRefusal → Option KeptRefusal → ℕ
 wrong_movement (Some k) (Some c) = min k.movement c.movement
 wrong_movement (Some k) None = k.movement
 wrong_movement None (Some c) = c.movement
 wrong_movement None None = 0
 
--- of two rows the article that comes first, with its number in each; 0 if the row is another one's
+-- the lower article of two rows, with its number in each row; 0 if the row is of the other article
 abbrev pub first_row : (k c : List ℕ × ℕ) → List ℕ × ℕ × ℕ
 first_row k c = lower_row k c (slice_cmp nat_cmp k.0 c.0)
 
@@ -59,6 +59,6 @@ first_row k c = lower_row k c (slice_cmp nat_cmp k.0 c.0)
 abbrev pub row_there : Option (Bor (String Global × ℕ)) → Option (List ℕ × ℕ)
 row_there e = option_map row (option_copied e)
 
--- an article with the two numbers that differ
+-- an article with its two numbers
 abbrev pub article_with_both : WrongNumber → List ℕ × ℕ × ℕ
 article_with_both w = (w.article.now, w.kept, w.counted)

@@ -1,4 +1,5 @@
--- What the seal of a batch is made of: the scale of the stock, the row of the batch, its movements, and their dates and notes. Each text has its length before it.
+-- What the seal of a batch is computed from: the scale of the stock, the row of the batch, the movements, and their dates and notes. The
+-- length of each text is before the text.
 use Rattle.std.specs.Prelude.{◌≡◌, ℕ, ℤ, List, [], ◌∷◌, ◌++◌, ◌+◌, ◌&&◌, if◌then◌else◌, length, take, drop, Option, None, Some, is_none, option_map, String, string_bytes}
 use Rattle.std.specs.Global.{Global}
 use Rattle.std.specs.Int.{w64, to_le_bytes, cast_unsigned}
@@ -23,12 +24,12 @@ with_number m n = m ++ to_le_bytes w64 n
 abbrev pub with_text : List ℕ → List ℕ → List ℕ
 with_text m text = with_number m (length text) ++ text
 
--- a message m and then a number with a sign, or that there is none
+-- a message m and then a number with a sign, after 1; or 0 if the number is missing
 abbrev pub with_option : List ℕ → Option ℤ → List ℕ
 with_option m None = with_number m 0
 with_option m (Some n) = with_number (with_number m 1) (cast_unsigned w64 n)
 
--- a message m and then a change
+-- a message m and then a change: 0 for `In` or 1 for `Out`, and the number
 abbrev pub with_change : List ℕ → Change → List ℕ
 with_change m (In n) = with_number (with_number m 0) n
 with_change m (Out n) = with_number (with_number m 1) n
@@ -42,16 +43,16 @@ abbrev pub with_movements : List ℕ → List (Entry (String Global)) → List �
 with_movements m [] = m
 with_movements m (e ∷ es) = with_movements (with_movement m e.movement) es
 
--- a message m and then a text, or that there is none
+-- a message m and then a text, after 1; or 0 if the text is missing
 abbrev pub with_maybe : List ℕ → Option (List ℕ) → List ℕ
 with_maybe m None = with_number m 0
 with_maybe m (Some text) = with_text (with_number m 1) text
 
--- a message m and then what the movement of this number has, from 0: its date and its note. Nothing is added if it has neither
+-- a message m and then the number of a movement, from 0, its date and its note; nothing if the movement has neither
 abbrev pub with_extra : List ℕ → ℕ → Extra → List ℕ
 with_extra m n x = if is_none x.date && is_none x.note then m else with_maybe (with_maybe (with_number m n) (option_map string_bytes x.date)) (option_map string_bytes x.note)
 
--- a message m and then what the movements from this number on have, in turn
+-- a message m and then the dates and notes of the movements from this number on, in turn
 abbrev pub with_extras : List ℕ → ℕ → List Extra → List ℕ
 with_extras m n [] = m
 with_extras m n (x ∷ xs) = with_extras (with_extra m n x) (n + 1) xs
@@ -60,7 +61,7 @@ with_extras m n (x ∷ xs) = with_extras (with_extra m n x) (n + 1) xs
 abbrev pub with_head : List ℕ → ℕ → Batch → List ℕ
 with_head m scale b = with_option (with_number m scale) (Some b.number)
 
--- a message m and then where a batch comes from: its file, the digest of that, and its kind
+-- a message m and then where a batch comes from: the file, the digest of the file, and the kind
 abbrev pub with_source : List ℕ → Batch → List ℕ
 with_source m b = with_text (with_text (with_text m (string_bytes b.file)) (string_bytes b.sha256)) (string_bytes b.kind)
 
@@ -68,11 +69,11 @@ with_source m b = with_text (with_text (with_text m (string_bytes b.file)) (stri
 abbrev pub with_counts : List ℕ → Batch → List ℕ
 with_counts m b = with_number (with_number (with_text (with_option m b.undoes) (string_bytes b.time)) b.movements) b.refused
 
--- the scale of the stock, the row of the batch, its movements in turn, and their dates and notes
+-- the message of a seal: the scale of the stock, the row of the batch, its movements in turn, and their dates and notes
 abbrev pub sealed : ℕ → Batch → List (Entry (String Global)) → List Extra → List ℕ
 sealed scale b es xs = with_extras (with_movements (with_counts (with_source (with_head [] scale b) b) b) es) 0 xs
 
--- the seal of a batch: the SHA-256 of all that, in hexadecimal digits
+-- the seal of a batch: the SHA-256 of its message, in hexadecimal digits
 abbrev pub seal_of : ℕ → Batch → List (Entry (String Global)) → List Extra → List ℕ
 seal_of scale b es xs = encode_lower (sha256 (sealed scale b es xs))
 
@@ -88,7 +89,7 @@ pub record IsRowOf (scale : ℕ) (d : Draft) (es : List (Entry (String Global)))
   pub refusals : b.refused ≡ length (refusals_in es)
   pub seal : string_bytes b.seal ≡ seal_of scale b es xs
 
--- the rows of batches, of which each has the next of the entries, as many as its draft says, and as many of the dates and notes
+-- the rows of batches; each batch has the next entries, as many as its draft says, and the dates and notes of the same movements
 abbrev pub AreRowsOf : ℕ → List Draft → List (Entry (String Global)) → List Extra → List Batch → Type 0
 AreRowsOf scale [] es xs [] = Unit {0}
 AreRowsOf scale [] es xs (b ∷ bs) = ⊥

@@ -1,4 +1,4 @@
--- What a seal is made of, at small values.
+-- The message of a seal, at small values.
 use Rattle.std.specs.Prelude.{◌≡◌, refl, [], ◌∷◌, Some, None, pos}
 use Rattle.hashbag_ledger_lib.specs.declared.movements.Change.TheVariants.{In, Out}
 use Rattle.hashbag_ledger_lib.specs.Numbers.{plain}
@@ -15,7 +15,7 @@ none_is_no_zero = refl
 zero_is_some : with_option [] (Some (pos 0)) ≡ 1 ∷ 0 ∷ 0 ∷ 0 ∷ 0 ∷ 0 ∷ 0 ∷ 0 ∷ 0 ∷ 0 ∷ 0 ∷ 0 ∷ 0 ∷ 0 ∷ 0 ∷ 0 ∷ []
 zero_is_some = refl
 
--- what goes out isn't what comes in, unless it is nothing
+-- `Out` is sealed otherwise than `In`, except for 0
 nothing_goes_out : with_change [] (plain (Out 0)) ≡ with_change [] (In 0)
 nothing_goes_out = refl
 

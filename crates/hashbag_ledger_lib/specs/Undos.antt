@@ -16,22 +16,22 @@ use Rattle.hashbag_ledger_lib.specs.declared.undoing.Undo.{Undo}
 use Rattle.hashbag_ledger_lib.specs.declared.undoing.Undo.TheVariants.{Done, Refused}
 
 module _ {T : Type 0} where
-  -- these movements, with one before them that brings in what m took out, if it took some out
+  -- the movements `later`; if the change of m is an `Out`, with the opposite of m before them
   abbrev pub coming_back : Movement T → Change → List (Movement T) → List (Movement T)
   coming_back m (In n) later = later
   coming_back m (Out n) later = (record { place = m.place; article = m.article; change = In n }) ∷ later
 
-  -- these movements, with one before them that takes out what m brought in, if it brought some in
+  -- the movements `later`; if the change of m is an `In`, with the opposite of m before them
   abbrev pub going_back : Movement T → Change → List (Movement T) → List (Movement T)
   going_back m (In n) later = (record { place = m.place; article = m.article; change = Out n }) ∷ later
   going_back m (Out n) later = later
 
-  -- what these took out, as movements that come in, in turn
+  -- an `In` for each `Out` of these movements, in turn
   abbrev pub returns_of : List (Movement T) → List (Movement T)
   returns_of [] = []
   returns_of (m ∷ ms) = coming_back m m.change (returns_of ms)
 
-  -- what these brought in, as movements that go out, in turn
+  -- an `Out` for each `In` of these movements, in turn
   abbrev pub removals_of : List (Movement T) → List (Movement T)
   removals_of [] = []
   removals_of (m ∷ ms) = going_back m m.change (removals_of ms)
@@ -41,19 +41,19 @@ module _ {T : Type 0} where
   opposites_of ms = returns_of ms ++ removals_of ms
 
 module _ {T : Type 0} (eq : T → T → Bool) where
-  -- of this article fewer than none would be left once the batch is taken back
+  -- the number of this article would be below zero after the batch is taken back
   abbrev pub FallsBelowZero : (T → ℕ) → List (Movement T) → T → Type 0
   FallsBelowZero stock batch v = stock v + went eq v batch < came eq v batch
 
-  -- if the batch was the last one, the balance is again the one before it
+  -- the undo is done, and the balance is the stock `before` again
   abbrev pub IsAsBefore : Undo T → (T → ℕ) → Type 0
   IsAsBefore (Done booked) before = (v : T) → listed eq booked.balance.items v ≡ before v
   IsAsBefore (Refused refusals) before = ⊥
 
-  -- what became of the opposite movements: all were entered, or these were refused
-  abbrev pub IsUndoOf : List (T × ℕ) → List (Movement T) → Undo T → Type 0
-  IsUndoOf L batch (Done booked) = booked.entries.items ≡ entries_of eq (listed eq L) (opposites_of batch)
-  IsUndoOf L batch (Refused refusals) = refusals.items ≡ refused_of eq (listed eq L) (opposites_of batch)
+  -- the entries, or the refusals, are those of the opposite movements
+  abbrev pub EntersOrRefuses : List (T × ℕ) → List (Movement T) → Undo T → Type 0
+  EntersOrRefuses L batch (Done booked) = booked.entries.items ≡ entries_of eq (listed eq L) (opposites_of batch)
+  EntersOrRefuses L batch (Refused refusals) = refusals.items ≡ refused_of eq (listed eq L) (opposites_of batch)
 
   module _ (cmp : T → T → Ordering) (stock : T → ℕ) (batch : List (Movement T)) where
     -- the batch is taken back: what it took out is there again, and what it brought in is gone
@@ -61,7 +61,7 @@ module _ {T : Type 0} (eq : T → T → Bool) where
       pub counts : (v : T) → listed eq left v + came eq v batch ≡ stock v + went eq v batch
       pub balance : IsBalance eq cmp (λ v. stock v + went eq v batch - came eq v batch) left
 
-    -- either the batch is taken back, or it is `Refused`, because an article would fall below zero
+    -- either the batch is taken back, or the undo is `Refused`, because an article would fall below zero
     abbrev pub IsUndo : Undo T → Type 0
     IsUndo (Done booked) = TakesBack booked.balance.items
     IsUndo (Refused refusals) = (v : T) × FallsBelowZero stock batch v
@@ -71,12 +71,12 @@ abbrev pub HasRisingRows : Undo (String Global) → Type 0
 HasRisingRows (Done booked) = Rises booked.balance.items
 HasRisingRows (Refused refusals) = Unit {0}
 
--- what becomes of the rows of the balance that was kept: they are those that the undo leaves, and none changes if it is denied
+-- the changes turn the rows of the kept balance into the rows that the undo leaves; no changes if the undo is `Refused`
 abbrev pub IsChangedBy : List (String Global × ℕ) → Undo (String Global) → List RowChange → Type 0
 IsChangedBy kept (Done booked) changed = AreChanges kept booked.balance.items changed
 IsChangedBy kept (Refused refusals) changed = changed ≡ []
 
--- if the batch, as the last one, turned a stock into the balance that is kept, the undo leaves that stock again
+-- if the batch turned the stock `before` into the kept balance, the undo leaves `before` again
 abbrev pub RestoresWhatWas : List (String Global × ℕ) → List (Movement (String Global)) → Undo (String Global) → Type 0
 RestoresWhatWas kept batch undo =
     (before : String Global → ℕ) → ((v : String Global) → listed string_eq kept v + went string_eq v batch ≡ before v + came string_eq v batch) → IsAsBefore string_eq undo before

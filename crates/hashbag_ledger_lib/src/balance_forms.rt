@@ -1,4 +1,4 @@
-//! A balance in the forms that it is written in. Its numbers are changes: by dates, an article may be below 0.
+//! The forms in which a balance is written. A number is a [`Change`], since by dates an article may be below 0.
 use crate::listing::change_text;
 use crate::movements::Change;
 use crate::output::push_record;
@@ -22,7 +22,7 @@ pub enum Form {
 }
 
 impl Form {
-    /// Returns the form of one of the names `csv`, `table` and `json`, and CSV for another name.
+    /// Returns the form with this name: `csv`, `table` or `json`. Returns CSV for any other name.
     pub fn named(name: &str) -> Form {
         match name {
             "table" => Form::Table,
@@ -35,7 +35,7 @@ impl Form {
 // The names of the columns.
 const NAMES: (&str, &str) = ("article", "number");
 
-/// Returns the rows of a balance.
+/// Returns the rows of a balance: each article, with its number as `In`.
 ///
 /// # Errors
 ///
@@ -52,7 +52,7 @@ pub fn rows_of(
     Ok(rows)
 }
 
-// The rows as CSV.
+// Returns the rows as CSV.
 fn csv_of(
     alloc: Global,
     reading: Reading,
@@ -67,7 +67,7 @@ fn csv_of(
     records.into_text()
 }
 
-// The cells of a table: the titles, and then each article, with control characters escaped, and its number.
+// Returns the cells of a table: the titles, and then each article, with control characters escaped, and the article's number.
 fn cells_of(
     alloc: Global,
     scale: Scale,
@@ -87,7 +87,7 @@ fn cells_of(
     Ok(rows)
 }
 
-// The balance in columns.
+// Returns the balance in columns.
 fn table_of(
     alloc: Global,
     scale: Scale,
@@ -141,7 +141,7 @@ impl Serialize for Object<'_> {
     }
 }
 
-// The balance as JSON.
+// Returns the balance as JSON.
 fn json_of(alloc: Global, scale: Scale, balance: &[(&str, Change)]) -> Result<Vec<u8>, AllocError> {
     let mut objects = Vec::new(alloc);
     for entry in balance {
@@ -161,7 +161,7 @@ fn json_of(alloc: Global, scale: Scale, balance: &[(&str, Change)]) -> Result<Ve
     Ok(text)
 }
 
-/// Returns the rows of a balance in this form: what goes out is below 0. Numbers with decimals are texts in JSON.
+/// Returns the rows of a balance in this form. `Out` is written as a number below 0. In JSON, numbers with decimals are texts.
 ///
 /// # Errors
 ///

@@ -14,7 +14,7 @@ use hashbag::{BagError, HashBag};
 use std::alloc::{AllocError, Global};
 use std::hash::BuildHasher;
 
-// Returns the change from a number that is there to one that was counted.
+// Returns the change that turns the number `there` into `counted`.
 fn change_between(there: usize, counted: usize) -> Change
     ensures { result ≡ change_to there counted }
 {
@@ -24,7 +24,7 @@ fn change_between(there: usize, counted: usize) -> Change
     Change::In(counted - there)
 }
 
-// Notes that a record names its article.
+// Inserts the article of a record into `named`.
 fn note<S: BuildHasher + Drop>(
     named: &mut HashBag<String, S>,
     movement: &Movement<String>,
@@ -38,7 +38,7 @@ fn note<S: BuildHasher + Drop>(
     }
 }
 
-// Appends the difference of the article of a record, unless a record before names it, and notes that this one does.
+// Appends the difference of a record's article, unless `named` has the article. Inserts the article into `named`.
 fn compare<S: BuildHasher + Drop>(
     differences: &mut Vec<Movement<String>>,
     there: &HashBag<String, S>,
@@ -69,7 +69,7 @@ fn compare<S: BuildHasher + Drop>(
     Ok(())
 }
 
-// Returns the differences of the articles that the records name, each where it is first named. `unnamed` is empty.
+// Returns the difference of each article that the records name, at the first record that names the article. `unnamed` is an empty bag.
 fn differences_of<S: BuildHasher + Drop>(
     alloc: Global,
     there: &HashBag<String, S>,
@@ -93,13 +93,14 @@ fn differences_of<S: BuildHasher + Drop>(
     Ok(differences)
 }
 
-/// Enters what turns the balance that is kept into what was counted: of each article that the records name the difference, where it is first
-/// named. An article that two records name was counted twice, and its numbers add up. No other article changes.
+/// Enters the differences that turn the kept balance into what was counted, and returns the result. Each article that the
+/// records name has one difference, at the first record that names it. If several records name an article, their numbers are
+/// added. No other article changes.
 ///
 /// # Errors
 ///
-/// `StartTooMany` only if the numbers of the balance are more than [`MOST`] together. `TooMany` with the place of a record, or of the first one
-/// of its article, only if the counted numbers, or on the way the total, would pass [`MOST`]. `Memory` if an allocation fails.
+/// `StartTooMany` only if the sum of the balance is above [`MOST`]. `TooMany` only if the sum of the counted numbers, or the total with a
+/// difference, would pass [`MOST`]; with the place of the record, or of the article's first record. `Memory` if an allocation fails.
 ///
 /// # Complexity
 ///
@@ -110,7 +111,7 @@ pub fn count_stock<S: BuildHasher + Copy + Drop>(
     kept: &[(String, usize)],
     records: Vec<Movement<String>>,
 ) -> Result<Filed, LedgerError>
-    // Each article that is named has the counted number, and none of the differences is refused.
+    // Each article that the records name has the counted number, and no difference is refused.
     ensures { IfOk result (IsCounted kept.now records.items) }
 {
     let none = Vec::new(alloc);
@@ -127,7 +128,7 @@ pub fn count_stock<S: BuildHasher + Copy + Drop>(
     Ok(filed)
 }
 
-/// Appends a record of each article of the balance, of which none was counted: so all articles are named.
+/// Appends for each article of the balance a record with the number 0, so that the records name all articles.
 ///
 /// # Errors
 ///

@@ -1,10 +1,9 @@
 //! The balance of a day, by the days of movements, and not by the order in which they were entered.
-ghost use Rattle.std.specs.Prelude.{◌≡◌, ◌++◌, ℕ, List, All, IfOk, OnOk, map, string_bytes};
+ghost use Rattle.std.specs.Prelude.{◌≡◌, ◌++◌, ℕ, List, All, IfOk, OnOk, map};
 ghost use Rattle.std.specs.Borrow.{Bor};
 ghost use Rattle.std.specs.Map.{keys_of};
-ghost use Rattle.hashbag_ledger_lib.specs.Dated.{amount, count_of, counted, counts_at, moved, moved_at, named, named_sum, net, IsBalanceAt, IsNetOf};
+ghost use Rattle.hashbag_ledger_lib.specs.Dated.{amount, count_of, counted, counts_by, moved, moved_at, named, named_sum, net, IsBalanceAt, IsNetOf};
 
-use crate::entering::LedgerError;
 use crate::movements::{Change, Entry, Outcome};
 use hashbag::{BagError, HashBag};
 use hashbag_csv::quantities::{bag_of, balance_of};
@@ -12,11 +11,27 @@ use std::alloc::{AllocError, Global};
 use std::cmp::Ordering;
 use std::hash::BuildHasher;
 
-// What of a change is added up.
+/// Why there is no balance of a day.
+#[derive(Clone, Copy, PartialEq, Eq, Debug)]
+pub enum DatedError {
+    /// An allocation failed.
+    Memory,
+    /// The movements up to the day move more than `usize::MAX` in all.
+    MovedTooMuch,
+}
+
+impl From<AllocError> for DatedError {
+    fn from(_e: AllocError) -> DatedError {
+        DatedError::Memory
+    }
+}
+
+// Which changes are added up: what comes in, what goes out, or both.
 #[derive(Clone, Copy)]
 enum Part {
     In,
     Out,
+    // For the articles, each once.
     Both,
 }
 
@@ -36,9 +51,9 @@ fn amount(part: Part, change: Change) -> usize
     }
 }
 
-// Returns whether an entry counts on a day: its movement was entered, and its own day is that one or before.
+// Returns whether an entry counts on `date`: its movement was entered, and `day`, its own, is `date` or before.
 fn counts(date: &str, entry: &Entry<String>, day: &str) -> bool
-    ensures { result ≡ counts_at date.now entry.now day.now }
+    ensures { result ≡ counts_by date.now entry.now.outcome day.now }
 {
     match entry.outcome {
         Outcome::Refused { .. } => false,
@@ -49,17 +64,17 @@ fn counts(date: &str, entry: &Entry<String>, day: &str) -> bool
     }
 }
 
-// Appends the article of an entry with what of its change is added up, if the entry counts on a day.
+// Appends the article of an entry with what of its change is added up, if the entry counts on `date`.
 fn push_moved<'a>(
     list: &mut Vec<(&'a str, usize)>,
     date: &str,
-    entry: &'a Entry<String>,
-    day: &str,
+    dated: &'a (Entry<String>, String),
     part: Part,
 ) -> Result<(), AllocError>
-    ensures { OnOk result (map named list.new.items ≡ map named list.old.items ++ moved_at part date.now entry.now day.now) }
+    ensures { OnOk result (map named list.new.items ≡ map named list.old.items ++ moved_at part date.now dated.now) }
 {
-    if !counts(date, entry, day) {
+    let (entry, day) = dated;
+    if !counts(date, entry, day.as_str()) {
         return Ok(());
     }
     let movement = &entry.movement;
@@ -68,25 +83,21 @@ fn push_moved<'a>(
     Ok(())
 }
 
-// Returns the articles of the movements that count on a day, each with what of its change is added up.
+// Returns the articles of the movements that count on `date`, each with what of its change is added up.
 #[tactic(auto, using(crate::proofs::DatedLemmas::next_moved))]
 fn moved_by<'a>(
     alloc: Global,
     date: &str,
-    entries: &'a [Entry<String>],
-    days: &[String],
+    entries: &'a [(Entry<String>, String)],
     part: Part,
 ) -> Result<Vec<(&'a str, usize)>, AllocError>
-    ensures { IfOk result (λ list. map named list.items ≡ map (moved part) (counted date.now entries.now (map string_bytes days.now))) }
+    ensures { IfOk result (λ list. map named list.items ≡ map (moved part) (counted date.now entries.now)) }
 {
     let mut list = Vec::new(alloc);
-    let (mut left, mut left_days) = (entries, days);
-    'entries: while let Some((entry, later)) = left.split_first() {
-        let Some((day, later_days)) = left_days.split_first() else {
-            return Ok(list);
-        };
-        push_moved(&mut list, date, entry, day.as_str(), part)?;
-        (left, left_days) = (later, later_days);
+    let mut left = entries;
+    'entries: while let Some((dated, later)) = left.split_first() {
+        push_moved(&mut list, date, dated, part)?;
+        left = later;
     }
     Ok(list)
 }
@@ -96,13 +107,13 @@ fn stock_of<'a, S: BuildHasher + Drop>(
     alloc: Global,
     state: S,
     list: Vec<(&'a str, usize)>,
-) -> Result<HashBag<&'a str, S>, LedgerError>
+) -> Result<HashBag<&'a str, S>, DatedError>
     ensures { IfOk result (λ bag. (v : Bor (List ℕ)) → count_of v bag.items ≡ named_sum v.now (map named list.entry.items)) }
 {
     match bag_of(alloc, state, list) {
         Ok(bag) => Ok(bag),
-        Err(BagError::TooMany) => Err(LedgerError::StartTooMany),
-        Err(_) => Err(LedgerError::Memory),
+        Err(BagError::TooMany) => Err(DatedError::MovedTooMuch),
+        Err(_) => Err(DatedError::Memory),
     }
 }
 
@@ -137,24 +148,23 @@ fn rows_of<'a, S: BuildHasher + Drop>(
 }
 
 /// Returns the sum of the movements that were entered and whose day is `date` or before: of each article that has one, articles in ascending
-/// order. `days` are the days of the entries, in turn. What is `Out` is below 0, since a movement may have an earlier day than one that was
-/// entered before it.
+/// order. Each entry has its day. `Out` is a number below 0. It can occur, since a movement may have an earlier day than one that was entered
+/// before it.
 ///
 /// # Errors
 ///
-/// `StartTooMany` if the movements of that time move more than `usize::MAX` in all. Else only `Memory`, if an allocation fails.
+/// `MovedTooMuch` if the movements up to that day move more than `usize::MAX` in all. Else only `Memory`, if an allocation fails.
 pub fn balance_at<'a, S: BuildHasher + Copy + Drop>(
     alloc: Global,
     state: S,
     date: &str,
-    entries: &'a [Entry<String>],
-    days: &[String],
-) -> Result<Vec<(&'a str, Change)>, LedgerError>
-    ensures { IfOk result (λ rows. IsBalanceAt date.now entries.now (map string_bytes days.now) rows.items) }
+    entries: &'a [(Entry<String>, String)],
+) -> Result<Vec<(&'a str, Change)>, DatedError>
+    ensures { IfOk result (λ rows. IsBalanceAt date.now entries.now rows.items) }
 {
-    let in_list = moved_by(alloc, date, entries, days, Part::In)?;
-    let out_list = moved_by(alloc, date, entries, days, Part::Out)?;
-    let list = moved_by(alloc, date, entries, days, Part::Both)?;
+    let in_list = moved_by(alloc, date, entries, Part::In)?;
+    let out_list = moved_by(alloc, date, entries, Part::Out)?;
+    let list = moved_by(alloc, date, entries, Part::Both)?;
     let came = stock_of(alloc, state, in_list)?;
     let went = stock_of(alloc, state, out_list)?;
     let all = stock_of(alloc, state, list)?;

@@ -1,7 +1,7 @@
 //! Dates as texts: `2026-02-28`.
 ghost use Rattle.std.specs.Prelude.{◌≡◌, ◌≤◌, ◌==◌, get_or};
 ghost use Rattle.std.specs.Char.{is_ascii_digit};
-ghost use Rattle.hashbag_ledger_lib.specs.Dates.{days_in, days_in_february, digit_at, has_form, is_date, is_day_of, is_leap, is_pair_at, pair_at, year_in, month_in, day_in};
+ghost use Rattle.hashbag_ledger_lib.specs.Dates.{days_in, days_in_february, digit_at, has_form, is_date, is_day_of, is_leap, is_pair_at, pair_at};
 
 // Returns whether a year has a 29 February.
 fn is_leap(year: usize) -> bool

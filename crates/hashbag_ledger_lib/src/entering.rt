@@ -12,7 +12,7 @@ use std::hash::{BuildHasher, Hash};
 pub enum LedgerError {
     /// An allocation failed.
     Memory,
-    /// The numbers of the stock at the beginning are more than the limit together.
+    /// The sum of the numbers of the stock at the beginning is above the limit.
     StartTooMany,
     /// With the movement at this place the total of the stock would pass its limit.
     TooMany(Place),
@@ -28,8 +28,8 @@ impl From<AllocError> for LedgerError {
     }
 }
 
-/// Enters a movement into the stock and returns `None`. If it would remove more than is there, returns its refusal, and the stock is
-/// unchanged.
+/// Enters a movement into the stock and returns `None`. If the movement would remove more than is there, returns its refusal, and the stock
+/// is unchanged.
 ///
 /// # Errors
 ///
@@ -44,15 +44,15 @@ pub fn enter<T: Eq + Hash + Drop, S: BuildHasher + Drop>(
     stock: &mut HashBag<T, S>,
     movement: Movement<T>,
 ) -> Result<Option<Refusal<T>>, LedgerError>
-    // If it returns `None`, the movement was entered: the number of its article alone changed.
+    // If the result is `None`, the movement was entered: only the number of its article changed.
     ensures entered { IfOk result (λ r. r ≡ None → Changes T.eq movement (stock_of T.eq stock.old.items) (stock_of T.eq stock.new.items)) }
     ensures total { IfOk result (λ r. r ≡ None → ChangesTotal movement.change stock.old.items stock.new.items) }
 
-    // If it returns a refusal, more was to go out than was there.
+    // If the result is a refusal, the movement would remove more than is there.
     ensures refusal { IfOk result (λ r. IfSome r (RefusesMovement T.eq movement (stock_of T.eq stock.old.items))) }
     ensures unchanged { IfOk result (λ r. IsSome r → stock.new ≡ stock.old) }
 
-    // If it succeeds, the total stays within the limit.
+    // If the result is `Ok`, the total with what comes in is within the limit.
     ensures fits { OnOk result (length stock.old.items + coming movement.change ≤ stock.old.most) }
     ensures limit { stock.new.most ≡ stock.old.most }
     ensures why { IfErr result (λ e. (e ≡ LedgerError.Memory) ⊎ (e ≡ LedgerError.TooMany movement.place)) }

@@ -1,10 +1,10 @@
-//! What movements carry along: their dates and notes. No count depends on them, so a list of them goes with the list of the movements, one
+//! What movements carry along: their dates and notes. Entering doesn't depend on them, so a list of them goes with the list of the movements, one
 //! for each, in turn. An empty list says that none has a date or a note.
 ghost use Rattle.std.specs.Prelude.{◌≡◌, true, All, IfOk, IfSome, map, option_map, string_bytes};
 ghost use Rattle.hashbag_csv.specs.Lines.{place_of};
 ghost use Rattle.hashbag_csv.specs.Sheets.{place, read_last};
 ghost use Rattle.hashbag_ledger_lib.specs.Dates.{is_date};
-ghost use Rattle.hashbag_ledger_lib.specs.Extras.{carried, columns_of, extras_in, field_at, HasDate, ReadsNextExtra};
+ghost use Rattle.hashbag_ledger_lib.specs.Extras.{carried, columns_of, extras_in, field_at, HasNoBadDate, ReadsNextExtra};
 
 use crate::dates::is_date;
 use crate::movements::{Change, Movement};
@@ -36,7 +36,7 @@ pub struct ExtraColumns<C> {
 /// Why dates and notes can't be read.
 #[derive(Debug, Drop)]
 pub enum ExtraError {
-    /// The text is no CSV, has not one column of a name, or an allocation failed.
+    /// The text is no CSV, has no column of a name, or several, or an allocation failed.
     Sheet(SheetError),
     /// A field of dates is no date.
     NoDate {
@@ -83,7 +83,7 @@ fn field_if(
     }
 }
 
-// Returns whether a text is a date, or there is none.
+// Returns whether there is no text, or it is a date.
 fn is_date_if(text: &Option<String>) -> bool
     ensures { result ≡ true → IfSome text.now (λ t. is_date (string_bytes t) ≡ true) }
 {
@@ -95,8 +95,7 @@ fn is_date_if(text: &Option<String>) -> bool
 
 // Returns the error for a field that is no date.
 fn no_date(alloc: Global, line: u64, date: &Option<String>) -> ExtraError {
-    let field = date.as_ref().map_or("", |date| date.as_str());
-    match shown(alloc, field) {
+    match shown(alloc, text_or_empty(date)) {
         Ok(field) => ExtraError::NoDate { line, field },
         Err(_) => ExtraError::Sheet(SheetError::Memory),
     }
@@ -109,7 +108,7 @@ fn next_extra(
     columns: ExtraColumns<Column<'_>>,
 ) -> Result<Option<Extra>, ExtraError>
     ensures read { IfOk result (λ read. ReadsNextExtra (columns_of place columns.entry) sheet.old read sheet.new) }
-    ensures dates { IfOk result (λ read. IfSome read HasDate) }
+    ensures dates { IfOk result (λ read. IfSome read HasNoBadDate) }
 {
     if !sheet.read()? {
         return Ok(None);
@@ -126,16 +125,16 @@ fn next_extra(
 ///
 /// # Errors
 ///
-/// `NoDate` with the first line whose date is none, or why the text isn't read.
+/// `NoDate` with the first line whose date field isn't a date, or why the text isn't read.
 pub fn read_extras(
     alloc: Global,
     text: &[u8],
     names: ExtraColumns<&str>,
     delimiter: Delimiter,
 ) -> Result<Vec<Extra>, ExtraError>
-    // They are those that the text has, and each date is one.
+    // They are those that the text has, and each date that is there is valid.
     ensures extras { IfOk result (λ extras. map carried extras.items ≡ extras_in delimiter (columns_of (λ n. n.now) names.entry) text.now) }
-    ensures dates { IfOk result (λ extras. All HasDate extras.items) }
+    ensures dates { IfOk result (λ extras. All HasNoBadDate extras.items) }
 {
     let mut sheet = Sheet::open_with(alloc, text, delimiter)?;
     let date = column_if(&sheet, names.date)?;
@@ -148,17 +147,14 @@ pub fn read_extras(
     Ok(extras)
 }
 
-// Appends the extras of the movements that go out, or of those that come in.
+// Appends what these movements carry along that go out, or that come in.
 fn push_turned(
     turned: &mut Vec<Extra>,
-    movements: &[Movement<String>],
-    extras: &[Extra],
+    movements: &[(Movement<String>, Extra)],
     is_out: bool,
 ) -> Result<(), AllocError> {
-    for i in 0..movements.len() {
-        if matches!(movements[i].change, Change::Out(_)) == is_out
-            && let Some(extra) = extras.get(i)
-        {
+    for (movement, extra) in movements {
+        if matches!(movement.change, Change::Out(_)) == is_out {
             let (date, note) = (extra.date.clone()?, extra.note.clone()?);
             turned.push(Extra { date, note }).map_err(AllocError::from)?;
         }
@@ -166,34 +162,23 @@ fn push_turned(
     Ok(())
 }
 
-/// Returns the extras of the opposite movements of a batch, in their order: each has those of the movement that it takes back.
+/// Returns what the opposite movements of a batch carry along, each what the movement does that it takes back: first of those that took out, then
+/// of those that brought in, as [`opposites`](crate::undoing::opposites) orders them.
 ///
 /// # Errors
 ///
 /// An allocation fails.
 pub fn opposite_extras(
     alloc: Global,
-    movements: &[Movement<String>],
-    extras: &[Extra],
+    movements: &[(Movement<String>, Extra)],
 ) -> Result<Vec<Extra>, AllocError> {
     let mut turned = Vec::new(alloc);
-    push_turned(&mut turned, movements, extras, true)?;
-    push_turned(&mut turned, movements, extras, false)?;
+    push_turned(&mut turned, movements, true)?;
+    push_turned(&mut turned, movements, false)?;
     Ok(turned)
 }
 
-/// Returns the date of the movement at this place, or an empty text.
-pub fn date_at(extras: &[Extra], at: usize) -> &str {
-    match extras.get(at) {
-        Some(extra) => extra.date.as_ref().map_or("", |date| date.as_str()),
-        None => "",
-    }
-}
-
-/// Returns the note of the movement at this place, or an empty text.
-pub fn note_at(extras: &[Extra], at: usize) -> &str {
-    match extras.get(at) {
-        Some(extra) => extra.note.as_ref().map_or("", |note| note.as_str()),
-        None => "",
-    }
+/// Returns the text, or an empty one.
+pub fn text_or_empty(text: &Option<String>) -> &str {
+    text.as_ref().map_or("", |text| text.as_str())
 }

@@ -1,4 +1,4 @@
-//! The files of one run of a subcommand, entered in turn into the balance that is kept.
+//! The files of one run of a subcommand, entered in turn into the kept balance.
 ghost use Rattle.std.specs.Prelude.{◌≡◌, ◌<◌, ◌^◌, ◌-◌, map, vec_len, IfOk};
 ghost use Rattle.std.specs.String.{string_eq};
 ghost use Rattle.hashbag_csv.specs.Quantities.{numbers};
@@ -20,20 +20,21 @@ use std::hash::BuildHasher;
 /// The result of entering the files of one run of a subcommand.
 #[derive(Drop)]
 pub struct Filed {
-    /// The balance, and the movements of all files, in turn, each with what became of it.
+    /// The new balance, and the movements of all files, in turn, each with what became of it.
     pub booked: Booked<String>,
-    /// What becomes of the rows of the balance that was kept.
+    /// The changes that turn the rows of the kept balance into the rows of the new balance.
     pub changed: Vec<RowChange>,
     /// How many movements each file has.
     pub counts: Vec<usize>,
 }
 
-/// Enters the movements of files, in turn, into the balance that is kept: each file into what the ones before it left.
+/// Enters the movements of files, in turn, into the kept balance, and returns the result. Each file is entered into what the
+/// files before it left.
 ///
 /// # Errors
 ///
-/// `StartTooMany` only if the numbers of the balance are more than 2^63-1 together. `TooMany` with the place of a movement only if the
-/// total would pass 2^63-1 with it. `Memory` if an allocation fails.
+/// `StartTooMany` only if the sum of the balance is above 2^63-1. `TooMany` with the place of a movement only if the total would pass
+/// 2^63-1 with that movement. `Memory` if an allocation fails.
 ///
 /// # Complexity
 ///
@@ -92,7 +93,7 @@ fn in_turn(
     Ok(all)
 }
 
-// Returns a copy of the refusal of a movement, if it was refused.
+// Returns a copy of the refusal of a movement, or `None` if the movement was entered.
 fn refusal_of(entry: &Entry<String>) -> Result<Option<Refusal<String>>, AllocError> {
     let Outcome::Refused { there } = entry.outcome else {
         return Ok(None);
@@ -105,7 +106,7 @@ fn refusal_of(entry: &Entry<String>) -> Result<Option<Refusal<String>>, AllocErr
     }))
 }
 
-/// Returns copies of the refusals among these entries, in turn, or of the first one alone.
+/// Returns copies of the refusals among these entries, in turn; only of the first if `is_first_alone`.
 ///
 /// # Errors
 ///

@@ -1,4 +1,4 @@
-//! A stock into which movements are entered one by one. Clauses hold whatever list it began as, and whatever movements it has so far.
+//! A stock into which movements are entered one by one. Clauses hold for any list that the stock began as, and for any movements so far.
 ghost use Rattle.std.specs.Prelude.{◌≡◌, ◌⊎◌, ◌<◌, ◌↔◌, ◌≤◌, [], length, IsTrue, IfOk, IfErr, OnOk};
 ghost use Rattle.hashbag.specs.Occurrences.{count};
 ghost use Rattle.hashbag_csv.specs.Quantities.{numbers, quantity};
@@ -20,13 +20,13 @@ use std::hash::{BuildHasher, Hash};
 /// A stock after movements, and the refusals.
 #[derive(Drop)]
 pub struct Entered<T> {
-    /// Each article of which there are some, once, with how many there are, articles in ascending order.
+    /// Each article with its count, in ascending order of articles.
     pub balance: Vec<(T, usize)>,
     /// The refusals, in the order of their movements.
     pub refusals: Vec<Refusal<T>>,
 }
 
-// Returns whether the numbers of a list are at most `most` together.
+// Returns whether the sum of the numbers of a list is at most `most`.
 fn numbers_fit<T>(list: &[(T, usize)], most: usize) -> bool
     ensures { IsTrue result ↔ (numbers list.now ≤ most) }
 {
@@ -40,7 +40,7 @@ fn numbers_fit<T>(list: &[(T, usize)], most: usize) -> bool
     total <= most
 }
 
-// Returns the stock that a list names, without a limit.
+// Returns the stock of a list, without a limit.
 fn stock_of_list<T: Eq + Hash + Drop, S: BuildHasher + Drop>(
     alloc: Global,
     state: S,
@@ -58,11 +58,11 @@ fn stock_of_list<T: Eq + Hash + Drop, S: BuildHasher + Drop>(
     }
 }
 
-/// Returns the stock that a list names. Its limit is `most`. An article may be in the list more than once; its numbers add up.
+/// Returns the stock of a list, with the limit `most`. If an article is in the list more than once, its numbers are added.
 ///
 /// # Errors
 ///
-/// `StartTooMany` exactly if the numbers of the list are more than `most` together. `Memory` if an allocation fails.
+/// `StartTooMany` exactly if the sum of the numbers of the list is above `most`. `Memory` if an allocation fails.
 ///
 /// # Complexity
 ///
@@ -73,7 +73,7 @@ pub fn stock_at_start<T: Eq + Hash + Drop, S: BuildHasher + Drop>(
     most: usize,
     list: Vec<(T, usize)>,
 ) -> Result<HashBag<T, S>, LedgerError>
-    // v occurs as often as the list names it in all, and no movement has come.
+    // v occurs as often as the numbers that the list has for it add up to. No movement has come yet.
     ensures counts { IfOk result (λ stock. (v : T) → count T.eq v stock.items ≡ quantity T.eq v list.items) }
     ensures len { IfOk result (λ stock. length stock.items ≡ numbers list.items) }
     ensures begun { IfOk result (λ stock. IsStockAfter T.eq list.items [] stock) }
@@ -88,14 +88,15 @@ pub fn stock_at_start<T: Eq + Hash + Drop, S: BuildHasher + Drop>(
     let mut stock = stock_of_list(alloc, state, list)?;
     match stock.set_limit(most) {
         Ok(()) => Ok(stock),
+        // Not reached: the total was tested above.
         Err(_) => Err(LedgerError::StartTooMany),
     }
 }
 
 /// A stock that begins as a list, and the refusals of the movements so far. No movement is kept.
 ///
-/// The clauses name the list and the movements that have come. [`Ledger::begin`] returns the ledger of a list after no movements. If it was
-/// the ledger of a list and some movements, [`Ledger::enter`] makes it the ledger of that list and those movements with this one behind them.
+/// The clauses name the list, and the movements that have come. [`Ledger::begin`] returns the ledger of a list and no movements.
+/// [`Ledger::enter`] appends a movement: the ledger is then that of the same list and of the movements with this one at the end.
 #[derive(Drop)]
 pub struct Ledger<T: Eq + Hash + Drop, S: BuildHasher + Drop> {
     stock: HashBag<T, S>,
@@ -103,12 +104,12 @@ pub struct Ledger<T: Eq + Hash + Drop, S: BuildHasher + Drop> {
 }
 
 impl<T: Eq + Hash + Drop, S: BuildHasher + Drop> Ledger<T, S> {
-    /// Returns the ledger of the stock that a list names, whose total may never pass `most`. An article may be in the list more than
-    /// once; its numbers add up.
+    /// Returns the ledger of a list and no movements. The total of the stock can't pass `most`. If an article is in the list more than
+    /// once, its numbers are added.
     ///
     /// # Errors
     ///
-    /// `StartTooMany` exactly if the numbers of the list are more than `most` together. `Memory` if an allocation fails.
+    /// `StartTooMany` exactly if the sum of the numbers of the list is above `most`. `Memory` if an allocation fails.
     ///
     /// # Complexity
     ///
@@ -119,7 +120,7 @@ impl<T: Eq + Hash + Drop, S: BuildHasher + Drop> Ledger<T, S> {
         most: usize,
         start: Vec<(T, usize)>,
     ) -> Result<Ledger<T, S>, LedgerError>
-        // It is the ledger of the list after no movements.
+        // The result is the ledger of the list and no movements.
         ensures begun { IfOk result (λ l. IsLedgerOf T.eq start.items [] l.refusals.items l.stock) }
         ensures limit { IfOk result (λ l. l.stock.most ≡ most) }
         ensures too_many { (result ≡ Err LedgerError.StartTooMany) ↔ (most < numbers start.items) }
@@ -132,18 +133,18 @@ impl<T: Eq + Hash + Drop, S: BuildHasher + Drop> Ledger<T, S> {
         })
     }
 
-    /// Enters a movement, or notes its refusal if it would remove more than is there.
+    /// Enters a movement. If the movement would remove more than is there, keeps its refusal instead.
     ///
     /// # Errors
     ///
-    /// `TooMany` with the place of the movement only if the total would pass the limit with it. `Memory` if an allocation fails. No
-    /// clause says what the ledger is then.
+    /// `TooMany` with the place of the movement only if the total would pass the limit with the movement. `Memory` if an allocation fails.
+    /// No clause says what the ledger is after an error.
     ///
     /// # Complexity
     ///
-    /// Same as [`enter`]. A refusal is put into a list, which may allocate.
+    /// Same as [`enter`]. A refusal is appended to a list, which may allocate.
     pub fn enter(&mut self, movement: Movement<T>) -> Result<(), LedgerError>
-        // It is the ledger of this movement too: entered, or among the refusals.
+        // The ledger has this movement at the end: entered, or among the refusals.
         ensures entered { OnOk result (EntersMovement T.eq self.old self.new movement) }
 
         // `TooMany p`: with the movement, which is at `p`, the total would pass the limit.
@@ -171,8 +172,7 @@ pub fn end<T: Ord + Hash + Drop, S: BuildHasher + Drop>(
     alloc: Global,
     ledger: Ledger<T, S>,
 ) -> Result<Entered<T>, AllocError>
-    // The balance and the refusals are those of all movements. Of each article, what the list had that the ledger began as, plus what came in,
-    // is what the balance has plus what went out.
+    // The balance and the refusals are those after all movements. For each article: at the beginning + in = in the balance + out.
     ensures balance { IfOk result (λ e. IsBalanceOf T.eq T.cmp ledger e.balance.items) }
     ensures leaves { IfOk result (λ e. IsLeftBy T.eq ledger e.balance.items) }
     ensures refusals { IfOk result (λ e. AreRefusalsOf T.eq ledger e.refusals.items) }

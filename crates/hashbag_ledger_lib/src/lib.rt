@@ -14,6 +14,7 @@ pub mod movements;
 pub mod numbers;
 pub mod once;
 pub mod output;
+pub mod pairs;
 pub mod reading;
 pub mod recalling;
 pub mod rows;

@@ -1,5 +1,5 @@
 //! The batches, the history of an article, the movements of a batch, and the differences of a counted stock, as CSV.
-use crate::extras::{Extra, date_at, note_at};
+use crate::extras::{Extra, text_or_empty};
 use crate::movements::{Change, Entry, Outcome};
 use crate::once::{Batch, batch_of};
 use crate::output::push_record;
@@ -9,7 +9,7 @@ use hashbag_csv::records::Records;
 use hashbag_csv::scale::Scale;
 use std::alloc::{AllocError, Global};
 
-/// Returns a change with its sign: none for what comes in, and `-` for what goes out.
+/// Returns a change as text: `In` without a sign, `Out` with `-`.
 ///
 /// # Errors
 ///
@@ -73,7 +73,7 @@ pub fn batches_text(
     records.into_text()
 }
 
-// Returns whether a movement was refused, and how many there are of its article after it.
+// Returns whether a movement was refused, and how many of the article there are after the movement.
 fn outcome_of(entry: &Entry<String>) -> (bool, usize) {
     match entry.outcome {
         Outcome::Entered { after } => (false, after),
@@ -81,8 +81,8 @@ fn outcome_of(entry: &Entry<String>) -> (bool, usize) {
     }
 }
 
-/// Returns the movements of a batch as CSV, with the header `line,date,article,change,outcome,number,note`. Outcome and number are those of
-/// [`history_text`]. `extras` are the dates and notes of the movements; a field is empty if there is none.
+/// Returns the movements of a batch as CSV, with the header `line,date,article,change,outcome,number,note`. `outcome` and `number` are as
+/// in [`history_text`]. Each movement has its date and its note; a field is empty if there is none.
 ///
 /// # Errors
 ///
@@ -90,16 +90,14 @@ fn outcome_of(entry: &Entry<String>) -> (bool, usize) {
 pub fn movements_text(
     alloc: Global,
     reading: Reading,
-    entries: &[Entry<String>],
-    extras: &[Extra],
+    entries: &[(Entry<String>, Extra)],
 ) -> Result<Vec<u8>, AllocError> {
     let mut records = Records::empty(alloc, reading.delimiter);
     let header = [
         "line", "date", "article", "change", "outcome", "number", "note",
     ];
     push_record(&mut records, header.as_slice())?;
-    for i in 0..entries.len() {
-        let entry = &entries[i];
+    for (entry, extra) in entries {
         let movement = &entry.movement;
         let line = format!(in alloc; "{}", movement.place.line)?;
         let change = change_text(alloc, movement.change, reading.scale)?;
@@ -108,12 +106,12 @@ pub fn movements_text(
         let number = write_decimal(alloc, after, reading.scale)?;
         let fields = [
             line.as_str(),
-            date_at(extras, i),
+            text_or_empty(&extra.date),
             movement.article.as_str(),
             change.as_str(),
             outcome,
             number.as_str(),
-            note_at(extras, i),
+            text_or_empty(&extra.note),
         ];
         push_record(&mut records, fields.as_slice())?;
     }
@@ -131,8 +129,9 @@ fn source_of(batches: &[Batch], number: usize) -> (&str, &str) {
 
 /// Returns the movements of an article as CSV, with the header `batch,file,line,time,date,change,outcome,number,note`.
 ///
-/// In these entries `place.file` is the number of the batch; its file and time are written. The outcome is `entered` or `refused`; the
-/// number is how many there are after the movement. `extras` are the dates and notes of the movements; a field is empty if there is none.
+/// In `entries` the number `place.file` is that of the batch, whose file and time are written. `outcome` is `entered` or
+/// `refused`, and `number` how many of the article there are after the movement. Each movement has its date and its note; a field is
+/// empty if there is none.
 ///
 /// # Errors
 ///
@@ -141,16 +140,14 @@ pub fn history_text(
     alloc: Global,
     reading: Reading,
     batches: &[Batch],
-    entries: &[Entry<String>],
-    extras: &[Extra],
+    entries: &[(Entry<String>, Extra)],
 ) -> Result<Vec<u8>, AllocError> {
     let mut records = Records::empty(alloc, reading.delimiter);
     let header = [
         "batch", "file", "line", "time", "date", "change", "outcome", "number", "note",
     ];
     push_record(&mut records, header.as_slice())?;
-    for i in 0..entries.len() {
-        let entry = &entries[i];
+    for (entry, extra) in entries {
         let place = entry.movement.place;
         let (file, time) = source_of(batches, place.file);
         let (is_refused, after) = outcome_of(entry);
@@ -163,18 +160,18 @@ pub fn history_text(
             file,
             line.as_str(),
             time,
-            date_at(extras, i),
+            text_or_empty(&extra.date),
             change.as_str(),
             if is_refused { "refused" } else { "entered" },
             left.as_str(),
-            note_at(extras, i),
+            text_or_empty(&extra.note),
         ];
         push_record(&mut records, fields.as_slice())?;
     }
     records.into_text()
 }
 
-// Returns how many there were before a movement after which there are this many.
+// Returns how many there were before a change, if there are `after` after the change.
 fn before_change(change: Change, after: usize) -> usize {
     match change {
         Change::In(n) => after.saturating_sub(n),

@@ -4,9 +4,9 @@ ghost use Rattle.std.specs.Prelude.{◌≡◌};
 /// Where a movement is.
 #[derive(Clone, Copy, PartialEq, Eq, Debug)]
 pub struct Place {
-    /// The number of its file, from 0.
+    /// The number of the movement's file, from 0.
     pub file: usize,
-    /// The line on which it begins, from 1.
+    /// The line on which the movement begins, from 1.
     pub line: u64,
 }
 
@@ -22,25 +22,25 @@ pub enum Change {
 /// One movement of an article.
 #[derive(PartialEq, Eq, Debug, Drop)]
 pub struct Movement<T> {
-    /// Where it is.
+    /// Where the movement is.
     pub place: Place,
     /// The article.
     pub article: T,
-    /// What it does.
+    /// What the movement does.
     pub change: Change,
 }
 
 /// What became of a movement.
 #[derive(Clone, Copy, PartialEq, Eq, Debug)]
 pub enum Outcome {
-    /// It was entered.
+    /// The movement was entered.
     Entered {
-        /// How many of its article there are after it.
+        /// How many of the article there are after the movement.
         after: usize,
     },
-    /// It would remove more than is there, and wasn't entered.
+    /// The movement would remove more than is there, and wasn't entered.
     Refused {
-        /// How many of its article there are.
+        /// How many of the article there are.
         there: usize,
     },
 }
@@ -50,19 +50,19 @@ pub enum Outcome {
 pub struct Entry<T> {
     /// The movement.
     pub movement: Movement<T>,
-    /// What became of it.
+    /// What became of the movement.
     pub outcome: Outcome,
 }
 
-/// A movement that would remove more than is there. It isn't entered.
+/// A movement that would remove more than is there, and isn't entered.
 #[derive(PartialEq, Eq, Debug, Drop)]
 pub struct Refusal<T> {
-    /// Where it is.
+    /// Where the movement is.
     pub place: Place,
     /// The article.
     pub article: T,
-    /// How many it asks for.
+    /// How many the movement would remove.
     pub asked: usize,
-    /// How many there are.
+    /// How many of the article there are.
     pub there: usize,
 }

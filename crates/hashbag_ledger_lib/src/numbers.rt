@@ -1,5 +1,5 @@
-//! The numbers of a database: whole, with a sign, at most 2^63-1. `MatchOption` says when a result is `None`, and what is true of its value
-//! else.
+//! The numbers of a database: whole, with a sign, at most 2^63-1. In clauses, `MatchOption` says when a result is `None`, and else what is
+//! true of its value.
 ghost use Rattle.std.specs.Prelude.{◌≡◌, ◌≤◌, ◌<◌, ◌^◌, ◌-◌, pos, MatchOption};
 ghost use Rattle.hashbag_ledger_lib.specs.Numbers.{change_at, plain, size};
 
@@ -8,7 +8,7 @@ use crate::movements::Change;
 /// The greatest number of a row, and the limit of the total of a stock that is kept: 2^63-1.
 pub const MOST: usize = 9_223_372_036_854_775_807;
 
-/// Turns `Out(0)` into `In(0)`. Any other change stays.
+/// Returns `In(0)` for `Out(0)`, and any other change as it is.
 pub fn plain_change(change: Change) -> Change
     ensures { result ≡ plain change }
 {
@@ -28,11 +28,11 @@ pub fn size_of(change: Change) -> usize
     }
 }
 
-/// Returns the number of a change as a row has it: below 0 for what goes out. `None` if it is above [`MOST`].
+/// Returns the number of a change as a row has it: below 0 for `Out`. Returns `None` if the size is above [`MOST`].
 ///
-/// [`change_of`] turns the number into the same change.
+/// [`change_of`] turns the number back into the change, but `Out(0)` into `In(0)`.
 pub fn number_of(change: Change) -> Option<i64>
-    // It is the number of the same change, but without a sign at 0.
+    // `None` exactly if the size is above [`MOST`]. Else the number's change is this one, `Out 0` as `In 0`.
     ensures { MatchOption result (2 ^ 63 - 1 < size change) (λ n. (size change ≤ 2 ^ 63 - 1) × (change_at n ≡ plain change)) }
 {
     match change {
@@ -44,7 +44,7 @@ pub fn number_of(change: Change) -> Option<i64>
     }
 }
 
-/// Returns a number as a row has it. `None` if it is above [`MOST`].
+/// Returns a number as a row has it, or `None` if the number is above [`MOST`].
 pub fn signed(n: usize) -> Option<i64>
     ensures { MatchOption result (2 ^ 63 - 1 < n) (λ number. (n ≤ 2 ^ 63 - 1) × (number ≡ pos n)) }
 {
@@ -54,7 +54,7 @@ pub fn signed(n: usize) -> Option<i64>
     Some(n as i64)
 }
 
-/// Returns the change whose number a row has: what is below 0 goes out.
+/// Returns the change of a number in a row: `Out` below 0, else `In`.
 pub fn change_of(number: i64) -> Change
     ensures { result ≡ change_at number }
 {

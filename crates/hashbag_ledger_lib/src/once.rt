@@ -16,7 +16,7 @@ pub enum Kind {
 }
 
 impl Kind {
-    /// Returns its name in the table of batches.
+    /// Returns the name of the kind in the table of batches.
     pub fn name(self) -> &'static str
         ensures { result.now ≡ name_of self }
     {
@@ -28,7 +28,7 @@ impl Kind {
         }
     }
 
-    /// Returns the batch that it undoes.
+    /// Returns the number of the batch that an undo undoes, or `None` for any other kind.
     pub fn undoes(self) -> Option<i64>
         ensures { result ≡ undone_of self }
     {
@@ -42,29 +42,29 @@ impl Kind {
 /// A batch as the database lists it: what was entered at one time.
 #[derive(Debug, Drop)]
 pub struct Batch {
-    /// Its number, from 1.
+    /// The number of the batch, from 1.
     pub number: i64,
-    /// The name of its file; if it is an undo, that of the batch that it undoes.
+    /// The name of the file; for an undo, the file of the batch that is undone.
     pub file: String,
-    /// The SHA-256 of the bytes of its file, in hexadecimal digits; empty if it has no file.
+    /// The SHA-256 of the bytes of the file, in hexadecimal digits; empty if the batch has no file.
     pub sha256: String,
-    /// What it is: `start`, `moves`, `count` or `undo`.
+    /// The kind: `start`, `moves`, `count` or `undo`.
     pub kind: String,
-    /// The batch that it undoes.
+    /// The number of the batch that is undone, for an undo.
     pub undoes: Option<i64>,
-    /// When it was entered, in UTC.
+    /// When the batch was entered, in UTC.
     pub time: String,
-    /// How many movements it has.
+    /// How many movements the batch has.
     pub movements: u64,
-    /// How many of them were refused.
+    /// How many movements were refused.
     pub refused: u64,
-    /// Its seal, in hexadecimal digits; empty in a stock that has none.
+    /// The seal, in hexadecimal digits; empty in a stock without seals.
     pub seal: String,
 }
 
-/// Returns the first batch whose file has these bytes, by their SHA-256.
+/// Returns the first batch whose file has this SHA-256, or `None`.
 pub fn entered_before<'a>(batches: &'a [Batch], sha256: &str) -> Option<&'a Batch>
-    // It is `None` exactly if no batch has this digest.
+    // The result is `None` exactly if no batch has this digest.
     ensures { IsBatchOfDigest sha256.now batches.now result }
 {
     for batch in batches {
@@ -75,7 +75,7 @@ pub fn entered_before<'a>(batches: &'a [Batch], sha256: &str) -> Option<&'a Batc
     None
 }
 
-/// Returns the batch of this number.
+/// Returns the batch of this number, or `None`.
 pub fn batch_of(batches: &[Batch], number: i64) -> Option<&Batch> {
     for batch in batches {
         if batch.number == number {
@@ -85,7 +85,7 @@ pub fn batch_of(batches: &[Batch], number: i64) -> Option<&Batch> {
     None
 }
 
-/// Returns the batch that undoes the batch of this number.
+/// Returns the first batch that undoes the batch of this number, or `None`.
 pub fn undone_by(batches: &[Batch], number: i64) -> Option<&Batch> {
     for batch in batches {
         if batch.undoes == Some(number) {
@@ -95,7 +95,7 @@ pub fn undone_by(batches: &[Batch], number: i64) -> Option<&Batch> {
     None
 }
 
-/// Returns the number of the batch after these.
+/// Returns the number of the next batch.
 pub fn next_number(batches: &[Batch]) -> i64 {
     match batches.last() {
         Some(batch) => batch.number.saturating_add(1),

@@ -40,7 +40,7 @@ pub fn balance_text(
     records.into_text()
 }
 
-/// Returns one movement as CSV, with the header `article,change`. Its change is the sign, and the number as it was typed.
+/// Returns one movement as CSV, with the header `article,change`. The change is the sign, and then the number as it was typed.
 ///
 /// # Errors
 ///
@@ -59,7 +59,7 @@ pub fn typed_text(
     records.into_text()
 }
 
-// Returns the name of the file of a refused movement.
+// Returns the name of the file of a refused movement, or `-` if `files` lacks the file.
 fn file_of<'a>(files: &[&'a str], refusal: &Refusal<String>) -> &'a str {
     files.get(refusal.place.file).copied().unwrap_or("-")
 }

@@ -21,7 +21,7 @@ use hashbag_csv::sheet::{Column, Sheet};
 use std::alloc::{AllocError, Global};
 use std::hash::BuildHasher;
 
-/// The columns of movements: names, or places under a header.
+/// The columns of movements: names, or columns of a sheet.
 #[derive(Clone, Copy)]
 pub struct Columns<C> {
     /// The article.
@@ -39,7 +39,7 @@ pub enum ChangeColumns<C> {
     ByKind(C, C),
 }
 
-// Finds the columns of a change in the header, which is the record that was read last.
+// Returns the columns of a change with these names in the header. Call it before the first `Sheet::read`, which replaces the header.
 fn change_columns_of<'n>(
     sheet: &Sheet<'_>,
     names: ChangeColumns<&'n str>,
@@ -55,7 +55,7 @@ fn change_columns_of<'n>(
     }
 }
 
-// Finds the columns of these names in the header, which is the record that was read last.
+// Returns the columns with these names in the header. Call it before the first `Sheet::read`, which replaces the header.
 fn columns_of<'n>(
     sheet: &Sheet<'_>,
     names: Columns<&'n str>,
@@ -67,7 +67,7 @@ fn columns_of<'n>(
     Ok(Columns { article, change })
 }
 
-// Reads the change from a number with a sign.
+// Returns the change of a number with a sign: `-` takes out; `+`, or no sign, brings in.
 fn signed_change(alloc: Global, line: u64, field: &str, scale: Scale) -> Result<Change, SheetError>
     ensures { IfOk result (λ change. change ≡ signed scale field.now) }
 {
@@ -93,7 +93,7 @@ fn change_of_kind(alloc: Global, line: u64, kind: &str, n: usize) -> Result<Chan
     }
 }
 
-// Reads the change of the current record, which begins on that line.
+// Returns the change of the record that was read last, which begins on `line`.
 fn change_of(
     alloc: Global,
     sheet: &Sheet<'_>,
@@ -115,7 +115,7 @@ fn change_of(
     }
 }
 
-// Reads the next movement, or returns `None` after the last one.
+// Reads the next record, and returns its movement, or `None` if no record is left.
 fn next_movement(
     alloc: Global,
     sheet: &mut Sheet<'_>,
@@ -140,13 +140,13 @@ fn next_movement(
     }))
 }
 
-/// Reads the movements of a text, in the order of its lines.
+/// Returns the movements of a text, in the order of the lines.
 ///
-/// `file` is the number of the file, which their places have. Numbers are in units of the last decimal of the scale.
+/// `file` is the number of the file in the movements' places. Numbers are in units of the last decimal of the scale.
 ///
 /// # Errors
 ///
-/// `Line` with the first bad line and what is wrong with it, or `Memory` if an allocation fails.
+/// `Line` for the first bad line. `Memory` if an allocation fails.
 pub fn read_movements(
     alloc: Global,
     text: &[u8],
@@ -154,7 +154,7 @@ pub fn read_movements(
     names: Columns<&str>,
     reading: Reading,
 ) -> Result<Vec<Movement<String>>, SheetError>
-    // They are those that the text has.
+    // The result is the list of the movements that the text has.
     ensures movements { IfOk result (λ movements. map said movements.items ≡ movements_named reading names.entry text.now) }
     ensures places { IfOk result (λ movements. All (λ m. m.place.file ≡ file) movements.items) }
 {
@@ -173,7 +173,7 @@ pub fn read_movements(
     Ok(movements)
 }
 
-// Enters a movement of the record that was read last.
+// Enters a movement, which is that of the record that was read last, into a ledger.
 fn enter_record<S: BuildHasher + Drop>(
     alloc: Global,
     sheet: &Sheet<'_>,
@@ -194,14 +194,14 @@ fn enter_record<S: BuildHasher + Drop>(
     }
 }
 
-/// Enters the movements of a text into a ledger, in the order of its lines, as they are read. Only refusals are kept.
+/// Reads the movements of a text in the order of the lines, and enters each into a ledger. Only refusals are kept.
 ///
-/// `file` is the number of the file, which their places have. Numbers are in units of the last decimal of the scale.
+/// `file` is the number of the file in the movements' places. Numbers are in units of the last decimal of the scale.
 ///
 /// # Errors
 ///
-/// `Line` for the first line that is bad, or whose movement would take the total past the limit, and what is wrong with it. `Memory` if an
-/// allocation fails. Then some of the movements are entered, and no clause says which.
+/// `Line` for the first line that is bad, or whose movement would take the total past the limit. `Memory` if an allocation fails. After an
+/// error some of the movements have been entered, and no clause says which.
 pub fn enter_movements<S: BuildHasher + Drop>(
     alloc: Global,
     ledger: &mut Ledger<String, S>,
@@ -210,7 +210,7 @@ pub fn enter_movements<S: BuildHasher + Drop>(
     names: Columns<&str>,
     reading: Reading,
 ) -> Result<(), SheetError>
-    // The movements of the text are added to those that the ledger had.
+    // The movements of the text follow the movements that the ledger had.
     ensures { OnOk result (EntersFileInto file (movements_named reading names.entry text.now) ledger.old ledger.new) }
 {
     let mut sheet = Sheet::open_with(alloc, text, reading.delimiter)?;

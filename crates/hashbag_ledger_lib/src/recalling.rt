@@ -1,49 +1,55 @@
-//! What became of movements that a database has: their entries are computed anew, from an empty stock.
+//! What became of the movements in a database: the entries are computed again, from an empty stock. What a movement carries along, as its
+//! day, or its date and note, stays in one pair with the movement.
 ghost use Rattle.std.specs.Prelude.{◌≡◌, ◌++◌, ◌∷◌, [], IfOk, OnOk, filter};
+ghost use Rattle.std.specs.Map.{values_of};
 ghost use Rattle.hashbag_ledger_lib.specs.Recalls.{is_of, recalled, recalled_of};
 
 use crate::entering::LedgerError;
 use crate::ledger::booking::book_batch;
 use crate::movements::{Entry, Movement};
+use crate::pairs::{halves, paired};
 use std::alloc::{AllocError, Global};
 use std::hash::BuildHasher;
 
-/// Returns these movements, in turn, each with what became of it. They are all that there are of their articles.
+/// Returns these movements, in turn, each with what became of it, and with what it carries along. The stock is empty at first, so `movements`
+/// has to have all movements of its articles.
 ///
 /// # Errors
 ///
-/// `TooMany` with the place of a movement if the total would pass the limit with it. `Memory` if an allocation fails.
-pub fn recall<S: BuildHasher + Drop>(
+/// `TooMany` with the place of a movement if the total would pass the limit with that movement. `Memory` if an allocation fails.
+pub fn recall<X: Drop, S: BuildHasher + Drop>(
     alloc: Global,
     state: S,
-    movements: Vec<Movement<String>>,
-) -> Result<Vec<Entry<String>>, LedgerError>
-    ensures { IfOk result (λ entries. entries.items ≡ recalled movements.items) }
+    movements: Vec<(Movement<String>, X)>,
+) -> Result<Vec<(Entry<String>, X)>, LedgerError>
+    ensures entries { IfOk result (λ entries. entries.items ≡ recalled movements.items) }
+    ensures carried { IfOk result (λ entries. values_of entries.items ≡ values_of movements.items) }
 {
-    let booked = book_batch(alloc, state, Vec::new(alloc), movements)?;
-    Ok(booked.entries)
+    let (bare, carried) = halves(alloc, movements)?;
+    let booked = book_batch(alloc, state, Vec::new(alloc), bare)?;
+    Ok(paired(alloc, booked.entries, carried)?)
 }
 
 // Appends an entry if it is of this batch.
-fn push_own(
-    own: &mut Vec<Entry<String>>,
-    entry: Entry<String>,
+fn push_own<X: Drop>(
+    own: &mut Vec<(Entry<String>, X)>,
+    entry: (Entry<String>, X),
     batch: usize,
 ) -> Result<(), AllocError>
     ensures { OnOk result (own.new.items ≡ own.old.items ++ filter (is_of batch) (entry ∷ [])) }
 {
-    if entry.movement.place.file == batch {
+    if entry.0.movement.place.file == batch {
         own.push(entry).map_err(AllocError::from)?;
     }
     Ok(())
 }
 
 // Returns the entries of a batch, in turn.
-fn own_of(
+fn own_of<X: Drop>(
     alloc: Global,
-    entries: Vec<Entry<String>>,
+    entries: Vec<(Entry<String>, X)>,
     batch: usize,
-) -> Result<Vec<Entry<String>>, AllocError>
+) -> Result<Vec<(Entry<String>, X)>, AllocError>
     ensures { IfOk result (λ own. own.items ≡ filter (is_of batch) entries.items) }
 {
     let mut own = Vec::new(alloc);
@@ -53,19 +59,19 @@ fn own_of(
     Ok(own)
 }
 
-/// Returns the movements of a batch, in turn, each with what became of it. `movements` are all that were entered up to the end of the
-/// batch; the file of a place is the number of its batch.
+/// Returns the movements of a batch, in turn, each with what became of it, and with what it carries along. `movements` are all movements up to
+/// the end of the batch; in each `place.file` is the number of the batch.
 ///
 /// # Errors
 ///
 /// Same as [`recall`].
-pub fn recall_batch<S: BuildHasher + Drop>(
+pub fn recall_batch<X: Drop, S: BuildHasher + Drop>(
     alloc: Global,
     state: S,
-    movements: Vec<Movement<String>>,
+    movements: Vec<(Movement<String>, X)>,
     batch: usize,
-) -> Result<Vec<Entry<String>>, LedgerError>
-    // The movements before the batch decide what became of its own.
+) -> Result<Vec<(Entry<String>, X)>, LedgerError>
+    // The movements before the batch decide what became of the batch's movements.
     ensures { IfOk result (λ own. own.items ≡ recalled_of batch movements.items) }
 {
     let entries = recall(alloc, state, movements)?;

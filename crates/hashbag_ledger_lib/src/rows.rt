@@ -8,16 +8,16 @@ use std::cmp::Ordering;
 /// What becomes of the row of an article.
 #[derive(PartialEq, Eq, Debug, Drop)]
 pub enum RowChange {
-    /// The row has this number, and is new if there was none.
+    /// The row gets this number. It is a new row if the article had none.
     Put(String, usize),
-    /// The row is removed, since there are none left.
+    /// The row is removed, since none of the article is left.
     Remove(String),
 }
 
 // The rows of a balance: its articles with their numbers.
 type Balance<'a> = &'a [(String, usize)];
 
-// Returns whether an article comes before the first of these rows, if there is one.
+// Returns whether an article comes before the article of the first of these rows, or whether there is no row.
 fn is_before(article: &str, rows: Balance<'_>) -> bool
     ensures { IsTrue result ↔ IsBefore article.now rows.now }
 {
@@ -41,7 +41,7 @@ pub fn rises(balance: &[(String, usize)]) -> bool
     true
 }
 
-// Returns the change of the next article's row, `None` if it stays, and the rows behind it in both balances.
+// Returns the change of the next article's row, or `None` if the row stays, and the rows after that article in both balances.
 fn next_change<'a, 'b>(
     before: Balance<'a>,
     after: Balance<'b>,
@@ -66,8 +66,8 @@ fn next_change<'a, 'b>(
     }
 }
 
-/// Returns the changes that turn the balance `before` into `after`, sorted by article. Both balances have to be sorted by article. An article
-/// with the same quantity in both has no change.
+/// Returns the changes that turn the balance `before` into `after`, sorted by article. Both balances have to be sorted by article. An
+/// article with the same quantity in both has no change.
 ///
 /// # Errors
 ///

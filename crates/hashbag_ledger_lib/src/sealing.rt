@@ -1,9 +1,9 @@
-//! The seal of a batch. It shows that nobody changed what no count of the movements shows: files, lines, times, dates, notes, the scale.
-ghost use Rattle.std.specs.Prelude.{◌≡◌, ℕ, ℤ, ◌↔◌, ◌++◌, List, Option, length, take, drop, option_map, string_bytes, IfOk, IsNone, IsTrue};
+//! The seal of a batch. A wrong seal shows a change that no count of the movements shows: of files, lines, times, dates, notes
+//! or the scale.
+ghost use Rattle.std.specs.Prelude.{◌≡◌, ℕ, ◌↔◌, List, Option, take, drop, option_map, string_bytes, IfOk, IsNone, IsTrue};
 ghost use Rattle.hex.specs.Hex.{encode_lower};
 ghost use Rattle.sha2.specs.Hashers.{Holds256};
 ghost use Rattle.sha2.specs.Sha256.{sha256};
-ghost use Rattle.hashbag_ledger_lib.specs.Numbers.{plain};
 ghost use Rattle.hashbag_ledger_lib.specs.Seals.{with_number, with_text, with_option, with_change, with_movement, with_movements, with_maybe, with_extra, with_extras, with_head, with_source, with_counts, seal_of, IsRowOf, AreRowsOf, AreSealed};
 
 use crate::extras::Extra;
@@ -14,20 +14,20 @@ use crate::once::{Batch, Kind};
 use sha2::{Digest, Sha256};
 use std::alloc::{AllocError, Global};
 
-/// What is known of a batch before it is counted and sealed.
+/// What is known of a batch before its refusals are counted and its seal is computed.
 #[derive(Clone, Copy)]
 pub struct Draft<'a> {
-    /// Its number.
+    /// The number of the batch.
     pub number: i64,
-    /// The name of its file.
+    /// The name of the file.
     pub file: &'a str,
-    /// The SHA-256 of the bytes of its file, in hexadecimal digits; empty if it has no file.
+    /// The SHA-256 of the bytes of the file, in hexadecimal digits; empty if the batch has no file.
     pub sha256: &'a str,
-    /// What it is.
+    /// The kind of the batch.
     pub kind: Kind,
-    /// When it is entered, in UTC.
+    /// When the batch is entered, in UTC.
     pub time: &'a str,
-    /// How many movements it has.
+    /// How many movements the batch has.
     pub movements: u64,
 }
 
@@ -42,7 +42,7 @@ pub fn digest_of(alloc: Global, bytes: &[u8]) -> Result<String, AllocError>
     hex::encode(alloc, Sha256::digest(bytes))
 }
 
-// Adds a number.
+// Adds a number to the message of a hasher. In the clauses of these functions, `m` is the message before.
 fn add_number(hasher: &mut Sha256, number: u64)
     ensures { (m : List ℕ) → Holds256 hasher.old m → Holds256 hasher.new (with_number m number) }
 {
@@ -117,7 +117,7 @@ fn add_maybe(hasher: &mut Sha256, text: &Option<String>)
     }
 }
 
-// Adds the date and the note of the movement of this number, if it has one of them.
+// Adds the number of a movement, its date and its note, if the movement has a date or a note.
 fn add_extra(hasher: &mut Sha256, number: u64, extra: &Extra)
     ensures { (m : List ℕ) → Holds256 hasher.old m → Holds256 hasher.new (with_extra m number extra.now) }
 {
@@ -146,7 +146,7 @@ fn add_head(hasher: &mut Sha256, scale: u32, batch: &Batch)
     add_option(hasher, Some(batch.number));
 }
 
-// Adds where a batch comes from.
+// Adds where a batch comes from: the file, its SHA-256, and the kind.
 fn add_source(hasher: &mut Sha256, batch: &Batch)
     ensures { (m : List ℕ) → Holds256 hasher.old m → Holds256 hasher.new (with_source m batch.now) }
 {
@@ -165,7 +165,7 @@ fn add_counts(hasher: &mut Sha256, batch: &Batch)
     add_number(hasher, batch.refused);
 }
 
-// Returns the seal of a batch of a stock whose numbers have this many decimals.
+// Returns the seal of a batch, in a stock whose numbers have `scale` decimals.
 fn seal_for(
     alloc: Global,
     scale: u32,
@@ -184,7 +184,7 @@ fn seal_for(
     hex::encode(alloc, hasher.finalize())
 }
 
-// Returns the row of a batch that has these entries, with these dates and notes, in a stock whose numbers have this many decimals.
+// Returns the row of a batch with these entries, dates and notes, in a stock whose numbers have `scale` decimals.
 fn row_of(
     alloc: Global,
     scale: u32,
@@ -209,7 +209,7 @@ fn row_of(
     Ok(row)
 }
 
-// Returns whether a batch has the seal of its row and of these entries, with these dates and notes.
+// Returns whether the seal of a batch is right for its row, these entries, and these dates and notes.
 fn is_sealed(
     alloc: Global,
     scale: u32,
@@ -223,7 +223,7 @@ fn is_sealed(
     Ok(batch.seal.as_str() == seal.as_str())
 }
 
-/// Returns the first `count` of a list, or all, and those after them.
+/// Returns the first `count` elements of a list, or all, and the elements after them.
 pub fn cut<T>(list: &[T], count: u64) -> (&[T], &[T])
     ensures own { result.0.now ≡ take count list.now }
     ensures later { result.1.now ≡ drop count list.now }
@@ -235,9 +235,9 @@ pub fn cut<T>(list: &[T], count: u64) -> (&[T], &[T])
     (list, &[])
 }
 
-/// Returns the rows of batches with their seals, in turn, in a stock whose numbers have this many decimals. The entries are those of all
-/// batches, in turn: of each batch as many as its draft says, or those that are left. `extras` are the dates and the notes of the same
-/// movements; it is empty if they have none.
+/// Returns the rows of batches with their seals, in turn, in a stock whose numbers have `scale` decimals. `entries` are the entries of all
+/// batches, in turn: for each batch as many as its draft says, or the rest. `extras` are the dates and the notes of the same movements; it
+/// is empty if no movement has one.
 ///
 /// # Errors
 ///
@@ -266,8 +266,8 @@ pub fn sealed_rows(
     Ok(rows)
 }
 
-/// Returns the number of the first batch whose seal isn't that of its row and of its movements, or `None` if each has its own. The
-/// entries are those of all batches, in turn, and `extras` their dates and notes.
+/// Returns the number of the first batch whose seal is wrong for its row and its movements, or `None` if each seal is right. `entries` are
+/// the entries of all batches, in turn, and `extras` the dates and notes of the same movements.
 ///
 /// # Errors
 ///

@@ -1,4 +1,4 @@
-//! How the files of a stock are written, which its database keeps.
+//! How the files of a stock are written. The database keeps this.
 ghost use Rattle.std.specs.Prelude.{◌≡◌};
 ghost use Rattle.hashbag_ledger_lib.specs.Styles.{plain_style};
 
@@ -8,16 +8,16 @@ use hashbag_csv::scale::Mark;
 /// How the files of a stock are written.
 #[derive(Clone, Copy, PartialEq, Eq, Debug)]
 pub struct Style {
-    /// How many decimals its numbers have.
+    /// How many decimals numbers have.
     pub scale: u32,
-    /// What is before them.
+    /// The mark before the decimals.
     pub mark: Mark,
     /// What is between fields.
     pub delimiter: Delimiter,
 }
 
 impl Style {
-    /// Returns the style of this many decimals after a point, with commas between fields.
+    /// Returns the style with `scale` decimals after a point, and with commas between fields.
     pub fn plain(scale: u32) -> Style
         ensures { result ≡ plain_style scale }
     {

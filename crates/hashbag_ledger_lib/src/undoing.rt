@@ -1,4 +1,4 @@
-//! A batch that is taken back.
+//! A batch that is taken back by its opposite movements.
 ghost use Rattle.std.specs.Prelude.{◌≡◌, ◌+◌, ◌<◌, ◌^◌, ◌-◌, ◌↔◌, ◌++◌, [], String, IfOk, OnOk, string_cmp};
 ghost use Rattle.std.specs.Global.{Global};
 ghost use Rattle.std.specs.String.{string_eq};
@@ -7,7 +7,7 @@ ghost use Rattle.hashbag_ledger_lib.specs.Changes.{Rises};
 ghost use Rattle.hashbag_ledger_lib.specs.Errors.{IfTooMany};
 ghost use Rattle.hashbag_ledger_lib.specs.declared.movements.Place.{Place};
 ghost use Rattle.hashbag_ledger_lib.specs.Settled.{listed, IsPastWithin};
-ghost use Rattle.hashbag_ledger_lib.specs.Undos.{coming_back, going_back, opposites_of, IsUndo, IsUndoOf, IsChangedBy, HasRisingRows, RestoresWhatWas};
+ghost use Rattle.hashbag_ledger_lib.specs.Undos.{coming_back, going_back, opposites_of, EntersOrRefuses, IsUndo, IsChangedBy, HasRisingRows, RestoresWhatWas};
 
 use crate::entering::LedgerError;
 use crate::filing::copy_of;
@@ -19,23 +19,23 @@ use crate::rows::{RowChange, changed_rows};
 use std::alloc::{AllocError, Global};
 use std::hash::BuildHasher;
 
-/// What becomes of an undo.
+/// The result of an undo.
 #[derive(Drop)]
 pub enum Undo<T> {
-    /// The balance once the batch is taken back, and the opposite movements, each with what became of it: all were entered.
+    /// The batch was taken back. The new balance, and the opposite movements, each with what became of it: all were entered.
     Done(Booked<T>),
-    /// Some articles would fall below zero: the opposite movements that ask for more than is there.
+    /// Some articles would fall below zero. The refusals of the opposite movements that would remove more than is there.
     Refused(Vec<Refusal<T>>),
 }
 
-// Appends the opposite of a movement to those that come in, or to those that go out.
+// Appends the opposite of a movement to `coming_in` or to `going_out`.
 fn turn<T: Drop>(
     movement: Movement<T>,
     coming_in: &mut Vec<Movement<T>>,
     going_out: &mut Vec<Movement<T>>,
 ) -> Result<(), AllocError>
-    ensures back { OnOk result (coming_in.new.items ≡ coming_in.old.items ++ coming_back movement movement.change []) }
-    ensures again { OnOk result (going_out.new.items ≡ going_out.old.items ++ going_back movement movement.change []) }
+    ensures coming { OnOk result (coming_in.new.items ≡ coming_in.old.items ++ coming_back movement movement.change []) }
+    ensures going { OnOk result (going_out.new.items ≡ going_out.old.items ++ going_back movement movement.change []) }
 {
     let Movement {
         place,
@@ -64,7 +64,7 @@ fn turn<T: Drop>(
     }
 }
 
-/// Returns the opposite movements of a batch: first what it took out comes in, and then what it brought in goes out, each in turn.
+/// Returns the opposite movements of a batch: first an `In` for each `Out`, and then an `Out` for each `In`, each in turn.
 ///
 /// # Errors
 ///
@@ -84,32 +84,32 @@ pub fn opposites<T: Drop>(
     Ok(all)
 }
 
-/// Enters the opposite movements of a batch into the balance that is kept, all or none.
+/// Enters the opposite movements of a batch into the kept balance, all or none.
 ///
-/// It returns `Refused` exactly if an article would fall below zero. This can't be for the last batch: the balance is then again the one
-/// before it.
+/// Returns `Refused` exactly if an article would fall below zero. The undo of the last batch is never `Refused`: the balance is then again
+/// the one before the batch.
 ///
 /// # Errors
 ///
-/// `StartTooMany` exactly if the numbers of the balance are more than [`MOST`] together. `TooMany` with the place of a movement only if
-/// the total would pass [`MOST`] with its opposite. `Memory` if an allocation fails.
+/// `StartTooMany` exactly if the sum of the balance is above [`MOST`]. `TooMany` with the place of a movement only if the total would pass
+/// [`MOST`] with the opposite of that movement. `Memory` if an allocation fails.
 pub fn take_back<S: BuildHasher + Drop>(
     alloc: Global,
     state: S,
     kept: Vec<(String, usize)>,
     batch: Vec<Movement<String>>,
 ) -> Result<Undo<String>, LedgerError>
-    // Either the batch is taken back, or it is `Refused`, because an article would fall below zero.
+    // Either the batch is taken back, or the undo is `Refused`, because an article would fall below zero.
     ensures undo { IfOk result (IsUndo string_eq string_cmp (listed string_eq kept.items) batch.items) }
 
-    // If the batch turned `before` into the balance kept, it is taken back, and the balance is `before` again.
+    // If the batch turned some stock into the kept balance, the batch is taken back, and the balance is that stock again.
     ensures last { IfOk result (λ u. RestoresWhatWas kept.items batch.items u) }
 
-    // The opposite movements were all entered, or the refusals are theirs.
-    ensures each { IfOk result (IsUndoOf string_eq kept.items batch.items) }
+    // The entries, or the refusals, are those of the opposite movements.
+    ensures each { IfOk result (EntersOrRefuses string_eq kept.items batch.items) }
     ensures too_many { (result ≡ Err LedgerError.StartTooMany) ↔ (2 ^ 63 - 1 < numbers kept.items) }
 
-    // On success no total passes [`MOST`]. `TooMany p`: with the opposite of the movement at `p` it would.
+    // On success no total passes [`MOST`]. `TooMany p`: with the opposite of the movement at `p` the total would.
     ensures fit { OnOk result ((p : Place) → ¬ (IsPastWithin string_eq (2 ^ 63 - 1) kept.items (opposites_of batch.items) p)) }
     ensures past { IfTooMany result (λ p. IsPastWithin string_eq (2 ^ 63 - 1) kept.items (opposites_of batch.items) p) }
 {
@@ -123,7 +123,7 @@ pub fn take_back<S: BuildHasher + Drop>(
     Ok(Undo::Refused(refusals_from(alloc, booked.entries)?))
 }
 
-// Returns what becomes of the rows of the balance that is kept after an undo: of none if it is denied.
+// Returns the changes of the rows of the kept balance after an undo; no changes if the undo is `Refused`.
 fn undone_rows(
     alloc: Global,
     kept: &[(String, usize)],
@@ -140,24 +140,24 @@ fn undone_rows(
     }
 }
 
-/// Enters the opposite movements of a batch into the balance that is kept, all or none, as [`take_back`]. Returns also what becomes of
-/// the rows of the balance: of none if the undo is denied.
+/// Enters the opposite movements of a batch into the kept balance, all or none, as [`take_back`] does. Returns the undo, and the changes of
+/// the rows of the balance; no changes if the undo is `Refused`.
 ///
 /// # Errors
 ///
-/// `StartTooMany` only if the numbers of the balance are more than [`MOST`] together. `TooMany` with the place of a movement only if the
-/// total would pass [`MOST`] with its opposite. `Memory` if an allocation fails.
+/// `StartTooMany` only if the sum of the balance is above [`MOST`]. `TooMany` with the place of a movement only if the total would pass
+/// [`MOST`] with the opposite of that movement. `Memory` if an allocation fails.
 pub fn undo_batch<S: BuildHasher + Drop>(
     alloc: Global,
     state: S,
     kept: &[(String, usize)],
     batch: Vec<Movement<String>>,
 ) -> Result<(Undo<String>, Vec<RowChange>), LedgerError>
-    // Either the batch is taken back, or it is `Refused`, because an article would fall below zero.
+    // Either the batch is taken back, or the undo is `Refused`, because an article would fall below zero.
     ensures undo { IfOk result (λ u. IsUndo string_eq string_cmp (listed string_eq kept.now) batch.items u.0) }
-    ensures each { IfOk result (λ u. IsUndoOf string_eq kept.now batch.items u.0) }
+    ensures each { IfOk result (λ u. EntersOrRefuses string_eq kept.now batch.items u.0) }
 
-    // If the kept rows are in ascending order, the changes turn them into the rows of the new balance; there are none if it is denied.
+    // If the kept rows are in ascending order, the changes turn them into the rows of the new balance; no changes if the undo is `Refused`.
     ensures changed { IfOk result (λ u. Rises kept.now → IsChangedBy kept.now u.0 u.1.items) }
     ensures start { (result ≡ Err LedgerError.StartTooMany) → 2 ^ 63 - 1 < numbers kept.now }
 

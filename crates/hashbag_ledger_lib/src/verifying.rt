@@ -1,8 +1,9 @@
-//! The balance and the refusals that are kept, compared with what the movements make.
-ghost use Rattle.std.specs.Prelude.{◌≡◌, ◌≢◌, ℕ, ◌<◌, ◌≤◌, ◌↔◌, IsTrue, IsNone, IfNone, IfSome, map, slice_get};
+//! The kept balance and refusals, compared with those that are computed from the movements.
+ghost use Rattle.std.specs.Prelude.{◌≡◌, ◌≢◌, ℕ, ◌<◌, ◌≤◌, ◌↔◌, IsTrue, IsNone, IfNone, IfOk, IfSome, map, slice_get};
 ghost use Rattle.std.specs.Option.{option_copied, option_map};
 ghost use Rattle.hashbag_ledger_lib.specs.Rows.{row, rows_of, kept_of, wrong_row, wrong_movement, IsFirstDifference, article_with_both, first_row, row_there};
 
+use crate::extras::Extra;
 use crate::movements::{Movement, Refusal};
 use crate::once::Batch;
 use std::alloc::{AllocError, Global};
@@ -13,8 +14,10 @@ use std::cmp::Ordering;
 pub struct KeptMovement {
     /// The movement. Its `place.file` isn't a file here, but the movement's number.
     pub movement: Movement<String>,
-    /// The number of its batch.
+    /// The number of the movement's batch.
     pub batch: u64,
+    /// Its date and its note.
+    pub extra: Extra,
 }
 
 /// A refusal as the database keeps it.
@@ -22,7 +25,7 @@ pub struct KeptMovement {
 pub struct KeptRefusal {
     /// The number of the movement.
     pub movement: usize,
-    /// How many there were.
+    /// How many of the article there were.
     pub there: usize,
 }
 
@@ -33,7 +36,7 @@ pub struct WrongNumber<'a> {
     pub article: &'a str,
     /// The number that is kept.
     pub kept: usize,
-    /// The number that the movements make.
+    /// The number that is computed from the movements.
     pub counted: usize,
 }
 
@@ -45,7 +48,7 @@ fn longest_of(kept: usize, counted: usize) -> usize
     if kept < counted { counted } else { kept }
 }
 
-// Returns whether two rows have the same article and the same number, or neither is there.
+// Returns whether two rows have the same article and the same number, or both rows are missing.
 fn is_same_row(kept: Option<&(String, usize)>, counted: Option<&(String, usize)>) -> bool
     ensures { IsTrue result ↔ (option_map row (option_copied kept.entry) ≡ option_map row (option_copied counted.entry)) }
 {
@@ -56,7 +59,7 @@ fn is_same_row(kept: Option<&(String, usize)>, counted: Option<&(String, usize)>
     }
 }
 
-// Returns the first place at which two balances differ.
+// Returns the first index at which two balances differ, or `None`.
 fn first_difference(kept: &[(String, usize)], counted: &[(String, usize)]) -> Option<usize>
     ensures all_same { IfNone result (rows_of kept.now ≡ rows_of counted.now) }
     ensures differ { IfSome result (λ i. slice_get (rows_of kept.now) i ≢ slice_get (rows_of counted.now) i) }
@@ -71,7 +74,7 @@ fn first_difference(kept: &[(String, usize)], counted: &[(String, usize)]) -> Op
     None
 }
 
-// Returns the article of two rows that differ which comes first, with its two numbers.
+// Returns the lower article of two rows that differ, with its number in each row; 0 if the row is of the other article.
 fn first_of<'a>(kept: &'a (String, usize), counted: &'a (String, usize)) -> WrongNumber<'a>
     ensures { article_with_both result ≡ first_row (row kept.now) (row counted.now) }
 {
@@ -94,7 +97,7 @@ fn first_of<'a>(kept: &'a (String, usize), counted: &'a (String, usize)) -> Wron
     }
 }
 
-// Returns the article of two rows that differ, with its numbers; `None` if neither is there.
+// Returns the lower article of two rows that differ, with its number in each row; `None` if both rows are missing.
 fn wrong_of<'a>(
     kept: Option<&'a (String, usize)>,
     counted: Option<&'a (String, usize)>,
@@ -117,8 +120,7 @@ fn wrong_of<'a>(
     }
 }
 
-/// Returns the first article whose row differs from what the movements make, with its two numbers, or `None` if the two balances are the
-/// same.
+/// Returns the first article whose row differs in the two balances, with both numbers, or `None` if the balances are equal.
 pub fn wrong_number<'a>(
     kept: &'a [(String, usize)],
     counted: &'a [(String, usize)],
@@ -132,7 +134,7 @@ pub fn wrong_number<'a>(
     }
 }
 
-// Returns whether a refusal that is kept is that of the movements, or neither is there.
+// Returns whether a kept refusal is the counted refusal, or both are missing.
 fn is_same_refusal(kept: Option<&KeptRefusal>, counted: Option<&Refusal<String>>) -> bool
     ensures { IsTrue result ↔ (option_copied kept.entry ≡ option_map kept_of (option_copied counted.entry)) }
 {
@@ -143,7 +145,7 @@ fn is_same_refusal(kept: Option<&KeptRefusal>, counted: Option<&Refusal<String>>
     }
 }
 
-// Returns the lower number of two movements, or that of the only one.
+// Returns the lower movement number of two refusals, or the movement number of the only one.
 fn first_number(kept: Option<&KeptRefusal>, counted: Option<&Refusal<String>>) -> usize
     ensures { result ≡ wrong_movement (option_copied kept.entry) (option_map kept_of (option_copied counted.entry)) }
 {
@@ -155,8 +157,8 @@ fn first_number(kept: Option<&KeptRefusal>, counted: Option<&Refusal<String>>) -
     }
 }
 
-/// Returns the number of the first movement that is refused in one list alone, or with another number there; `None` if the refusals
-/// that are kept are those of the movements.
+/// Returns the number of the first movement that is refused in only one list, or in both with different numbers `there`. Returns `None` if
+/// both lists have the same refusals.
 pub fn wrong_refusal(kept: &[KeptRefusal], counted: &[Refusal<String>]) -> Option<usize>
     ensures agrees { IsNone result ↔ (kept.now ≡ map kept_of counted.now) }
     ensures first { IfSome result (IsFirstDifference wrong_movement kept.now (map kept_of counted.now)) }
@@ -178,7 +180,7 @@ struct Read {
     refusals: usize,
 }
 
-// Reads the movements of a batch, and those of them that were refused.
+// Reads the movements of a batch and their refusals, and returns how many have then been read.
 fn read_batch(
     movements: &[KeptMovement],
     refusals: &[KeptRefusal],
@@ -203,10 +205,10 @@ fn read_batch(
     read
 }
 
-/// Returns the number of the first batch that has other numbers of movements or refusals than its row says. If all of them are right and a
-/// movement is left over, it returns the number of that one's batch: the movement is of no batch, or out of turn.
+/// Returns the number of the first batch that has other numbers of movements or refusals than its row says. If all rows are right and a
+/// movement is left over, returns the batch number of that movement, which is of no batch, or out of turn. Else returns `None`.
 ///
-/// Movements and refusals are in turn.
+/// Movements and refusals must be in turn.
 pub fn wrong_batch(
     batches: &[Batch],
     movements: &[KeptMovement],
@@ -229,7 +231,7 @@ pub fn wrong_batch(
     i64::try_from(kept.batch).ok()
 }
 
-/// Returns the movements without their batches, in turn.
+/// Returns the movements, in turn, and what they carry along.
 ///
 /// # Errors
 ///
@@ -237,10 +239,20 @@ pub fn wrong_batch(
 pub fn movements_from(
     alloc: Global,
     kept: Vec<KeptMovement>,
-) -> Result<Vec<Movement<String>>, AllocError> {
+) -> Result<(Vec<Movement<String>>, Vec<Extra>), AllocError>
+    ensures movements { IfOk result (λ lists. lists.0.items ≡ map (λ k. k.movement) kept.items) }
+    ensures extras { IfOk result (λ lists. lists.1.items ≡ map (λ k. k.extra) kept.items) }
+{
     let mut movements = Vec::new(alloc);
+    let mut extras = Vec::new(alloc);
     for one in kept {
-        movements.push(one.movement).map_err(AllocError::from)?;
+        let KeptMovement {
+            movement,
+            extra,
+            ..
+        } = one;
+        movements.push(movement).map_err(AllocError::from)?;
+        extras.push(extra).map_err(AllocError::from)?;
     }
-    Ok(movements)
+    Ok((movements, extras))
 }

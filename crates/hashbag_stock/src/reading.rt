@@ -117,22 +117,76 @@ pub fn time_of<S: Alter>(conn: &mut Connection<S>) -> Result<String, StockError>
     Ok(conn.query_row("SELECT CURRENT_TIMESTAMP", &[])?.get(0)?)
 }
 
-// Its place, its article and its change.
-impl FromRow for Movement<String> {
-    fn from_row(row: &Row) -> Result<Movement<String>, StockError> {
-        let place = Place {
-            file: natural(row, 0)? as usize,
-            line: natural(row, 1)?,
-        };
-        Ok(Movement {
-            place,
-            article: row.get(2)?,
-            change: change_of(row.get(3)?),
+// Returns the movement of a row: its place, its article and its change.
+fn movement_of(row: &Row) -> Result<Movement<String>, StockError> {
+    let place = Place {
+        file: natural(row, 0)? as usize,
+        line: natural(row, 1)?,
+    };
+    Ok(Movement {
+        place,
+        article: row.get(2)?,
+        change: change_of(row.get(3)?),
+    })
+}
+
+// Returns the date and the note of the movement of a row.
+fn extra_of(row: &Row) -> Result<Extra, StockError> {
+    Ok(Extra {
+        date: row.get(4)?,
+        note: row.get(5)?,
+    })
+}
+
+impl FromRow for (Movement<String>, Extra) {
+    fn from_row(row: &Row) -> Result<(Movement<String>, Extra), StockError> {
+        Ok((movement_of(row)?, extra_of(row)?))
+    }
+}
+
+// A movement with its day.
+impl FromRow for (Movement<String>, String) {
+    fn from_row(row: &Row) -> Result<(Movement<String>, String), StockError> {
+        Ok((movement_of(row)?, row.get(4)?))
+    }
+}
+
+impl FromRow for KeptMovement {
+    fn from_row(row: &Row) -> Result<KeptMovement, StockError> {
+        Ok(KeptMovement {
+            movement: movement_of(row)?,
+            extra: extra_of(row)?,
+            batch: natural(row, 6)?,
         })
     }
 }
 
-/// Returns the movements of a batch that were entered, in turn, each with its line in file 0.
+// Returns the columns of dates and notes, which are empty if the stock has none.
+fn extra_columns(shape: Shape) -> &'static str {
+    if shape.is_dated() {
+        "m.date, m.note"
+    } else {
+        "NULL, NULL"
+    }
+}
+
+// Returns the movements that `rest` of a query names, in turn, each with its date and its note. `file` is the column of the file of its place.
+fn carrying_of<S: Alter>(
+    alloc: Global,
+    conn: &mut Connection<S>,
+    shape: Shape,
+    file: &str,
+    rest: &str,
+    values: &[ValueRef<'_>],
+) -> Result<Vec<(Movement<String>, Extra)>, StockError> {
+    let extra = extra_columns(shape);
+    let text = format!(in alloc;
+        "SELECT {file}, m.line, m.article, m.change, {extra} FROM movement m {rest} ORDER BY m.movement"
+    )?;
+    list_of(alloc, conn, text.as_str(), values)
+}
+
+/// Returns the movements of a batch that were entered, in turn, each with its line in file 0, and with its date and its note.
 ///
 /// # Errors
 ///
@@ -140,23 +194,15 @@ impl FromRow for Movement<String> {
 pub fn entered_of<S: Alter>(
     alloc: Global,
     conn: &mut Connection<S>,
+    shape: Shape,
     batch: i64,
-) -> Result<Vec<Movement<String>>, StockError> {
-    let text =
-        "SELECT 0, m.line, m.article, m.change FROM movement m LEFT JOIN refusal r ON r.movement = m.movement WHERE m.batch = ?1 AND r.movement IS NULL ORDER BY m.movement";
-    list_of(alloc, conn, text, params![batch])
+) -> Result<Vec<(Movement<String>, Extra)>, StockError> {
+    let rest =
+        "LEFT JOIN refusal r ON r.movement = m.movement WHERE m.batch = ?1 AND r.movement IS NULL";
+    carrying_of(alloc, conn, shape, "0", rest, params![batch])
 }
 
-impl FromRow for KeptMovement {
-    fn from_row(row: &Row) -> Result<KeptMovement, StockError> {
-        Ok(KeptMovement {
-            movement: Movement::from_row(row)?,
-            batch: natural(row, 4)?,
-        })
-    }
-}
-
-/// Returns all movements, in turn, each with its batch. The file of a place is the number of the movement.
+/// Returns all movements, in turn, each with its batch, its date and its note. The file of a place is the number of the movement.
 ///
 /// # Errors
 ///
@@ -164,99 +210,29 @@ impl FromRow for KeptMovement {
 pub fn movements_of<S: Alter>(
     alloc: Global,
     conn: &mut Connection<S>,
+    shape: Shape,
 ) -> Result<Vec<KeptMovement>, StockError> {
-    let text = "SELECT movement, line, article, change, batch FROM movement ORDER BY movement";
-    list_of(alloc, conn, text, &[])
+    let extra = extra_columns(shape);
+    let text = format!(in alloc;
+        "SELECT m.movement, m.line, m.article, m.change, {extra}, m.batch FROM movement m ORDER BY m.movement"
+    )?;
+    list_of(alloc, conn, text.as_str(), &[])
 }
 
-impl FromRow for Extra {
-    fn from_row(row: &Row) -> Result<Extra, StockError> {
-        Ok(Extra {
-            date: row.get(0)?,
-            note: row.get(1)?,
-        })
-    }
-}
-
-// Returns the dates and notes of the movements of a query, in turn; none if the stock has none.
-fn extras_by<S: Alter>(
-    alloc: Global,
-    conn: &mut Connection<S>,
-    shape: Shape,
-    text: &str,
-    values: &[ValueRef<'_>],
-) -> Result<Vec<Extra>, StockError> {
-    if !shape.is_dated() {
-        return Ok(Vec::new(alloc));
-    }
-    list_of(alloc, conn, text, values)
-}
-
-/// Returns the dates and notes of all movements, in turn; none if the stock has none.
+/// Returns all movements, in turn, each with its day: its date, or that of its batch's time. The file of a place is the number of the movement.
 ///
 /// # Errors
 ///
-/// What fails.
-pub fn extras_of<S: Alter>(
+/// Same as [`batches_of`].
+pub fn dated_movements_of<S: Alter>(
     alloc: Global,
     conn: &mut Connection<S>,
     shape: Shape,
-) -> Result<Vec<Extra>, StockError> {
-    let text = "SELECT date, note FROM movement ORDER BY movement";
-    extras_by(alloc, conn, shape, text, &[])
-}
-
-/// Returns the dates and notes of the movements of a batch, in turn; none if the stock has none.
-///
-/// # Errors
-///
-/// What fails.
-pub fn extras_of_batch<S: Alter>(
-    alloc: Global,
-    conn: &mut Connection<S>,
-    shape: Shape,
-    batch: i64,
-) -> Result<Vec<Extra>, StockError> {
-    let text = "SELECT date, note FROM movement WHERE batch = ?1 ORDER BY movement";
-    extras_by(alloc, conn, shape, text, params![batch])
-}
-
-/// Returns the dates and notes of the movements of [`entered_of`], in turn; none if the stock has none.
-///
-/// # Errors
-///
-/// What fails.
-pub fn entered_extras_of<S: Alter>(
-    alloc: Global,
-    conn: &mut Connection<S>,
-    shape: Shape,
-    batch: i64,
-) -> Result<Vec<Extra>, StockError> {
-    let text =
-        "SELECT m.date, m.note FROM movement m LEFT JOIN refusal r ON r.movement = m.movement WHERE m.batch = ?1 AND r.movement IS NULL ORDER BY m.movement";
-    extras_by(alloc, conn, shape, text, params![batch])
-}
-
-impl FromRow for String {
-    fn from_row(row: &Row) -> Result<String, StockError> {
-        Ok(row.get(0)?)
-    }
-}
-
-/// Returns the day of each movement, in turn: its date, or that of its batch's time.
-///
-/// # Errors
-///
-/// What fails.
-pub fn days_of<S: Alter>(
-    alloc: Global,
-    conn: &mut Connection<S>,
-    shape: Shape,
-) -> Result<Vec<String>, StockError> {
+) -> Result<Vec<(Movement<String>, String)>, StockError> {
     let text = if shape.is_dated() {
-        "SELECT coalesce(m.date, substr(b.time, 1, 10)) FROM movement m LEFT JOIN batch b ON b.batch = m.batch ORDER BY m.movement"
+        "SELECT m.movement, m.line, m.article, m.change, coalesce(m.date, substr(b.time, 1, 10)) FROM movement m LEFT JOIN batch b ON b.batch = m.batch ORDER BY m.movement"
     } else {
-        "SELECT substr(b.time, 1, 10) FROM movement m LEFT JOIN batch b ON b.batch = m.batch ORDER BY m.movement"
+        "SELECT m.movement, m.line, m.article, m.change, substr(b.time, 1, 10) FROM movement m LEFT JOIN batch b ON b.batch = m.batch ORDER BY m.movement"
     };
     list_of(alloc, conn, text, &[])
 }
@@ -287,7 +263,8 @@ pub fn refusals_of<S: Alter>(
     )
 }
 
-/// Returns the movements of this batch and of those before it, in turn. The file of a place is the number of the batch.
+/// Returns the movements of this batch and of those before it, in turn, each with its date and its note. The file of a place is the number of the
+/// batch.
 ///
 /// # Errors
 ///
@@ -295,22 +272,26 @@ pub fn refusals_of<S: Alter>(
 pub fn movements_until<S: Alter>(
     alloc: Global,
     conn: &mut Connection<S>,
+    shape: Shape,
     batch: i64,
-) -> Result<Vec<Movement<String>>, StockError> {
-    let text =
-        "SELECT batch, line, article, change FROM movement WHERE batch <= ?1 ORDER BY movement";
-    list_of(alloc, conn, text, params![batch])
+) -> Result<Vec<(Movement<String>, Extra)>, StockError> {
+    let rest = "WHERE m.batch <= ?1";
+    carrying_of(alloc, conn, shape, "m.batch", rest, params![batch])
 }
 
-// Returns the movements of an article, in turn. The file of a place is the number of the batch.
-fn movements_of_article<S: Alter>(
+/// Returns the movements of an article, in turn, each with its date and its note. The file of a place is the number of the batch.
+///
+/// # Errors
+///
+/// Same as [`batches_of`].
+pub fn movements_of_article<S: Alter>(
     alloc: Global,
     conn: &mut Connection<S>,
+    shape: Shape,
     article: &str,
-) -> Result<Vec<Movement<String>>, StockError> {
-    let text =
-        "SELECT batch, line, article, change FROM movement WHERE article = ?1 ORDER BY movement";
-    list_of(alloc, conn, text, params![article])
+) -> Result<Vec<(Movement<String>, Extra)>, StockError> {
+    let rest = "WHERE m.article = ?1";
+    carrying_of(alloc, conn, shape, "m.batch", rest, params![article])
 }
 
 /// All that a stock keeps.
@@ -320,8 +301,6 @@ pub struct Kept {
     pub shape: Shape,
     /// All movements, in turn: [`movements_of`].
     pub movements: Vec<KeptMovement>,
-    /// Their dates and notes, in turn: [`extras_of`].
-    pub extras: Vec<Extra>,
     /// All refusals, in turn.
     pub refusals: Vec<KeptRefusal>,
     /// The balance, articles in ascending order.
@@ -342,40 +321,9 @@ pub fn everything_of<S: Alter>(
 ) -> Result<Kept, StockError> {
     Ok(Kept {
         shape,
-        movements: movements_of(alloc, conn)?,
-        extras: extras_of(alloc, conn, shape)?,
+        movements: movements_of(alloc, conn, shape)?,
         refusals: refusals_of(alloc, conn)?,
         balance: balance_of(alloc, conn)?,
         batches: batches_of(alloc, conn, shape)?,
-    })
-}
-
-/// What a stock keeps of an article.
-#[derive(Drop)]
-pub struct History {
-    /// All batches, in turn.
-    pub batches: Vec<Batch>,
-    /// The movements of the article, in turn. The file of a place is the number of the batch.
-    pub movements: Vec<Movement<String>>,
-    /// Their dates and notes, in turn; none if the stock has none.
-    pub extras: Vec<Extra>,
-}
-
-/// Returns all batches, and the movements of an article with their dates and notes.
-///
-/// # Errors
-///
-/// Same as [`batches_of`].
-pub fn history_of<S: Alter>(
-    alloc: Global,
-    conn: &mut Connection<S>,
-    shape: Shape,
-    article: &str,
-) -> Result<History, StockError> {
-    let text = "SELECT date, note FROM movement WHERE article = ?1 ORDER BY movement";
-    Ok(History {
-        batches: batches_of(alloc, conn, shape)?,
-        movements: movements_of_article(alloc, conn, article)?,
-        extras: extras_by(alloc, conn, shape, text, params![article])?,
     })
 }

@@ -11,57 +11,57 @@ pub const VERSION: i64 = 3;
 // The first version whose batches have seals.
 const SEALED: i64 = 2;
 
-// The first version that keeps how its files are written, and whose batches may be counts.
+// The first version whose stocks keep how their files are written, and whose batches may be counts.
 const STYLED: i64 = 3;
 
 // The first version whose movements have dates and notes.
 const DATED: i64 = 3;
 
-// What is known of the stock as a whole: its version, under the name of the program, and how its files are written.
+// What is known of the stock as a whole: the version, under the name of the program, and how the files of the stock are written.
 const META: &str = "CREATE TABLE meta (name TEXT PRIMARY KEY NOT NULL, value ANY NOT NULL) STRICT";
 
-// What was entered at one time.
+// The batches: what was entered at one time.
 const BATCH: &str =
     "CREATE TABLE batch (batch INTEGER PRIMARY KEY, file TEXT NOT NULL, sha256 TEXT NOT NULL, kind TEXT NOT NULL CHECK (kind IN ('start', 'moves', 'undo', 'count')), undoes INTEGER, time TEXT NOT NULL, movements INTEGER NOT NULL CHECK (movements >= 0), refused INTEGER NOT NULL CHECK (refused BETWEEN 0 AND movements), seal TEXT NOT NULL) STRICT";
 
-// All movements, in turn. A date is of the form `2026-02-28`; the kit takes no function in a CHECK.
+// All movements, in turn. A date has the form `2026-02-28`. The CHECK only compares, since the crate `sqlite` takes no function in a CHECK.
 const MOVEMENT: &str =
     "CREATE TABLE movement (movement INTEGER PRIMARY KEY, batch INTEGER NOT NULL, line INTEGER NOT NULL, article TEXT NOT NULL, change INTEGER NOT NULL, date TEXT CHECK (date BETWEEN '0000-01-01' AND '9999-12-31'), note TEXT) STRICT";
 
-// Those that were refused.
+// The movements that were refused, each with how many of its article were there.
 const REFUSAL: &str =
     "CREATE TABLE refusal (movement INTEGER PRIMARY KEY, there INTEGER NOT NULL CHECK (there >= 0)) STRICT";
 
-// The balance: the articles of which there are some.
+// The balance: each article whose number isn't 0.
 const ARTICLE: &str =
     "CREATE TABLE article (article TEXT PRIMARY KEY NOT NULL, number INTEGER NOT NULL CHECK (number > 0)) STRICT";
 
-/// The texts that create the tables.
+/// The statements that create the tables.
 pub static TABLES: [&str; 5] = [META, BATCH, MOVEMENT, REFUSAL, ARTICLE];
 
-/// What holds of all rows of a stock.
+/// What is true of all rows of a stock.
 #[derive(Clone, Copy, PartialEq, Eq, Debug)]
 pub struct Shape {
-    /// How its files are written, unless the arguments of a call say otherwise.
+    /// How the files of the stock are written, unless the arguments of a call say otherwise.
     pub style: Style,
-    /// The version of its tables.
+    /// The version of the tables.
     pub version: i64,
-    /// Whether its batches have seals. Those of version 1 have none.
+    /// Whether batches have seals. In version 1 they have none.
     pub is_sealed: bool,
 }
 
 impl Shape {
-    /// Returns whether its batches may be counts.
+    /// Returns whether batches of the stock may be counts.
     pub fn takes_counts(self) -> bool {
         self.version >= STYLED
     }
 
-    /// Returns whether its movements have dates and notes.
+    /// Returns whether movements of the stock may have dates and notes.
     pub fn is_dated(self) -> bool {
         self.version >= DATED
     }
 
-    /// Returns the shape of a new stock whose files are written like this.
+    /// Returns the shape of a new stock whose files have this style.
     pub fn of_new(style: Style) -> Shape {
         Shape {
             style,
@@ -80,7 +80,7 @@ pub enum Contents {
     Stock(Shape),
 }
 
-/// Returns the name of a delimiter in the table `meta`, which is also one of its names in an option.
+/// Returns the name of a delimiter in the table `meta`. Options take the same name.
 pub fn delimiter_name(delimiter: Delimiter) -> &'static str {
     match delimiter {
         Delimiter::Comma => ",",
@@ -89,7 +89,7 @@ pub fn delimiter_name(delimiter: Delimiter) -> &'static str {
     }
 }
 
-/// Returns the name of a mark in the table `meta`, which is also its name in an option.
+/// Returns the name of a mark in the table `meta`. Options take the same name.
 pub fn mark_name(mark: Mark) -> &'static str {
     match mark {
         Mark::Point => ".",
@@ -120,8 +120,9 @@ fn mark_of(name: &str) -> Result<Mark, StockError> {
 ///
 /// # Errors
 ///
-/// `Foreign` or `Later` for the tables of something else, `Damaged` for a version, a scale, a mark or a delimiter that no stock has, or what
-/// fails.
+/// - `Foreign` if the tables aren't those of a stock, `Later` if they are of a later version;
+/// - `Damaged` if the version, the scale, the mark or the delimiter is one that no stock has;
+/// - else the error of the database.
 pub fn form_of<S: Alter>(conn: &mut Connection<S>) -> Result<Contents, StockError> {
     let tables: i64 = conn
         .query_row("SELECT count(*) FROM sqlite_schema", &[])?
@@ -162,7 +163,8 @@ fn version_of<S: Alter>(conn: &mut Connection<S>) -> Result<i64, StockError> {
     Ok(version)
 }
 
-// Returns how the files of a stock are written. Up to version 2 none keeps that: a comma is between fields, and a point before decimals.
+// Returns how the files of a stock are written. Up to version 2 a stock keeps only the scale: a comma is between fields, and a point before
+// decimals.
 fn style_of<S: Alter>(conn: &mut Connection<S>, version: i64) -> Result<Style, StockError> {
     let scale = match number_of(conn, "scale")? {
         Some(scale) if 0 <= scale && scale <= 9 => scale as u32,
@@ -178,11 +180,12 @@ fn style_of<S: Alter>(conn: &mut Connection<S>, version: i64) -> Result<Style, S
     })
 }
 
-/// Returns the names of the columns of movements that a stock keeps, with commas between them. `None` up to version 2, which keeps none.
+/// Returns the names of the columns of movements that a stock keeps, with commas between them. Returns `None` up to version 2, whose stocks
+/// keep none.
 ///
 /// # Errors
 ///
-/// `Damaged` if a later one keeps none. Else what fails.
+/// `Damaged` if a stock of a later version keeps none. Else the error of the database.
 pub fn columns_of<S: Alter>(
     conn: &mut Connection<S>,
     shape: Shape,
@@ -193,7 +196,7 @@ pub fn columns_of<S: Alter>(
     Ok(Some(text_of(conn, "columns")?))
 }
 
-// Returns the number of this name in the table `meta`.
+// Returns the number of this name in the table `meta`, or `None`.
 fn number_of<S: Alter>(conn: &mut Connection<S>, name: &str) -> Result<Option<i64>, StockError> {
     let rows = conn.query_all("SELECT value FROM meta WHERE name = ?1", params![name])?;
     match rows.first() {

@@ -1,7 +1,9 @@
-//! A batch written into the tables of a stock, in one transaction. The clauses `same_reference` say that the connection is the same one.
-ghost use Rattle.std.specs.Prelude.{◌≡◌, is_ok, IfOk};
+//! The batches of one run, written into the tables of a stock in one transaction. The clauses `same_reference` say that the connection is
+//! the same, and `inside` that nothing is committed yet.
+ghost use Rattle.std.specs.Prelude.{◌≡◌, true, is_ok, OnOk};
 ghost use Rattle.sqlite.specs.Held.{state};
 ghost use Rattle.hashbag_stock.specs.Commits.{IsInside, IsOneCommit};
+ghost use Rattle.hashbag_stock.specs.Extras.{HasAllExtras};
 
 use crate::error::StockError;
 use crate::tables::{TABLES, VERSION, delimiter_name, mark_name};
@@ -18,22 +20,22 @@ use sqlite::{Alter, Connection, Transaction, params};
 /// What one run of a subcommand writes.
 #[derive(Clone, Copy)]
 pub struct NewRows<'a> {
-    /// Whether the stock has seals. A new one has them.
+    /// Whether the stock has seals. A new stock has them.
     pub is_sealed: bool,
-    /// The rows of its batches, in turn.
+    /// The rows of the run's batches, in turn.
     pub batches: &'a [Batch],
-    /// The movements of all batches, in turn, each with what became of it: of each batch as many as its row says.
+    /// The movements of all batches, in turn, each with what became of it: for each batch as many as its row says.
     pub entries: &'a [Entry<String>],
-    /// The dates and notes of the same movements; none if they have none, or if the stock keeps none.
+    /// The dates and notes of the same movements; empty if no movement has one, or if the stock keeps none.
     pub extras: &'a [Extra],
-    /// What becomes of the rows of the balance after all of them.
+    /// The changes of the rows of the balance, after all batches.
     pub changed: &'a [RowChange],
 }
 
-/// What a new stock keeps of the call that makes it.
+/// What a new stock keeps of the call that creates it.
 #[derive(Clone, Copy)]
 pub struct NewStock<'a> {
-    /// How its files are written.
+    /// How the files of the stock are written.
     pub style: Style,
     /// The names of the columns of movements, with commas between them.
     pub columns: &'a str,
@@ -59,7 +61,7 @@ fn run<S: Alter>(
     Ok(())
 }
 
-// Writes a text of this name into the table `meta`.
+// Writes a text into the table `meta`, under this name.
 fn keep<S: Alter>(
     transaction: &mut Transaction<'_, S>,
     name: &str,
@@ -75,7 +77,7 @@ fn keep<S: Alter>(
     )
 }
 
-// Writes what a new stock keeps, but for its scale.
+// Writes what a new stock keeps, except for its scale.
 fn keep_style<S: Alter>(
     transaction: &mut Transaction<'_, S>,
     stock: NewStock<'_>,
@@ -158,7 +160,7 @@ fn write_batch<S: Alter>(
     )
 }
 
-// Writes a movement of the batch of this number, and its date and its note, if it has one of them.
+// Writes a movement of the batch of this number. With `extra`, also writes the date and the note of the movement.
 fn write_movement<S: Alter>(
     transaction: &mut Transaction<'_, S>,
     number: i64,
@@ -185,7 +187,7 @@ fn write_movement<S: Alter>(
     )
 }
 
-// Writes that the movement which was written last was refused.
+// Writes the refusal of the movement that was written last, with how many of the article were there.
 fn write_refusal<S: Alter>(
     transaction: &mut Transaction<'_, S>,
     there: usize,
@@ -202,7 +204,7 @@ fn write_refusal<S: Alter>(
     )
 }
 
-// Writes a movement, and if it was refused, how many were there.
+// Writes a movement, and its refusal if it was refused.
 fn write_entry<S: Alter>(
     transaction: &mut Transaction<'_, S>,
     number: i64,
@@ -219,7 +221,7 @@ fn write_entry<S: Alter>(
     }
 }
 
-// Writes the movements of the batch, each with what became of it, and with its date and its note.
+// Writes the movements of the batch of this number, each with its refusal if it was refused, and with its date and its note.
 fn write_entries<S: Alter>(
     transaction: &mut Transaction<'_, S>,
     number: i64,
@@ -235,7 +237,7 @@ fn write_entries<S: Alter>(
     Ok(())
 }
 
-// Writes what becomes of a row of the balance.
+// Writes a change of a row of the balance.
 fn write_row<S: Alter>(
     transaction: &mut Transaction<'_, S>,
     change: &RowChange,
@@ -260,7 +262,7 @@ fn write_row<S: Alter>(
     }
 }
 
-// Writes what becomes of the rows of the balance.
+// Writes the changes of the rows of the balance.
 fn write_rows<S: Alter>(
     transaction: &mut Transaction<'_, S>,
     changed: &[RowChange],
@@ -308,7 +310,7 @@ fn write_batches<S: Alter>(
     Ok(())
 }
 
-// Writes what one run of a subcommand writes, and first the tables of the stock, if it is new.
+// Creates the tables if the stock is new, and writes the rows of one run of a subcommand.
 fn write_all<S: Alter>(
     transaction: &mut Transaction<'_, S>,
     new_stock: Option<NewStock<'_>>,
@@ -322,13 +324,8 @@ fn write_all<S: Alter>(
     write_rows(transaction, new.changed)
 }
 
-/// Writes the batches of one run, and what becomes of the rows of the balance, in one transaction. With `new_stock` the tables of a stock
-/// are created first, in the same transaction.
-///
-/// # Errors
-///
-/// What fails. Then nothing is written.
-pub fn put_batches<S: Alter>(
+// Writes the batches of one run, and the changes of the rows of the balance, in one transaction, and first the tables of a new stock.
+fn put_rows<S: Alter>(
     conn: &mut Connection<S>,
     new_stock: Option<NewStock<'_>>,
     new: &NewRows<'_>,
@@ -342,4 +339,34 @@ pub fn put_batches<S: Alter>(
     write_all(&mut transaction, new_stock, new)?;
     transaction.commit()?;
     Ok(())
+}
+
+// Returns whether there are dates and notes of all movements, or of none.
+fn has_all_extras(new: &NewRows<'_>) -> bool
+    ensures { result ≡ true → HasAllExtras new.now }
+{
+    new.extras.is_empty() || new.extras.len() == new.entries.len()
+}
+
+/// Writes the batches of one run, and the changes of the rows of the balance, in one transaction. With `new_stock` the tables of a stock
+/// are created first, in the same transaction.
+///
+/// # Errors
+///
+/// Why a statement or the commit fails. `Damaged` if a transaction is open, if a number is past 2^63-1, or if there are dates and notes, but
+/// fewer or more than movements. Then nothing is written.
+pub fn put_batches<S: Alter>(
+    conn: &mut Connection<S>,
+    new_stock: Option<NewStock<'_>>,
+    new: &NewRows<'_>,
+) -> Result<(), StockError>
+    ensures commit { IsOneCommit (state S.Store conn.old) (state S.Store conn.new) (is_ok result) }
+
+    // No movement has gotten the date or the note of another one, because one is missing.
+    ensures extras { OnOk result (HasAllExtras new.now) }
+{
+    if !has_all_extras(new) {
+        return Err(StockError::Damaged("not as many dates and notes as movements"));
+    }
+    put_rows(conn, new_stock, new)
 }

@@ -11,6 +11,7 @@ use hashbag_ledger_lib::listing::{batches_text, history_text};
 use hashbag_ledger_lib::movements::{Change, Entry, Movement, Outcome, Place, Refusal};
 use hashbag_ledger_lib::numbers::{MOST, change_of, number_of, plain_change, signed, size_of};
 use hashbag_ledger_lib::once::{Batch, Kind, batch_of, entered_before, undone_by};
+use hashbag_ledger_lib::pairs::paired;
 use hashbag_ledger_lib::rows::{RowChange, changed_rows};
 use hashbag_ledger_lib::sealing::{Draft, digest_of, sealed_rows, wrong_seal};
 use hashbag_ledger_lib::undoing::{Undo, opposites, take_back};
@@ -445,6 +446,10 @@ fn movements_in(alloc: Global, batches: &[u64]) -> Result<Vec<KeptMovement>, Fai
         movements.push(KeptMovement {
             movement,
             batch: *batch,
+            extra: Extra {
+                date: None,
+                note: None,
+            },
         })?;
         number = number.saturating_add(1);
     }
@@ -599,10 +604,9 @@ fn opposites_have_the_same_dates(rt: HostRuntime) -> Result<(), Fail> {
     let alloc = rt.alloc();
     let movements = movements_of(alloc, &[("a", "in", 5), ("b", "out", 1), ("a", "in", 2)])?;
     let extras = extras_of(alloc, &[("2026-01-01", ""), ("2026-01-02", "x"), ("2026-01-03", "")])?;
-    let turned = opposite_extras(alloc, &movements, &extras)?;
+    let turned = opposite_extras(alloc, &paired(alloc, movements, extras)?)?;
     let wanted = extras_of(alloc, &[("2026-01-02", "x"), ("2026-01-01", ""), ("2026-01-03", "")])?;
     assert!(rt; turned == wanted);
-    assert!(rt; opposite_extras(alloc, &movements, &[])?.is_empty());
     Ok(())
 }
 
@@ -619,8 +623,9 @@ fn a_day_has_a_balance(rt: HostRuntime) -> Result<(), Fail> {
     for day in ["2026-02-01", "2026-01-31", "2026-01-31", "2026-01-01"] {
         days.push(day.to_string(alloc)?)?;
     }
+    let entries = paired(alloc, booked.entries, days)?;
     for (date, b) in [("2026-01-31", Change::Out(2)), ("2026-02-01", Change::In(3))] {
-        let Ok(rows) = balance_at(alloc, FixedState::new(), date, &booked.entries, &days) else {
+        let Ok(rows) = balance_at(alloc, FixedState::new(), date, &entries) else {
             return Err(Fail::from("no balance"));
         };
         assert_eq!(rt; rows.len(), 2);
@@ -659,8 +664,9 @@ fn batches_and_histories_are_written(rt: HostRuntime) -> Result<(), Fail> {
     if let Some(second) = entries.get_mut(1) {
         second.movement.place = Place { file: 5, line: 7 };
     }
+    let entries = paired(alloc, entries, extras)?;
     assert_eq!(rt;
-        String::from_utf8(history_text(alloc, reading, &batches, &entries, &extras)?)?.as_str(),
+        String::from_utf8(history_text(alloc, reading, &batches, &entries)?)?.as_str(),
         "batch;file;line;time;date;change;outcome;number;note\n1;file 1.csv;7;2026-01-02 03:04:05;;2,5;entered;2,5;\n5;file 5.csv;7;2026-01-02 03:04:05;2026-02-28;-3,0;refused;2,5;late\n"
     );
     Ok(())

@@ -5,9 +5,8 @@ use crate::stock::say::{random_state, say};
 use hashbag_ledger_args::job::Job;
 use hashbag_ledger_db::counting::{Counted, count_in};
 use hashbag_ledger_db::failure::Failure;
-use hashbag_shell::input::read_file;
+use hashbag_shell::inputs::{HostInputs, Inputs};
 use hashbag_shell::output::Output;
-use hashbag_shell::progress::Progress;
 use hashbag_shell::status::DONE;
 
 // Returns a file that is named for two things.
@@ -25,9 +24,9 @@ fn conflict<'a>(rt: &HostRuntime, request: &Job<'a>) -> Result<Option<&'a str>, 
 
 // Enters the differences between the stock and what was counted.
 fn counted<'a>(rt: &HostRuntime, request: &Job<'a>) -> Result<Counted, Failure<'a>> {
-    let mut progress = Progress::new(rt, request.reports, &[request.counted]);
-    let bytes = read_file(rt, &mut progress, request.counted);
-    progress.erase(rt);
+    let inputs = HostInputs::new(rt, request.reports, &[request.counted]);
+    let bytes = inputs.read(request.counted);
+    inputs.end();
     let bytes = bytes?;
     let state = random_state(rt)?;
     let (mut conn, shape) = open(rt, request)?;

@@ -4,14 +4,11 @@ ghost use Rattle.std.specs.Prelude.{⊤};
 use crate::outputs::is_same;
 use hashbag_ledger_args::job::Job;
 use hashbag_ledger_db::failure::Failure;
-use hashbag_ledger_db::files::Files;
+use hashbag_ledger_db::files::Databases;
 use hashbag_ledger_db::putting::{failure_of, in_database};
-use hashbag_shell::input::read_file;
-use hashbag_shell::progress::Progress;
 use hashbag_stock::error::StockError;
 use hashbag_stock::tables::{Contents, Shape, form_of};
 use sqlite::{Connection, Error, ErrorCode, File, FileStore};
-use std::cell::Cell;
 use std::io::ErrorKind;
 use std::time::Duration;
 use std::{fs, thread};
@@ -139,34 +136,16 @@ pub fn close(conn: Db) {
     let _ = conn.close();
 }
 
-/// The files of the system.
+/// The databases that the system has.
 #[derive(Drop)]
-pub struct HostFiles<'s> {
+pub struct HostDatabases<'s> {
     /// The system.
     pub rt: &'s HostRuntime,
-    /// What is read in place of each file, if it is typed.
-    pub typed: Option<Vec<u8>>,
-    /// The reports of progress.
-    pub progress: Cell<Progress>,
 }
 
-impl Files<Db> for HostFiles<'_> {
-    // No clause of the system's says what a file has.
-    ghost gives = { λ _ _ _. ⊤ };
-
+impl Databases<Db> for HostDatabases<'_> {
+    // No clause of the system's says what a database has.
     ghost has = { λ _ _ _. ⊤ };
-
-    fn read<'a>(&self, file: &'a str) -> Result<Vec<u8>, Failure<'a>> {
-        match &self.typed {
-            Some(text) => Ok(text.clone()?),
-            None => {
-                let mut progress = self.progress.get();
-                let text = read_file(self.rt, &mut progress, file);
-                self.progress.set(progress);
-                Ok(text?)
-            }
-        }
-    }
 
     fn is_new<'a>(&self, db: &'a str) -> Result<bool, Failure<'a>> {
         is_new(self.rt, db)

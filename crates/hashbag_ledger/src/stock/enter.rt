@@ -1,18 +1,20 @@
 //! Files that are entered into a stock.
+ghost use Rattle.std.specs.Prelude.{◌≡◌};
+
 use crate::outputs::{is_same, write_refusals};
-use crate::stock::database::{HostFiles, ended, is_of_database, open, open_or_make};
+use crate::stock::database::{HostDatabases, ended, is_of_database, open, open_or_make};
 use crate::stock::say::{random_state, say};
 use hashbag_csv::delimiter::Delimiter;
 use hashbag_ledger_args::job::Job;
-use hashbag_ledger_db::entering::{Closed, begin_in, beginning_of, closed_in};
+use hashbag_ledger_db::entering::{Closed, Report, begin_in, beginning_of, closed_in};
 use hashbag_ledger_db::failure::Failure;
 use hashbag_ledger_db::files::enter_named;
 use hashbag_ledger_lib::output::typed_text;
+use hashbag_shell::inputs::{HostInputs, Inputs};
 use hashbag_shell::output::Output;
-use hashbag_shell::progress::Progress;
 use hashbag_shell::status::DONE;
+use hashbag_shell::trouble::Trouble;
 use hashbag_stock::tables::Contents;
-use std::cell::Cell;
 
 // Returns a file that is named for two things.
 fn conflict<'a>(rt: &HostRuntime, request: &Job<'a>) -> Result<Option<&'a str>, Failure<'a>> {
@@ -45,26 +47,21 @@ fn is_input(rt: &HostRuntime, request: &Job<'_>, refused: &str) -> bool {
     request.files.iter().any(|file| is_same(rt, refused, *file))
 }
 
-// Enters files into the stock, all or none. Writes the refusals, and says which batches were entered. `typed` is what each file has, if it
-// is typed.
-fn enter_from<'a>(
-    rt: &HostRuntime,
-    request: &Job<'a>,
-    typed: Option<Vec<u8>>,
-) -> Result<u8, Failure<'a>> {
+// Opens the output of the refusals.
+fn output_of<'a>(rt: &HostRuntime, request: &Job<'a>) -> Result<Output<'a>, Failure<'a>> {
     if let Some(name) = conflict(rt, request)? {
         return Err(Failure::Conflict(name));
     }
-    let state = random_state(rt)?;
-    let output = Output::open(rt, request.refused)?;
-    let progress = Cell::new(Progress::new(rt, request.reports, &request.files));
-    let files = HostFiles {
-        rt,
-        typed,
-        progress,
-    };
-    let entered = enter_named(rt.alloc(), state, &files, request);
-    files.progress.into_inner().erase(rt);
+    Ok(Output::open(rt, request.refused)?)
+}
+
+// Writes the refusals, says which batches were entered, and returns the status.
+fn write<'a>(
+    rt: &HostRuntime,
+    request: &Job<'a>,
+    output: Output<'a>,
+    entered: Result<Report, Failure<'a>>,
+) -> Result<u8, Failure<'a>> {
     match entered {
         Ok(report) => {
             write_refusals(rt, output, report.refusals.as_slice())?;
@@ -84,7 +81,26 @@ fn enter_from<'a>(
 ///
 /// Why nothing is entered.
 pub fn enter<'a>(rt: &HostRuntime, request: &Job<'a>) -> Result<u8, Failure<'a>> {
-    enter_from(rt, request, None)
+    let state = random_state(rt)?;
+    let output = output_of(rt, request)?;
+    let inputs = HostInputs::new(rt, request.reports, &request.files);
+    let entered = enter_named(rt.alloc(), state, &inputs, &HostDatabases { rt }, request);
+    inputs.end();
+    write(rt, request, output, entered)
+}
+
+// A text that is typed in place of each input.
+#[derive(Drop)]
+struct Typed {
+    text: Vec<u8>,
+}
+
+impl Inputs for Typed {
+    ghost gives = { λ typed _ bytes. bytes ≡ typed.text.items };
+
+    fn read<'a>(&self, _file: &'a str) -> Result<Vec<u8>, Trouble<'a>> {
+        Ok(self.text.clone()?)
+    }
 }
 
 /// Enters one movement of the article that is asked for, of the number that is typed, with this sign: its text is entered in place of
@@ -96,7 +112,11 @@ pub fn enter<'a>(rt: &HostRuntime, request: &Job<'a>) -> Result<u8, Failure<'a>>
 pub fn enter_typed<'a>(rt: &HostRuntime, request: &Job<'a>, sign: &str) -> Result<u8, Failure<'a>> {
     let article = request.articles.first().copied().unwrap_or("");
     let text = typed_text(rt.alloc(), Delimiter::Comma, article, sign, request.number)?;
-    enter_from(rt, request, Some(text))
+    let state = random_state(rt)?;
+    let output = output_of(rt, request)?;
+    let inputs = Typed { text };
+    let entered = enter_named(rt.alloc(), state, &inputs, &HostDatabases { rt }, request);
+    write(rt, request, output, entered)
 }
 
 // Begins a new database with what another one leaves to it.

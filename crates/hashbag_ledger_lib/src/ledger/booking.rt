@@ -1,4 +1,4 @@
-//! Movements that are entered into a stock and kept, each with what became of it. Clauses hold whatever list the stock began as.
+//! Movements that are entered into a stock and kept, each with what became of it. Clauses hold for any list that the stock began as.
 ghost use Rattle.std.specs.Prelude.{◌≡◌, ◌≢◌, ◌<◌, ◌≤◌, ◌^◌, ◌-◌, ◌↔◌, ◌++◌, ◌∷◌, [], String, length, IfOk, IfErr, OnOk};
 ghost use Rattle.std.specs.Global.{Global};
 ghost use Rattle.std.specs.String.{string_eq};
@@ -19,10 +19,10 @@ use hashbag_csv::quantities::balance_of;
 use std::alloc::{AllocError, Global};
 use std::hash::BuildHasher;
 
-/// The balance that movements leave, and what became of each of them.
+/// The balance that movements leave, and what became of each movement.
 #[derive(Drop)]
 pub struct Booked<T> {
-    /// Each article of which there are some, once, with how many there are, articles in ascending order.
+    /// Each article with its count, in ascending order of articles.
     pub balance: Vec<(T, usize)>,
     /// The movements, in turn, each with what became of it.
     pub entries: Vec<Entry<T>>,
@@ -53,11 +53,12 @@ fn outcome_of<S: BuildHasher + Drop>(
     }
 }
 
-/// Enters movements, in turn, into a stock, and returns the balance, and what became of each of them.
+/// Enters movements, in turn, into a stock, and returns the balance, and what became of each movement.
 ///
 /// # Errors
 ///
-/// `TooMany` with the place of a movement only if the total would pass the limit of the stock with it. `Memory` if an allocation fails.
+/// `TooMany` with the place of a movement only if the total would pass the limit of the stock with that movement. `Memory` if an allocation
+/// fails.
 ///
 /// # Complexity
 ///
@@ -68,7 +69,7 @@ pub fn book_all<S: BuildHasher + Drop>(
     stock: HashBag<String, S>,
     movements: Vec<Movement<String>>,
 ) -> Result<Booked<String>, LedgerError>
-    // The balance and the entries follow from the list and the movements.
+    // If no movement came to the stock before, the balance and the entries are those of `movements`.
     ensures booked { IfOk result (λ b. BooksFirst stock movements.items b) }
 
     // `TooMany p`: with the movement at `p` the total would pass the limit.
@@ -86,15 +87,15 @@ pub fn book_all<S: BuildHasher + Drop>(
     Ok(Booked { balance, entries })
 }
 
-/// Enters movements, in turn, into the balance that is kept, and returns the new balance, and what became of each movement: the rows that
-/// are to be written.
+/// Enters movements, in turn, into the kept balance, and returns the new balance, and what became of each movement.
 ///
-/// If the balance is what other movements left, the new balance and all refusals are those of all movements in one turn.
+/// If earlier movements left the kept balance, the new balance, and the earlier refusals followed by the new ones, are those of all these
+/// movements in one turn.
 ///
 /// # Errors
 ///
-/// `StartTooMany` exactly if the numbers of the balance are more than [`MOST`] together. `TooMany` with the place of a movement only if
-/// the total would pass [`MOST`] with it. `Memory` if an allocation fails.
+/// `StartTooMany` exactly if the sum of the balance is above [`MOST`]. `TooMany` with the place of a movement only if the total would pass
+/// [`MOST`] with that movement. `Memory` if an allocation fails.
 ///
 /// # Complexity
 ///
@@ -105,7 +106,7 @@ pub fn book_batch<S: BuildHasher + Drop>(
     kept: Vec<(String, usize)>,
     batch: Vec<Movement<String>>,
 ) -> Result<Booked<String>, LedgerError>
-    // It continues from whatever stock and movements left the balance `kept`.
+    // `in_turn` holds for any stock and movements that left the balance `kept`.
     ensures booked { IfOk result (λ b. HasBooked (2 ^ 63 - 1) kept.items batch.items b) }
     ensures in_turn { IfOk result (λ b. ContinuesFrom kept.items batch.items b) }
     ensures too_many { (result ≡ Err LedgerError.StartTooMany) ↔ (2 ^ 63 - 1 < numbers kept.items) }
@@ -139,7 +140,7 @@ pub fn count_refused<T>(entries: &[Entry<T>]) -> usize
     refused
 }
 
-// Returns how many a change asks for.
+// Returns how many a change takes out.
 fn asked_by(change: Change) -> usize
     ensures { result ≡ going change }
 {
@@ -149,7 +150,7 @@ fn asked_by(change: Change) -> usize
     }
 }
 
-// Appends the refusal of a movement, if it was refused.
+// Appends the refusal of an entry, if the movement was refused.
 fn push_refusal<T: Drop>(refusals: &mut Vec<Refusal<T>>, entry: Entry<T>) -> Result<(), AllocError>
     ensures { OnOk result (refusals.new.items ≡ refusals.old.items ++ refusals_in (entry ∷ [])) }
 {
@@ -169,7 +170,7 @@ fn push_refusal<T: Drop>(refusals: &mut Vec<Refusal<T>>, entry: Entry<T>) -> Res
     }
 }
 
-/// Returns the movements that were refused, in turn.
+/// Returns the refusals among these entries, in turn.
 ///
 /// # Errors
 ///

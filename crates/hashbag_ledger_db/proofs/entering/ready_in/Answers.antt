@@ -1,13 +1,13 @@
 use Rattle.hashbag_ledger_args.specs.Readings.{kept_names}
-use Rattle.hashbag_ledger_db.proofs.FormLemmas.{filed_by_form}
+use Rattle.hashbag_ledger_db.proofs.FormLemmas.{filed_by_contents}
 use Rattle.hashbag_ledger_db.proofs.entering.ready_in.Goals as goal
 
 pub returns : goal.returns
 returns g c known = record {
-  is = c.in_ok-before.ensures.form;
+  is = c.in_ok-before.ensures.contents;
   empty = c.in_ok-before.ensures.empty;
   new = c.in_ok-before.ensures.new;
   rising = c.in_ok-before.ensures.rising;
-  all = filed_by_form c.args.request.now c.args.form c.args.inputs.now (kept_names c.in_ok-before.before.columns) c.in_ok-before.before.balance.items c.in_ok-filed.filed c.in_ok-before.ensures.empty
+  all = filed_by_contents c.args.request.now c.args.contents c.args.inputs.now (kept_names c.in_ok-before.before.columns) c.in_ok-before.before.balance.items c.in_ok-filed.filed c.in_ok-before.ensures.empty
       c.in_ok-before.ensures.new (λ e. c.in_ok-filed.ensures.empty e known) c.in_ok-filed.ensures.stock;
 }

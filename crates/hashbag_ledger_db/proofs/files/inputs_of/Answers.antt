@@ -17,7 +17,7 @@ loop-file-preserved g c =
     let is = c.in_ok-push-2.ensures.items in
     let none : Bor (List ℕ) = record { ref_ptr = (0, 0); now = [] } in
     let named_is = c.in_ok-read_input-2.ensures.named ∙ ap (λ (l : List (Bor (List ℕ))). ((get_or l i none).now, false)) c.deref-file-items.ensures.value in
-    let Read = IsRead (g.F.Files.gives c.args.files.now) c.args.request.now in (
+    let Read = IsRead (g.I.Inputs.gives c.args.files.now) c.args.request.now in (
       one_more before _ input _ files i none within c.loop-file.invariant.0 is named_is,
       subst (λ l. All Read l) (sym is) (All-push Read before input c.loop-file.invariant.1 c.in_ok-read_input-2.ensures.read),
     )

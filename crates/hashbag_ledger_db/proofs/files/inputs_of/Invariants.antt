@@ -7,4 +7,4 @@ use Rattle.hashbag_ledger_db.proofs.files.inputs_of.Given as goal
 abbrev pub invariant-loop-file : goal.invariant-loop-file
 invariant-loop-file g l =
     (map named l.inputs.items ≡ map (λ file. (file.now, true)) (option_to_list l.fn.request.from) ++ map (λ file. (file.now, false)) (take l.file-index l.fn.request.files.items))
-    × All (IsRead (g.F.Files.gives l.fn.files) l.fn.request) l.inputs.items
+    × All (IsRead (g.I.Inputs.gives l.fn.files) l.fn.request) l.inputs.items

@@ -1,10 +1,10 @@
-use Rattle.std.proofs.Common.{◌≡◌, ◌++◌, length, map, string_bytes}
+use Rattle.std.proofs.Common.{◌≡◌, ◌++◌, length, map}
 use Rattle.hashbag_ledger_lib.specs.Dated.{counted, moved, named}
 use Rattle.hashbag_ledger_lib.proofs.dated.moved_by.Given as goal
 
 -- the articles so far, and those of the entries that are left, are all
 abbrev pub invariant-entries : goal.invariant-entries
-invariant-entries l = map named l.list.items ++ map (moved l.part) (counted l.date l.left (map string_bytes l.left_days)) ≡ map (moved l.part) (counted l.date l.fn.entries (map string_bytes l.fn.days))
+invariant-entries l = map named l.list.items ++ map (moved l.part) (counted l.date l.left) ≡ map (moved l.part) (counted l.date l.fn.entries)
 
 -- an entry less is left
 abbrev pub decreases-entries : goal.decreases-entries

@@ -1,9 +1,9 @@
-use Rattle.std.proofs.Common.{◌≡◌, ◌∷◌, ◌++◌, [], List, All, true, is_ok, length, map, arith, refl, sym, ◌∙◌, ap, subst}
+use Rattle.std.proofs.Common.{◌≡◌, ◌∷◌, ◌++◌, [], List, All, true, is_ok, length, map, arith, sym, ◌∙◌, ap, subst}
 use Rattle.std.proofs.lemmas.List.{map-append}
 use Rattle.std.proofs.lemmas.List.Elements.{All-push}
 use Rattle.hashbag_csv.specs.Sheets.{left, place, read_last}
 use Rattle.hashbag_ledger_lib.specs.declared.extras.Extra.{Extra}
-use Rattle.hashbag_ledger_lib.specs.Extras.{carried, columns_of, extra_in, HasDate}
+use Rattle.hashbag_ledger_lib.specs.Extras.{carried, columns_of, extra_in, HasNoBadDate}
 use Rattle.hashbag_ledger_lib.proofs.ExtraLemmas.{columns_named, under_header}
 use Rattle.hashbag_ledger_lib.proofs.ReadLemmas.{all_read, one_read}
 use Rattle.hashbag_ledger_lib.proofs.extras.read_extras.Goals as goal
@@ -14,7 +14,7 @@ records-init c =
     let none = sym c.new-extras.ensures.items in
     let columns = columns_of place (columns_named c.in_ok-date.date c.in_ok-note.note) in
     record {
-      dates = subst (λ (l : List Extra). All HasDate l) none (λ k d few. absurd (omega (arith, few)));
+      dates = subst (λ (l : List Extra). All HasNoBadDate l) none (λ k d few. absurd (omega (arith, few)));
       read = under_header c.args.names _ (read_last c.in_ok-sheet.sheet) (left c.in_ok-sheet.sheet) columns c.in_ok-sheet.ensures c.in_ok-date.ensures c.in_ok-note.ensures
           ∙ ap (λ (l : List Extra). map carried l ++ map (extra_in columns) (left c.in_ok-sheet.sheet)) none;
     }
@@ -28,8 +28,8 @@ records-preserved c =
     let (r, next, same) = rw c.in-Some.is at c.in_ok-extra.ensures.read in
     let f = extra_in (columns_of place (columns_named c.in_ok-date.date c.in_ok-note.note)) in
     record {
-      dates = subst (λ (l : List Extra). All HasDate l) (sym noted)
-          (All-push HasDate c.records.extras.items x c.records.invariant.dates (rw c.in-Some.is at c.in_ok-extra.ensures.dates));
+      dates = subst (λ (l : List Extra). All HasNoBadDate l) (sym noted)
+          (All-push HasNoBadDate c.records.extras.items x c.records.invariant.dates (rw c.in-Some.is at c.in_ok-extra.ensures.dates));
       read = one_read f _ (map carried c.records.extras.items) (left c.records.sheet) (left c.next_extra.new.sheet) r (carried x) c.records.invariant.read next same
           ∙ ap (λ l. l ++ map f (left c.next_extra.new.sheet)) (sym (map-append carried c.records.extras.items (x ∷ [])) ∙ ap (map carried) (sym noted));
     }

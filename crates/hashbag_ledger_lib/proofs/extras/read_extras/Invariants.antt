@@ -1,12 +1,12 @@
 use Rattle.std.proofs.Common.{◌≡◌, ◌++◌, All, length, map}
 use Rattle.hashbag_csv.specs.Sheets.{left, place}
-use Rattle.hashbag_ledger_lib.specs.Extras.{carried, columns_of, extra_in, extras_in, HasDate}
+use Rattle.hashbag_ledger_lib.specs.Extras.{carried, columns_of, extra_in, extras_in, HasNoBadDate}
 use Rattle.hashbag_ledger_lib.proofs.extras.read_extras.Given as goal
 
 -- those so far have dates that are dates, and with those of the records that are left they are all of the text
 abbrev pub invariant-records : goal.invariant-records
 invariant-records l = record {
-  dates : All HasDate l.extras.items;
+  dates : All HasNoBadDate l.extras.items;
   read : extras_in l.fn.delimiter (columns_of (λ n. n.now) l.names) l.text ≡ map carried l.extras.items ++ map (extra_in (columns_of place l.columns)) (left l.sheet);
 }
 

@@ -1,22 +1,20 @@
-use Rattle.std.proofs.Common.{◌≡◌, ◌+◌, ◌∷◌, ◌++◌, [], List, String, length, filter, sym, ◌∙◌, ap, arith, rules}
+use Rattle.std.proofs.Common.{◌≡◌, ◌+◌, ◌∷◌, ◌++◌, [], List, length, filter, sym, ◌∙◌, ap, arith, rules}
 use Rattle.std.proofs.lemmas.List.{append_assoc, append-nil, nil_from_length}
 use Rattle.std.proofs.lemmas.List.Elements.{filter-append}
-use Rattle.std.specs.Global.{Global}
 use Rattle.std.specs.Vec.Iter.{into_iter_items, into_iter_len}
-use Rattle.hashbag_ledger_lib.specs.declared.movements.Entry.{Entry}
 use Rattle.hashbag_ledger_lib.specs.Recalls.{is_of}
 use Rattle.hashbag_ledger_lib.proofs.recalling.own_of.Goals as goal
 
 -- none has come
 pub loop-entry-init : goal.loop-entry-init
-loop-entry-init c = record {
+loop-entry-init g c = record {
   long = search rules;
-  whole = ap (λ (l : List (Entry (String Global))). l ++ filter (is_of c.args.batch) (into_iter_items c.into_iter-entry-iterator.result)) c.new-own.ensures.items;
+  whole = ap (λ l. l ++ filter (is_of c.args.batch) (into_iter_items c.into_iter-entry-iterator.result)) c.new-own.ensures.items;
 }
 
 -- one more has
 pub loop-entry-preserved : goal.loop-entry-preserved
-loop-entry-preserved c =
+loop-entry-preserved g c =
     let at = c.loop-entry in
     let e = c.in-Some.entry in
     let own = is_of c.args.batch in
@@ -27,16 +25,16 @@ loop-entry-preserved c =
     let was = at.invariant.long in
     record {
       long = omega arith;
-      whole = ap (λ (l : List (Entry (String Global))). l ++ filter own rest) c.in_ok-push_own.ensures
+      whole = ap (λ l. l ++ filter own rest) c.in_ok-push_own.ensures
           ∙ append_assoc at.own.items (filter own (e ∷ [])) (filter own rest)
-          ∙ ap (λ (l : List (Entry (String Global))). at.own.items ++ l) (sym (filter-append own (e ∷ []) rest))
+          ∙ ap (λ l. at.own.items ++ l) (sym (filter-append own (e ∷ []) rest))
           ∙ (λ i. at.own.items ++ filter own (sym steps i))
           ∙ at.invariant.whole;
     }
 
 -- all have
 pub returns : goal.returns
-returns c =
+returns g c =
     let at = c.loop-entry in
     let own = is_of c.args.batch in
     let all = c.into_iter-entry-iterator.ensures.into_iter_gives.0 in

@@ -16,7 +16,7 @@ loop-movement-preserved g c =
     let was = at.invariant.long in
     record {
       long = omega arith;
-      turned = one_turned c.turn.new.coming_in.items c.turn.new.going_out.items steps at.invariant.turned c.in_ok-turn.ensures.back c.in_ok-turn.ensures.again;
+      turned = one_turned c.turn.new.coming_in.items c.turn.new.going_out.items steps at.invariant.turned c.in_ok-turn.ensures.coming c.in_ok-turn.ensures.going;
     }
 
 -- all have been turned
