@@ -62,7 +62,7 @@ enum hashbag_error {
     HASHBAG_EMPTY = 20,
     /* The handle has a bag of the other kind. */
     HASHBAG_KIND = 21,
-    /* The ends of byte strings aren't ascending, or one is past the last byte. */
+    /* The ends of byte strings aren't ascending, or an end is past the last byte. */
     HASHBAG_ENDS = 22,
     /* The text is longer than the buffer. */
     HASHBAG_SHORT = 23,
@@ -75,50 +75,50 @@ enum hashbag_error {
 /* Frees the bag, and leaves an empty handle. An empty handle stays empty. */
 void hashbag_free(hashbag *handle);
 
-/* Returns the number of occurrences: the sum of all counts. It is 0 for an empty handle. */
+/* Returns the number of occurrences: the sum of all counts. Returns 0 for an empty handle. */
 size_t hashbag_len(hashbag *handle);
 
-/* Returns the number of distinct values. It is 0 for an empty handle. */
+/* Returns the number of distinct values. Returns 0 for an empty handle. */
 size_t hashbag_set_len(hashbag *handle);
 
-/* Returns the limit: the greatest total that the bag may have. It is 0 for an empty handle. */
+/* Returns the limit: the greatest total that the bag may have. Returns 0 for an empty handle. */
 size_t hashbag_limit(hashbag *handle);
 
 /* Sets the limit to `most`, and returns 0. Nothing else changes.
  *
  * Errors:
- * `HASHBAG_BELOW_TOTAL` if `most` is below the total, `HASHBAG_EMPTY` if there is no bag. Then nothing changes. */
+ * `HASHBAG_BELOW_TOTAL` if `most` is below the total; `HASHBAG_EMPTY` if the handle has no bag. Then nothing changes. */
 uint8_t hashbag_set_limit(hashbag *handle, size_t most);
 
-/* Removes all occurrences. The limit, the keys and the memory of the bag stay. */
+/* Removes all occurrences. The bag keeps its limit, its keys and its memory. */
 void hashbag_clear(hashbag *handle);
 
-/* Makes room for `n` values that are absent, and returns 0. Inserting these doesn't allocate then, but for the bytes
- * of byte strings.
+/* Makes room for `n` absent values, and returns 0. Inserting these values then allocates nothing but the bytes of byte
+ * strings.
  *
  * Errors:
- * `HASHBAG_MEMORY` if an allocation fails; `HASHBAG_EMPTY`. Nothing changes then. */
+ * `HASHBAG_MEMORY` if an allocation fails; `HASHBAG_EMPTY` if the handle has no bag. Then nothing changes. */
 uint8_t hashbag_reserve(hashbag *handle, size_t n);
 
-/* Frees memory that the bag doesn't need, and returns 0. If an allocation of less memory would be enough for its
- * values, it moves them there. An empty bag allocates nothing.
+/* Frees memory that the bag doesn't need, and returns 0. If less memory is enough for the values, they are moved into
+ * a new allocation. A bag without values allocates nothing.
  *
  * Errors:
- * `HASHBAG_MEMORY` if an allocation fails; `HASHBAG_EMPTY`. Nothing changes then. */
+ * `HASHBAG_MEMORY` if an allocation fails; `HASHBAG_EMPTY` if the handle has no bag. Then nothing changes. */
 uint8_t hashbag_shrink_to_fit(hashbag *handle);
 
-/* Returns how many distinct values the bag can have before it grows. It is 0 for an empty handle. */
+/* Returns how many distinct values the bag can have before it grows. Returns 0 for an empty handle. */
 size_t hashbag_capacity(hashbag *handle);
 
-/* Puts into `copy` a bag with the same counts, limit and keys, and returns 0. The bag that `copy` had is freed. They
- * must be two handles, not one twice.
+/* Puts a bag with the same counts, limit and keys into `copy`, and returns 0. The bag that `copy` had is freed.
+ * `handle` and `copy` must be different handles.
  *
  * Errors:
- * `HASHBAG_MEMORY` if an allocation fails; `HASHBAG_EMPTY` if `handle` is empty. Nothing changes then. */
+ * `HASHBAG_MEMORY` if an allocation fails; `HASHBAG_EMPTY` if `handle` has no bag. Then nothing changes. */
 uint8_t hashbag_clone(hashbag *handle, hashbag *copy);
 
-/* Returns whether two handles have bags of one kind in which each value occurs equally often, or both are empty. They
- * must be two handles, not one twice. */
+/* Returns whether two handles have bags of one kind in which each value occurs equally often, or both handles are
+ * empty. `a` and `b` must be different handles. */
 bool hashbag_equal(hashbag *a, hashbag *b);
 
 /* ---- two bags of one kind */
@@ -157,75 +157,77 @@ uint8_t hashbag_keep_most(hashbag *into, hashbag *from);
 
 /* ---- bags of numbers */
 
-/* Puts into the handle an empty bag of numbers, whose total is at most `most`, and returns 0. The bag that the handle
- * had is freed.
+/* Puts an empty bag of numbers with the limit `most` into the handle, and returns 0. The bag that the handle had is
+ * freed.
  *
- * Its numbers are hashed under fixed keys, alike in every run. Use `hashbag_numbers_new_keyed` if strangers choose the
- * numbers.
+ * The numbers are hashed under fixed keys, the same in every run. Use `hashbag_numbers_new_keyed` if strangers choose
+ * the numbers.
  *
  * Errors:
  * `HASHBAG_MEMORY` if an allocation fails. Nothing changes then. */
 uint8_t hashbag_numbers_new(hashbag *handle, size_t most);
 
-/* Does the same with two keys of the caller, which are best drawn at random: whoever knows them can find numbers that
- * collide.
+/* Does the same as `hashbag_numbers_new`, with two keys of the caller. Draw the keys at random: whoever knows them can
+ * find numbers that collide.
  *
  * Errors:
  * `HASHBAG_MEMORY` if an allocation fails. Nothing changes then. */
 uint8_t hashbag_numbers_new_keyed(hashbag *handle, size_t most, uint64_t key0, uint64_t key1);
 
-/* Inserts `n` occurrences of a number, writes the count before, and returns 0. With 0 nothing changes.
+/* Inserts `n` occurrences of a number, writes the count before, and returns 0. If `n` is 0, the bag is unchanged.
  *
  * Errors:
  * `HASHBAG_TOO_MANY` if the total would pass the limit; `HASHBAG_MEMORY` if the number is absent, there is no room,
- * and an allocation fails; `HASHBAG_EMPTY`; `HASHBAG_KIND`. Nothing changes then, and nothing is written. */
+ * and an allocation fails; `HASHBAG_EMPTY` if the handle has no bag; `HASHBAG_KIND` if its bag is one of byte strings.
+ * Then nothing changes, and nothing is written. */
 uint8_t hashbag_numbers_insert(hashbag *handle, uint64_t value, size_t n, size_t *before);
 
-/* Returns the count of a number, 0 if it is absent or the handle has no bag of numbers. */
+/* Returns the count of a number, or 0 if the number is absent or the handle has no bag of numbers. */
 size_t hashbag_numbers_contains(hashbag *handle, uint64_t value);
 
-/* Removes `n` occurrences of a number, or all if there are fewer, and returns the count after. It is 0 if the handle
+/* Removes `n` occurrences of a number, or all if there are fewer, and returns the count after. Returns 0 if the handle
  * has no bag of numbers. */
 size_t hashbag_numbers_remove(hashbag *handle, uint64_t value, size_t n);
 
-/* Removes all occurrences of a number, and returns how many there were. It is 0 if the handle has no bag of numbers. */
+/* Removes all occurrences of a number, and returns how many there were. Returns 0 if the handle has no bag of numbers. */
 size_t hashbag_numbers_take_all(hashbag *handle, uint64_t value);
 
-/* Sets the count of a number to `n`, writes the count before, and returns 0. With 0 the number is removed.
+/* Sets the count of a number to `n`, writes the count before, and returns 0. If `n` is 0, the number is removed.
  *
  * Errors:
  * `HASHBAG_TOO_MANY` if the total would pass the limit; `HASHBAG_MEMORY` if the number is absent, there is no room,
- * and an allocation fails; `HASHBAG_EMPTY`; `HASHBAG_KIND`. Nothing changes then, and nothing is written. */
+ * and an allocation fails; `HASHBAG_EMPTY` if the handle has no bag; `HASHBAG_KIND` if its bag is one of byte strings.
+ * Then nothing changes, and nothing is written. */
 uint8_t hashbag_numbers_set_count(hashbag *handle, uint64_t value, size_t n, size_t *before);
 
 /* ---- bags of numbers, many at once */
 
-/* Inserts each of `values_len` numbers once, in turn, until one fails. Writes how many were inserted, and returns 0 if
- * that is all.
+/* Inserts each of `values_len` numbers once, in order, until an insertion fails. Writes how many were inserted, and
+ * returns 0 if all were.
  *
  * Errors:
- * Those of `hashbag_numbers_insert`. The numbers before the one that fails stay in the bag. */
+ * Same as `hashbag_numbers_insert`. Then the numbers before the one that failed have been inserted. */
 uint8_t hashbag_numbers_insert_all(hashbag *handle, const uint64_t *values, size_t values_len, size_t *done);
 
-/* Keeps of each number at most as many as a list says, `most[i]` of `values[i]`, and returns 0. Of a number that is
- * listed twice the first place counts. A number that isn't listed is removed. If the arrays differ in length, the rest
- * of the longer one is ignored.
+/* Keeps at most `most[i]` occurrences of each number `values[i]`, and returns 0. If a number is listed twice, its
+ * first place counts. A number that isn't listed is removed. If the arrays differ in length, the rest of the longer
+ * one is ignored.
  *
  * Errors:
- * `HASHBAG_MEMORY` if an allocation fails, since it makes a bag of the listed numbers; `HASHBAG_EMPTY`;
- * `HASHBAG_KIND`. Nothing changes then. */
+ * `HASHBAG_MEMORY` if the allocation of a bag of the listed numbers fails; `HASHBAG_EMPTY` if the handle has no bag;
+ * `HASHBAG_KIND` if its bag is one of byte strings. Then nothing changes. */
 uint8_t hashbag_numbers_retain(hashbag *handle, const uint64_t *values, size_t values_len, const size_t *most,
                                size_t most_len);
 
-/* Writes distinct numbers and their counts into two arrays, as many as both have places for, and returns how many.
- * With `hashbag_set_len` places in each these are all, in no particular order. It returns 0 if the handle has no bag
- * of numbers. */
+/* Writes distinct numbers and their counts into two arrays, as many as both have places for, in no particular order.
+ * Returns how many were written: all, if each array has `hashbag_set_len` places; 0 if the handle has no bag of
+ * numbers. */
 size_t hashbag_numbers_read(hashbag *handle, uint64_t *values, size_t values_len, size_t *counts, size_t counts_len);
 
-/* Writes each number of two bags once, with its count in the first and in the second, 0 in the bag that lacks it:
- * those of the first bag first. It writes as many as the three arrays have places for, and returns how many. With as
- * many places as both bags together have distinct numbers these are all. They must be two handles, not one twice. It
- * returns 0 if one of them has no bag of numbers. */
+/* Writes each number of two bags once, with its count in the first and in the second bag, 0 in a bag that lacks it.
+ * The numbers of the first bag come first. Returns how many were written: as many as the three arrays have places for;
+ * all, if these are as many as both bags together have distinct numbers; 0 if a handle has no bag of numbers. `a` and
+ * `b` must be different handles. */
 size_t hashbag_numbers_outer_join(hashbag *a, hashbag *b, uint64_t *values, size_t values_len, size_t *firsts,
                                   size_t firsts_len, size_t *seconds, size_t seconds_len);
 

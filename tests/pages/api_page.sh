@@ -35,9 +35,9 @@ Walk
 Join
     difference not_in signed_difference outer_join Difference SignedDifference OuterJoin joins::limited_difference
 Compare
-    eq hashbag_ops::contains_all
+    eq ops::contains_all
 Whole bags
-    hashbag_ops::merge hashbag_ops::keep_most hashbag_ops::take_away hashbag_ops::counts hashbag_ops::laws::merges_commute hashbag_ops::sum
+    ops::merge ops::keep_most ops::take_away ops::counts ops::laws::merges_commute ops::sum
 Room
     capacity room slots reserve finish_carry spare Spare
 Limits
@@ -52,11 +52,11 @@ Runs
 BELOW = ["crates/hashbag_table/src/key.rt", "crates/hashbag_table/src/spare.rt", "crates/hashbag_slots/src/key.rt"]
 
 # The modules that are public: their items are in the table.
-MODULES = {"bag", "entry", "iters", "joins", "json", "script", "combine", "compare", "order", "laws", "third"}
+MODULES = {"bag", "entry", "iters", "joins", "json", "ops", "hashbag_ops", "script", "combine", "compare", "order", "laws", "third"}
 
 INTRO = """# Types and calls
 
-Every public type and call of `hashbag` and `hashbag_ops`, by task. This page is made from the doc comments: after an edit of one,
+Every public type and call of `hashbag`, by task. `ops::sum` is `hashbag::ops::sum`. This page is made from the doc comments: after an edit of one,
 `bash tests/pages/api_page.sh --write` makes it again, and the gate compares the two.
 
 An entry has the signature, the first paragraph of the doc comment, its sections on errors and cost if it has them, and the names of the
@@ -219,7 +219,7 @@ def sources():
     for path in BELOW:
         yield path, "", "", exported("crates/hashbag/src/lib.rt")
     for module in ("combine", "third", "compare", "order", "laws"):
-        prefix = "hashbag_ops::laws::" if module == "laws" else "hashbag_ops::"
+        prefix = "ops::laws::" if module == "laws" else "ops::"
         yield f"crates/hashbag_ops/src/{module}.rt", prefix, prefix, None
 
 
@@ -270,7 +270,7 @@ def link_to(name, text):
 def linked(text, names):
     def link(match):
         name = match.group(1).removeprefix("HashBag::")
-        for full in (name, f"script::{name}", f"hashbag_ops::{name}", f"hashbag_ops::laws::{name}"):
+        for full in (name, f"script::{name}", f"ops::{name}", f"ops::laws::{name}"):
             if full in names:
                 return link_to(full, match.group(1))
         return f"`{match.group(1)}`"

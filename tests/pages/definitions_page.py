@@ -15,7 +15,7 @@ PAGE_OF = """\
 
 Made by `python3 tests/pages/definitions_page.py --write` from comments: the words on which most promises rest, the lemmas that callers need, and proved callers.
 `eq` is `==` of the values, v and x are values, n is a number, X and Y are lists of occurrences. The file has each definition, and `specs/*Examples.antt`
-compute words on examples. Import a word as `Rattle.hashbag.specs.FILE`, and a lemma as `Rattle.hashbag.proofs.FILE`; those of `hashbag_ops` have that
+compute words on examples. Import a word as `Rattle.hashbag.specs.FILE`, and a lemma as `Rattle.hashbag.proofs.FILE`; a lemma of `hashbag_ops` has that
 name in the place of `hashbag`. Any other word: `grep -rnE -B5 '(record|pub) WORD ' crates/*/specs`. For a short word it also finds fields of that
 name. Names such as `IsFirstPlace` and `is_default` come from std. `CALLING.md` says how a caller is proved.
 

@@ -1,6 +1,7 @@
-//! Calls on a bag of either kind. In clauses `held` is the bag of a handle. `IfNumbers` says what holds if it is one of numbers, and
-//! `HasNumbers` says also that it is one. `IfTexts` and `HasTexts` say the same of byte strings, `NumbersTo` and `TextsTo` what a bag becomes.
-//! The results 1, 2 and 9 are numbers of a `BagError`: of `Memory`, `TooMany` and `BelowTotal`.
+//! Calls on a bag of either kind. In clauses `held` is the bag of a handle, if it has one. `IfNumbers`: if this is a bag of numbers, the
+//! fact holds of it. `HasNumbers`: this is a bag of numbers, and the fact holds of it. `IfTexts` and `HasTexts` say the same of byte
+//! strings. `NumbersTo` and `TextsTo` say what a bag becomes. The results 1, 2 and 9 are the numbers of a `BagError`: `Memory`, `TooMany`
+//! and `BelowTotal`.
 ghost use Rattle.std.specs.Prelude.{◌≡◌, ◌≢◌, ◌+◌, ◌<◌, ◌≤◌, ◌↔◌, ◌⊎◌, false, [], length, nat_eq, None, Some, IfOk, IsTrue};
 ghost use Rattle.std.specs.Str.{bytes_eq};
 ghost use Rattle.hashbag_table.specs.Tables.{room};
@@ -21,7 +22,7 @@ pub const EMPTY: u8 = 20;
 /// The handle has a bag of the other kind.
 pub const KIND: u8 = 21;
 
-/// The ends of byte strings aren't ascending, or one is past the last byte.
+/// The ends of byte strings aren't ascending, or an end is past the last byte.
 pub const ENDS: u8 = 22;
 
 /// The text is longer than the buffer.
@@ -48,7 +49,7 @@ fn len(held: &Held) -> usize
     }
 }
 
-/// Returns the number of occurrences: the sum of all counts. It is 0 for an empty handle.
+/// Returns the number of occurrences: the sum of all counts. Returns 0 for an empty handle.
 #[unsafe(no_mangle)]
 pub extern "C" fn hashbag_len(alloc: Global, handle: &mut Handle) -> usize
     ensures numbers { IfNumbers handle.old.held (λ bag. result ≡ length bag.items) }
@@ -74,7 +75,7 @@ fn set_len(held: &Held) -> usize
     }
 }
 
-/// Returns the number of distinct values. It is 0 for an empty handle.
+/// Returns the number of distinct values. Returns 0 for an empty handle.
 #[unsafe(no_mangle)]
 pub extern "C" fn hashbag_set_len(alloc: Global, handle: &mut Handle) -> usize
     ensures numbers { IfNumbers handle.old.held (λ bag. result ≡ distinct_count nat_eq bag.items) }
@@ -100,7 +101,7 @@ fn limit(held: &Held) -> usize
     }
 }
 
-/// Returns the limit: the greatest total that the bag may have. It is 0 for an empty handle.
+/// Returns the limit: the greatest total that the bag may have. Returns 0 for an empty handle.
 #[unsafe(no_mangle)]
 pub extern "C" fn hashbag_limit(alloc: Global, handle: &mut Handle) -> usize
     ensures numbers { IfNumbers handle.old.held (λ bag. result ≡ bag.most) }
@@ -138,7 +139,7 @@ fn set_limit(held: &mut Held, most: usize) -> u8
 ///
 /// # Errors
 ///
-/// `HASHBAG_BELOW_TOTAL` if `most` is below the total, `HASHBAG_EMPTY` if there is no bag. Then nothing changes.
+/// `HASHBAG_BELOW_TOTAL` if `most` is below the total; `HASHBAG_EMPTY` if the handle has no bag. Then nothing changes.
 #[unsafe(no_mangle)]
 pub extern "C" fn hashbag_set_limit(alloc: Global, handle: &mut Handle, most: usize) -> u8
     ensures numbers { result ≡ 0 → NumbersTo handle.old.held handle.new.held (λ bag after. after ≡ limited most bag) }
@@ -166,7 +167,7 @@ fn clear(held: &mut Held)
     }
 }
 
-/// Removes all occurrences. The limit, the keys and the memory of the bag stay.
+/// Removes all occurrences. The bag keeps its limit, its keys and its memory.
 #[unsafe(no_mangle)]
 pub extern "C" fn hashbag_clear(alloc: Global, handle: &mut Handle)
     ensures numbers { NumbersTo handle.old.held handle.new.held IsCleared }
@@ -200,11 +201,11 @@ fn reserve(held: &mut Held, n: usize) -> u8
     }
 }
 
-/// Makes room for `n` values that are absent, and returns 0. Inserting these doesn't allocate then, but for the bytes of byte strings.
+/// Makes room for `n` absent values, and returns 0. Inserting these values then allocates nothing but the bytes of byte strings.
 ///
 /// # Errors
 ///
-/// `HASHBAG_MEMORY` if an allocation fails; `HASHBAG_EMPTY`. Nothing changes then.
+/// `HASHBAG_MEMORY` if an allocation fails; `HASHBAG_EMPTY` if the handle has no bag. Then nothing changes.
 #[unsafe(no_mangle)]
 pub extern "C" fn hashbag_reserve(alloc: Global, handle: &mut Handle, n: usize) -> u8
     ensures numbers { NumbersTo handle.old.held handle.new.held (λ bag after. IsBagOf nat_eq bag bag.items after) }
@@ -245,12 +246,12 @@ fn shrink_to_fit(held: &mut Held) -> u8
     }
 }
 
-/// Frees memory that the bag doesn't need, and returns 0. If an allocation of less memory would be enough for its values, it moves them
-/// there. An empty bag allocates nothing.
+/// Frees memory that the bag doesn't need, and returns 0. If less memory is enough for the values, they are moved into a new allocation. A
+/// bag without values allocates nothing.
 ///
 /// # Errors
 ///
-/// `HASHBAG_MEMORY` if an allocation fails; `HASHBAG_EMPTY`. Nothing changes then.
+/// `HASHBAG_MEMORY` if an allocation fails; `HASHBAG_EMPTY` if the handle has no bag. Then nothing changes.
 #[unsafe(no_mangle)]
 pub extern "C" fn hashbag_shrink_to_fit(alloc: Global, handle: &mut Handle) -> u8
     ensures numbers { NumbersTo handle.old.held handle.new.held (λ bag after. IsBagOf nat_eq bag bag.items after) }
@@ -281,7 +282,7 @@ fn capacity(held: &Held) -> usize
     }
 }
 
-/// Returns how many distinct values the bag can have before it grows. It is 0 for an empty handle.
+/// Returns how many distinct values the bag can have before it grows. Returns 0 for an empty handle.
 #[unsafe(no_mangle)]
 pub extern "C" fn hashbag_capacity(alloc: Global, handle: &mut Handle) -> usize
     ensures numbers { IfNumbers handle.old.held (λ bag. result ≡ distinct_count nat_eq bag.items + room bag.tables) }
@@ -307,7 +308,7 @@ fn copied(held: &Held) -> Result<Held, BagError>
     }
 }
 
-// Puts a copy of what a handle has into another handle. Returns 0, or 1 if an allocation fails.
+// Puts a copy of a bag into a handle. Returns 0, or 1 if an allocation fails.
 fn put_copy(alloc: Global, held: &Held, copy: &mut Handle) -> u8
     ensures numbers { result ≡ 0 → NumbersTo (Some held.now) copy.new.held (IsCopy nat_eq) }
     ensures texts { result ≡ 0 → TextsTo (Some held.now) copy.new.held (IsCopy bytes_eq) }
@@ -326,12 +327,12 @@ fn put_copy(alloc: Global, held: &Held, copy: &mut Handle) -> u8
     }
 }
 
-/// Puts into `copy` a bag with the same counts, limit and keys, and returns 0. The bag that `copy` had is freed. They must be two handles,
-/// not one twice.
+/// Puts a bag with the same counts, limit and keys into `copy`, and returns 0. The bag that `copy` had is freed. `handle` and `copy` must
+/// be different handles.
 ///
 /// # Errors
 ///
-/// `HASHBAG_MEMORY` if an allocation fails; `HASHBAG_EMPTY` if `handle` is empty. Nothing changes then.
+/// `HASHBAG_MEMORY` if an allocation fails; `HASHBAG_EMPTY` if `handle` has no bag. Then nothing changes.
 #[unsafe(no_mangle)]
 pub extern "C" fn hashbag_clone(alloc: Global, handle: &mut Handle, copy: &mut Handle) -> u8
     ensures numbers { result ≡ 0 → NumbersTo handle.old.held copy.new.held (IsCopy nat_eq) }
@@ -367,8 +368,8 @@ fn equal(a: &Held, b: &Held) -> bool
     }
 }
 
-/// Returns whether two handles have bags of one kind in which each value occurs equally often, or both are empty. They must be two
-/// handles, not one twice.
+/// Returns whether two handles have bags of one kind in which each value occurs equally often, or both handles are empty. `a` and `b` must
+/// be different handles.
 #[unsafe(no_mangle)]
 pub extern "C" fn hashbag_equal(alloc: Global, a: &mut Handle, b: &mut Handle) -> bool
     ensures numbers { BothNumbers a.old.held b.old.held (λ x y. result ≡ bag_eq nat_eq x y) }

@@ -1,4 +1,4 @@
-//! Calls on a bag of numbers that take or give many at once.
+//! Calls on a bag of numbers, each of which is given or returns many of them at once.
 ghost use Rattle.std.specs.Prelude.{◌≡◌, ◌≢◌, ◌+◌, ◌≤◌, ℕ, length, take, map, min, nat_eq, None, Some, IfOk, OnErr, OnOk};
 ghost use Rattle.hashbag_core.specs.Occurrences.{count};
 ghost use Rattle.hashbag_c.specs.Calls.{BothNumbers, IfNumbers, IfTexts, NumbersTo};
@@ -13,7 +13,7 @@ use crate::state::State;
 use hashbag_core::{BagError, HashBag, OuterJoin, SetIter};
 use std::alloc::Global;
 
-// Inserts each value once, in turn, until one fails, and counts how many were inserted.
+// Inserts each value once, in order, until an insertion fails. Writes how many were inserted into `done`.
 fn insert_each(
     bag: &mut HashBag<u64, State>,
     values: &[u64],
@@ -51,11 +51,11 @@ fn insert_all(held: &mut Held, values: &[u64], done: &mut usize) -> u8
     }
 }
 
-/// Inserts each of `values_len` numbers once, in turn, until one fails. Writes how many were inserted, and returns 0 if that is all.
+/// Inserts each of `values_len` numbers once, in order, until an insertion fails. Writes how many were inserted, and returns 0 if all were.
 ///
 /// # Errors
 ///
-/// Those of `hashbag_numbers_insert`. The numbers before the one that fails stay in the bag.
+/// Same as `hashbag_numbers_insert`. Then the numbers before the one that failed have been inserted.
 #[unsafe(no_mangle)]
 pub extern "C" fn hashbag_numbers_insert_all(
     alloc: Global,
@@ -79,7 +79,7 @@ pub extern "C" fn hashbag_numbers_insert_all(
     code
 }
 
-// Returns a bag that has of each number as many as `bag` and the list allow.
+// Returns a bag that has each number as often as `bag`, but at most as often as the list says.
 fn allowed(
     alloc: Global,
     bag: &HashBag<u64, State>,
@@ -95,7 +95,7 @@ fn allowed(
     Ok(made)
 }
 
-// Keeps of each number at most as many as the list says.
+// Keeps at most `most[i]` occurrences of each number `values[i]`, and none of a number that isn't listed.
 fn keep_listed(
     alloc: Global,
     bag: &mut HashBag<u64, State>,
@@ -125,13 +125,13 @@ fn retain(alloc: Global, held: &mut Held, values: &[u64], most: &[usize]) -> u8
     }
 }
 
-/// Keeps of each number at most as many as a list says, `most[i]` of `values[i]`, and returns 0. Of a number that is listed twice the first
-/// place counts. A number that isn't listed is removed. If the arrays differ in length, the rest of the longer one is ignored.
+/// Keeps at most `most[i]` occurrences of each number `values[i]`, and returns 0. If a number is listed twice, its first place counts. A
+/// number that isn't listed is removed. If the arrays differ in length, the rest of the longer one is ignored.
 ///
 /// # Errors
 ///
-/// `HASHBAG_MEMORY` if an allocation fails, since it makes a bag of the listed numbers; `HASHBAG_EMPTY`; `HASHBAG_KIND`. Nothing changes
-/// then.
+/// `HASHBAG_MEMORY` if the allocation of a bag of the listed numbers fails; `HASHBAG_EMPTY` if the handle has no bag; `HASHBAG_KIND` if its
+/// bag is one of byte strings. Then nothing changes.
 #[unsafe(no_mangle)]
 pub extern "C" fn hashbag_numbers_retain(
     alloc: Global,
@@ -153,7 +153,7 @@ pub extern "C" fn hashbag_numbers_retain(
     code
 }
 
-// Writes the first pairs of a walk, as many as there is room for, and returns how many.
+// Writes the first pairs of a walk, as many as both slices have places for, and returns how many.
 fn write_pairs(mut walk: SetIter<'_, u64>, values: &mut [u64], counts: &mut [usize]) -> usize
     ensures written { result ≡ min (length walk.entry) (min (length values.new) (length counts.new)) }
     ensures values { take result values.new ≡ map (λ e. e.0) (take result walk.entry) }
@@ -182,8 +182,8 @@ fn read(held: &Held, values: &mut [u64], counts: &mut [usize]) -> usize
     }
 }
 
-/// Writes distinct numbers and their counts into two arrays, as many as both have places for, and returns how many. With
-/// `hashbag_set_len` places in each these are all, in no particular order. It returns 0 if the handle has no bag of numbers.
+/// Writes distinct numbers and their counts into two arrays, as many as both have places for, in no particular order. Returns how many were
+/// written: all, if each array has `hashbag_set_len` places; 0 if the handle has no bag of numbers.
 #[unsafe(no_mangle)]
 pub extern "C" fn hashbag_numbers_read(
     alloc: Global,
@@ -204,7 +204,7 @@ pub extern "C" fn hashbag_numbers_read(
     n
 }
 
-// Writes the first items of a join, as many as there is room for, and returns how many.
+// Writes the first items of a join, as many as the three slices have places for, and returns how many.
 fn write_joined(
     mut walk: OuterJoin<'_, u64, State, State>,
     values: &mut [u64],
@@ -250,9 +250,9 @@ fn outer_join(
     }
 }
 
-/// Writes each number of two bags once, with its count in the first and in the second, 0 in the bag that lacks it: those of the first bag
-/// first. It writes as many as the three arrays have places for, and returns how many. With as many places as both bags together have distinct
-/// numbers these are all. They must be two handles, not one twice. It returns 0 if one of them has no bag of numbers.
+/// Writes each number of two bags once, with its count in the first and in the second bag, 0 in a bag that lacks it. The numbers of the
+/// first bag come first. Returns how many were written: as many as the three arrays have places for; all, if these are as many as both bags
+/// together have distinct numbers; 0 if a handle has no bag of numbers. `a` and `b` must be different handles.
 #[unsafe(no_mangle)]
 pub extern "C" fn hashbag_numbers_outer_join(
     alloc: Global,

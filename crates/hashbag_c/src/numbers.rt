@@ -1,5 +1,5 @@
-//! Calls on a bag of numbers. In clauses `held` is the bag of a handle. `IfNumbers` says what holds if it is one of numbers, and
-//! `HasNumbers` also that it is.
+//! Calls on a bag of numbers. In clauses `held` is the bag of a handle, if it has one. `IfNumbers`: if this is a bag of numbers, the fact
+//! holds of it. `HasNumbers`: this is a bag of numbers, and the fact holds of it.
 ghost use Rattle.std.specs.Prelude.{◌≡◌, ◌≢◌, ◌+◌, ◌-◌, ◌<◌, ◌≤◌, ◌↔◌, ◌⊎◌, [], length, nat_eq, None, Some};
 ghost use Rattle.hashbag_table.specs.Tables.{room};
 ghost use Rattle.hashbag_core.specs.Bag.{IsBagOf};
@@ -31,9 +31,9 @@ fn fill(alloc: Global, handle: &mut Handle, state: State, most: usize) -> u8
     }
 }
 
-/// Puts into the handle an empty bag of numbers, whose total is at most `most`, and returns 0. The bag that the handle had is freed.
+/// Puts an empty bag of numbers with the limit `most` into the handle, and returns 0. The bag that the handle had is freed.
 ///
-/// Its numbers are hashed under fixed keys, alike in every run. Use `hashbag_numbers_new_keyed` if strangers choose the numbers.
+/// The numbers are hashed under fixed keys, the same in every run. Use `hashbag_numbers_new_keyed` if strangers choose the numbers.
 ///
 /// # Errors
 ///
@@ -47,7 +47,8 @@ pub extern "C" fn hashbag_numbers_new(alloc: Global, handle: &mut Handle, most: 
     fill(alloc, handle, State::fixed(), most)
 }
 
-/// Does the same with two keys of the caller, which are best drawn at random: whoever knows them can find numbers that collide.
+/// Does the same as `hashbag_numbers_new`, with two keys of the caller. Draw the keys at random: whoever knows them can find numbers that
+/// collide.
 ///
 /// # Errors
 ///
@@ -89,12 +90,13 @@ fn insert(held: &mut Held, value: u64, n: usize, before: &mut usize) -> u8
     }
 }
 
-/// Inserts `n` occurrences of a number, writes the count before, and returns 0. With 0 nothing changes.
+/// Inserts `n` occurrences of a number, writes the count before, and returns 0. If `n` is 0, the bag is unchanged.
 ///
 /// # Errors
 ///
 /// `HASHBAG_TOO_MANY` if the total would pass the limit; `HASHBAG_MEMORY` if the number is absent, there is no room, and an allocation
-/// fails; `HASHBAG_EMPTY`; `HASHBAG_KIND`. Nothing changes then, and nothing is written.
+/// fails; `HASHBAG_EMPTY` if the handle has no bag; `HASHBAG_KIND` if its bag is one of byte strings. Then nothing changes, and nothing is
+/// written.
 #[unsafe(no_mangle)]
 pub extern "C" fn hashbag_numbers_insert(
     alloc: Global,
@@ -131,7 +133,7 @@ fn contains(held: &Held, value: u64) -> usize
     }
 }
 
-/// Returns the count of a number, 0 if it is absent or the handle has no bag of numbers.
+/// Returns the count of a number, or 0 if the number is absent or the handle has no bag of numbers.
 #[unsafe(no_mangle)]
 pub extern "C" fn hashbag_numbers_contains(alloc: Global, handle: &mut Handle, value: u64) -> usize
     ensures count { IfNumbers handle.old.held (λ bag. result ≡ count nat_eq value bag.items) }
@@ -159,7 +161,7 @@ fn remove(held: &mut Held, value: u64, n: usize) -> usize
     }
 }
 
-/// Removes `n` occurrences of a number, or all if there are fewer, and returns the count after. It is 0 if the handle has no bag of
+/// Removes `n` occurrences of a number, or all if there are fewer, and returns the count after. Returns 0 if the handle has no bag of
 /// numbers.
 #[unsafe(no_mangle)]
 pub extern "C" fn hashbag_numbers_remove(
@@ -206,7 +208,7 @@ fn take_all(held: &mut Held, value: u64) -> usize
     }
 }
 
-/// Removes all occurrences of a number, and returns how many there were. It is 0 if the handle has no bag of numbers.
+/// Removes all occurrences of a number, and returns how many there were. Returns 0 if the handle has no bag of numbers.
 #[unsafe(no_mangle)]
 pub extern "C" fn hashbag_numbers_take_all(alloc: Global, handle: &mut Handle, value: u64) -> usize
     ensures before { IfNumbers handle.old.held (λ bag. result ≡ count nat_eq value bag.items) }
@@ -243,12 +245,13 @@ fn set_count(held: &mut Held, value: u64, n: usize, before: &mut usize) -> u8
     }
 }
 
-/// Sets the count of a number to `n`, writes the count before, and returns 0. With 0 the number is removed.
+/// Sets the count of a number to `n`, writes the count before, and returns 0. If `n` is 0, the number is removed.
 ///
 /// # Errors
 ///
 /// `HASHBAG_TOO_MANY` if the total would pass the limit; `HASHBAG_MEMORY` if the number is absent, there is no room, and an allocation
-/// fails; `HASHBAG_EMPTY`; `HASHBAG_KIND`. Nothing changes then, and nothing is written.
+/// fails; `HASHBAG_EMPTY` if the handle has no bag; `HASHBAG_KIND` if its bag is one of byte strings. Then nothing changes, and nothing is
+/// written.
 #[unsafe(no_mangle)]
 pub extern "C" fn hashbag_numbers_set_count(
     alloc: Global,

@@ -27,7 +27,7 @@ size_back Large = refl
 same_size : (x y : Size) → Some x ≡ Some y → x ≡ y
 same_size x y e = cc
 
--- sizes with one word are one
+-- sizes with the same word are equal
 pub size_one : (x y : Size) → size_text x ≡ size_text y → x ≡ y
 size_one x y e = same_size x y (sym (size_back x) ∙ ap size_of e ∙ size_back y)
 
@@ -37,6 +37,6 @@ found_by t false true l p q r e = (Medium, sym ((bytes_eq-Decides t (codes "medi
 found_by t false false true p q r e = (Large, sym ((bytes_eq-Decides t (codes "large")).0 r))
 found_by t false false false p q r e = absurd (cc)
 
--- the word of a size is that of one
+-- if a text is the word of a size, here is the size
 pub size_found : (t : List ℕ) → is_size t ≡ true → (x : Size) × (size_text x ≡ t)
 size_found t e = found_by t _ _ _ refl refl refl e

@@ -8,10 +8,10 @@ use Rattle.hashbag.specs.Occurrences.{count}
 abbrev pub count_together : {T S S2 : Type 0} → (T → T → Bool) → T → Bag T S → Bag T S2 → ℕ
 count_together eq v a b = count eq v a.items + count eq v b.items
 
--- in the slots the count of a value is less by n, or 0
+-- in the slots the count of v is less by n, or 0 if it was below n
 abbrev pub LowersCount : {T S : Type 0} → (T → T → Bool) → T → ℕ → Bag T S → Bag T S → Type 0
 LowersCount eq v n old new = Recounts eq v (count eq v old.items - n) old.tables new.tables
 
--- a reply with n, and then one with one more
+-- a reply with n, and then a reply with n + 1
 abbrev pub n_then_one_more : {R : Type 0} → (ℕ → R) → ℕ → List R
 n_then_one_more reply n = reply n ∷ reply (n + 1) ∷ []

@@ -1,7 +1,7 @@
-//! Callers to copy: two deliveries that are matched. A join is used up by a `for`, by a `fold`, or read for its first item alone.
+//! Callers to copy: two deliveries that are matched. A `for` or a `fold` uses up a join, or only the first item of a join is read.
 //!
-//! The two bags are taken by reference. A function that owns both, under states that are type parameters, lends them to one like these: it
-//! can't pass a join of its own two bags on by value.
+//! The bags are taken by reference. A function that owns two bags, whose hash states are type parameters, lends them to a function like
+//! these: it can't pass a join of its own bags on by value.
 ghost use Rattle.std.specs.Prelude.{◌≤◌, ◌↔◌, IsTrue};
 ghost use Rattle.hashbag.specs.Occurrences.{count};
 ghost use Rattle.hashbag_callers.specs.Deliveries.{IsGreatestSurplus};
@@ -9,7 +9,7 @@ ghost use Rattle.hashbag_callers.specs.Deliveries.{IsGreatestSurplus};
 use hashbag::HashBag;
 use std::hash::{BuildHasher, Hash};
 
-/// Returns whether everything that was ordered arrived, and as often.
+/// Returns whether each ordered value was delivered at least as often as it was ordered.
 pub fn is_complete<T: Eq + Hash + Drop, S: BuildHasher + Drop, S2: BuildHasher + Drop>(
     ordered: &HashBag<T, S>,
     delivered: &HashBag<T, S2>,
@@ -19,7 +19,7 @@ pub fn is_complete<T: Eq + Hash + Drop, S: BuildHasher + Drop, S2: BuildHasher +
     ordered.difference(delivered).next().is_none()
 }
 
-/// Returns the greatest surplus of any article, by a loop over the difference.
+/// Returns how many more of any one article were delivered than ordered, at most, by a loop over the difference.
 pub fn greatest_surplus<T: Eq + Hash + Drop, S: BuildHasher + Drop, S2: BuildHasher + Drop>(
     delivered: &HashBag<T, S>,
     ordered: &HashBag<T, S2>,
@@ -33,7 +33,7 @@ pub fn greatest_surplus<T: Eq + Hash + Drop, S: BuildHasher + Drop, S2: BuildHas
     greatest
 }
 
-/// The same by a fold.
+/// Returns the same as [`greatest_surplus`], by a fold over the difference.
 pub fn greatest_surplus_by_fold<T: Eq + Hash + Drop, S: BuildHasher + Drop, S2: BuildHasher + Drop>(
     delivered: &HashBag<T, S>,
     ordered: &HashBag<T, S2>,

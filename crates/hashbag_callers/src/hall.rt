@@ -5,14 +5,14 @@ ghost use Rattle.hashbag.specs.Occurrences.{count};
 
 use hashbag::{BagError, HashBag};
 
-/// A hall, and how many guests of each group are in it. The limit of the bag is how many guests it holds.
+/// A hall, and how many guests of each group are in it. The limit of the bag is the capacity of the hall.
 #[derive(Drop)]
 pub struct Hall {
     pub guests: HashBag<u64>,
 }
 
 impl Hall {
-    /// Lets `n` guests of a group in. If it fails, none of them enters.
+    /// Lets `n` guests of a group in. After an error none of them has entered.
     pub fn enter(&mut self, group: u64, n: usize) -> Result<(), BagError>
         ensures within { length self.new.guests.items ≤ self.old.guests.most }
         ensures capacity { self.new.guests.most ≡ self.old.guests.most }
@@ -20,17 +20,19 @@ impl Hall {
         ensures too_many { (result ≡ Err BagError.TooMany) ↔ (self.old.guests.most < length self.old.guests.items + n) }
         ensures err { OnErr result (self.new.guests ≡ self.old.guests) }
     {
-        // By the contract of `limit`, the total is within it.
+        // The contract of `limit` says that the total is within the limit.
         let _limit = self.guests.limit();
         self.guests.insert_many(group, n)?;
         Ok(())
     }
 
-    /// Lets a guest of a group out, and returns whether there was one.
+    /// Lets a guest of a group out, and returns whether a guest of the group was there.
     pub fn leave(&mut self, group: u64) -> bool
         ensures within { length self.new.guests.items ≤ self.old.guests.most }
         ensures capacity { self.new.guests.most ≡ self.old.guests.most }
         ensures there { IsTrue result ↔ (0 < count nat_eq group self.old.guests.items) }
+
+        // The hall has one guest fewer. No clause says which guest left.
         ensures left { OnTrue result (length self.new.guests.items + 1 ≡ length self.old.guests.items) }
         ensures nobody { OnFalse result (self.new.guests ≡ self.old.guests) }
     {

@@ -8,8 +8,8 @@ use serde_json::Value;
 use std::alloc::Global;
 use std::hash::{BuildHasher, Hash};
 
-/// Writes a bag as a tree and reads that back. Only an allocation can fail, and the bag that is read has the counts and the limit of the
-/// first.
+/// Writes a bag as a tree, and returns the bag that is read from the tree. Only an allocation can fail. The returned bag has the counts and
+/// the limit of the given one.
 pub fn read_again<
     T: JsonItem + Ord + Hash + Drop,
     S: BuildHasher + Drop,
@@ -25,7 +25,7 @@ pub fn read_again<
     }
 }
 
-/// Returns the trees of two bags: they are the same exactly if the bags are equal and have the same limit.
+/// Returns the trees of two bags. The trees are the same exactly if the bags are equal and have the same limit.
 pub fn both_trees<T: JsonItem + Ord + Hash + Drop, S: BuildHasher + Drop>(
     alloc: Global,
     a: &HashBag<T, S>,
@@ -34,7 +34,7 @@ pub fn both_trees<T: JsonItem + Ord + Hash + Drop, S: BuildHasher + Drop>(
     ensures same_trees { IfOk result (λ trees. ((bag_eq T.eq a.now b.now ≡ true) × (a.now.most ≡ b.now.most)) ↔ (view trees.0 ≡ view trees.1)) }
     ensures memory { IfErr result (λ e. e ≡ BagError.Memory) }
 {
-    // By the contract of `len`, b is a bag, of which the clauses of `a.to_value` speak.
+    // The clauses of `a.to_value` speak of any other bag. The contract of `len` says that `b` is a bag.
     let _len = b.len();
     let first = a.to_value(alloc)?;
     let second = b.to_value(alloc)?;

@@ -9,7 +9,7 @@ ghost use Rattle.hashbag_callers.specs.Ledger.{ChangesOnly};
 use hashbag::{BagError, HashBag};
 use std::hash::{BuildHasher, Hash};
 
-/// Enters goods that arrived. If the ledger can't hold them or an allocation fails, nothing changes.
+/// Enters goods that arrived. If the total would pass the limit or an allocation fails, nothing changes.
 pub fn deliver<T: Eq + Hash + Drop, S: BuildHasher + Drop>(
     stock: &mut HashBag<T, S>,
     article: T,
@@ -25,8 +25,8 @@ pub fn deliver<T: Eq + Hash + Drop, S: BuildHasher + Drop>(
     Ok(())
 }
 
-/// Removes sold goods, and returns whether there were enough of them. If there weren't, nothing changes. So no count is ever below zero,
-/// and what is sold and what is left are what was there.
+/// Removes sold goods, and returns whether there were enough of them. If not, nothing changes. So no count is ever below zero, and the
+/// goods that are sold and those that are left add up to the goods before.
 pub fn sell<T: Eq + Hash + Drop, S: BuildHasher + Drop>(
     stock: &mut HashBag<T, S>,
     article: &T,
@@ -45,7 +45,7 @@ pub fn sell<T: Eq + Hash + Drop, S: BuildHasher + Drop>(
     true
 }
 
-/// Removes an article's goods one by one, and returns the last one itself, as it was stored, or `None` if there were none.
+/// Removes all goods of an article, one by one, and returns the last one as it was stored, or `None` if there were none.
 pub fn sell_out<T: Eq + Hash + Drop, S: BuildHasher + Drop>(
     stock: &mut HashBag<T, S>,
     article: &T,
@@ -65,9 +65,10 @@ pub fn sell_out<T: Eq + Hash + Drop, S: BuildHasher + Drop>(
     }
 }
 
-/// Removes one of an article, and returns whether it was the last: then `try_take` returns it, and else lends the one that stays.
+/// Removes one of an article, and returns whether it was the last. `try_take` returns the last one, and else lends the one that stays.
 ///
-/// What the bag then means can't be said while the loan may last. A caller that needs that calls `take_one`, as `sell_out` does.
+/// No clause can say what the bag means afterwards, since the loan may last. A caller that needs such a clause calls `take_one`, as
+/// `sell_out` does.
 pub fn take_was_last<T: Eq + Hash + Drop, S: BuildHasher + Drop>(
     stock: &mut HashBag<T, S>,
     article: &T,
@@ -77,7 +78,7 @@ pub fn take_was_last<T: Eq + Hash + Drop, S: BuildHasher + Drop>(
     stock.try_take(article).is_ok()
 }
 
-/// Ensures that an article is listed, and returns its count then. A present article is unchanged.
+/// Inserts an article if it is absent, and returns its count after. A present article is unchanged.
 pub fn list<T: Eq + Hash + Drop, S: BuildHasher + Drop>(
     stock: &mut HashBag<T, S>,
     article: T,
@@ -91,8 +92,7 @@ pub fn list<T: Eq + Hash + Drop, S: BuildHasher + Drop>(
     stock.entry(article).or_insert()
 }
 
-/// Sets the count of a present article to what was found of it. An absent article stays absent. If the ledger can't hold them, nothing
-/// changes.
+/// Sets the count of a present article to `found`. An absent article stays absent. After an error nothing has changed.
 pub fn recount<T: Eq + Hash + Drop, S: BuildHasher + Drop>(
     stock: &mut HashBag<T, S>,
     article: T,
@@ -112,7 +112,7 @@ pub fn recount<T: Eq + Hash + Drop, S: BuildHasher + Drop>(
     Ok(())
 }
 
-/// Stores this instance of an article, once, and returns how many there were.
+/// Stores this instance of an article, with the count 1, and returns the count before.
 pub fn keep_one<T: Eq + Hash + Drop, S: BuildHasher + Drop>(
     stock: &mut HashBag<T, S>,
     article: T,

@@ -1,4 +1,5 @@
-//! Callers to copy, one file for each kind of use; docs/prove/DEFINITIONS.md lists them. Each is proved from the contracts of the calls alone.
+//! Callers to copy, one file for each kind of use; docs/prove/DEFINITIONS.md lists them. Each caller is proved from the contracts of its
+//! calls alone.
 #![tactic(auto)]
 
 pub mod deliveries;

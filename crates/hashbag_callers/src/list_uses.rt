@@ -7,7 +7,7 @@ use hashbag_ops::most_common;
 use std::alloc::Global;
 use std::hash::{BuildHasher, Hash};
 
-/// Builds a bag of the values of two lists.
+/// Returns a bag of the values of two lists.
 pub fn both_lists<T: Eq + Hash + Drop>(
     alloc: Global,
     first: Vec<T>,
@@ -20,7 +20,7 @@ pub fn both_lists<T: Eq + Hash + Drop>(
     Ok(bag)
 }
 
-/// Removes each value of a list once for each time that it is listed, as far as it occurs, and returns how many occurrences were removed.
+/// Removes one occurrence of each value of a list, as often as it is listed, if one is left. Returns how many occurrences were removed.
 pub fn take_each<T: Eq + Hash + Drop, S: BuildHasher + Drop>(
     bag: &mut HashBag<T, S>,
     values: &[T],
@@ -35,7 +35,7 @@ pub fn take_each<T: Eq + Hash + Drop, S: BuildHasher + Drop>(
     before - bag.len()
 }
 
-/// Returns the most common value of a list, or `None` if it is empty.
+/// Returns the most common value of a list, or `None` if the list is empty.
 pub fn commonest<T: Ord + Hash + Copy + Drop>(
     alloc: Global,
     values: Vec<T>,

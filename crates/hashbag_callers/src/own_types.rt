@@ -13,14 +13,14 @@ use hashbag::{HashBag, ItemError, JsonText, Key};
 use std::alloc::{AllocError, Global};
 use std::hash::BuildHasher;
 
-/// An article, which differs from others by its name.
+/// An article. Articles are equal if their names are.
 #[derive(Debug, PartialEq, Eq, PartialOrd, Ord, Hash, Drop)]
 pub struct Article {
-    /// What is compared, ordered, hashed and written.
+    /// The name, by which articles are compared, ordered, hashed and written.
     pub name: String,
 }
 
-// An article is written as its name. Each text is the name of one.
+// An article is written as its name. Each text is the name of an article.
 impl JsonText for Article {
     ghost text_of = { λ x. string_bytes x.name };
 
@@ -40,7 +40,7 @@ impl JsonText for Article {
     ghost has_value = { λ s e. (record { name = s }, refl) };
 }
 
-// A text names the article that has it as its name: `bag.contains("nut")`.
+// A text is a key for the article of this name: `bag.contains("nut")`.
 impl Key<Article> for &str {
     ghost names = { λ key v. bytes_eq (string_bytes v.name) key.now };
 
@@ -60,7 +60,7 @@ pub fn how_many<S: BuildHasher + Drop>(bag: &HashBag<Article, S>, name: &str) ->
     bag.contains(name)
 }
 
-/// A size, which is written as a word.
+/// A size, which JSON has as a word.
 #[derive(Clone, Copy, Debug, PartialEq, Eq, PartialOrd, Ord, Hash)]
 pub enum Size {
     /// Written as `small`.

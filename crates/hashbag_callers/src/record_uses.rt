@@ -8,7 +8,7 @@ ghost use Rattle.hashbag_callers.specs.Transfers.{LowersCount};
 use hashbag::{BagError, HashBag};
 use std::hash::{BuildHasher, Hash};
 
-/// Removes `n` occurrences of a value, and says each fact of `HasFewer` by itself.
+/// Removes `n` occurrences of a value, and returns the count after. Each fact of `HasFewer` is a clause.
 pub fn take_some<T: Eq + Hash + Drop, S: BuildHasher + Drop>(
     bag: &mut HashBag<T, S>,
     value: &T,
@@ -24,7 +24,7 @@ pub fn take_some<T: Eq + Hash + Drop, S: BuildHasher + Drop>(
     bag.remove_up_to(value, n)
 }
 
-/// Inserts a value, and says by itself what `Inserts` has of the slots and of the room.
+/// Inserts a value, and returns the count before. What `Inserts` says of the slots and of the room is a clause each.
 pub fn put_in<T: Eq + Hash + Drop, S: BuildHasher + Drop>(
     bag: &mut HashBag<T, S>,
     value: T,
@@ -37,7 +37,7 @@ pub fn put_in<T: Eq + Hash + Drop, S: BuildHasher + Drop>(
     bag.insert(value)
 }
 
-/// Inserts a value, and says by itself when it fails, and with which error.
+/// Inserts a value, and returns the count before. The clauses say when this fails, and with which error.
 pub fn insert_plainly<T: Eq + Hash + Drop, S: BuildHasher + Drop>(
     bag: &mut HashBag<T, S>,
     value: T,
@@ -51,7 +51,7 @@ pub fn insert_plainly<T: Eq + Hash + Drop, S: BuildHasher + Drop>(
     bag.insert(value)
 }
 
-/// Stores a value in the place of its equals, and says each fact of `KeepsRoom` by itself.
+/// Stores a value in the place of its equals, and returns the count before. Each fact of `KeepsRoom` is a clause.
 pub fn put_in_place<T: Eq + Hash + Drop, S: BuildHasher + Drop>(
     bag: &mut HashBag<T, S>,
     value: T,

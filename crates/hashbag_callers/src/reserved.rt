@@ -8,8 +8,8 @@ use std::hash::{BuildHasher, Hash};
 
 /// Inserts the values in turn, up to the first with which the total would pass the limit.
 ///
-/// It makes room for all of them before the first. So an allocation fails there, if any does, and nothing has changed yet. No total is
-/// tested here. If the limit is reached, the bag is full: the values before are inserted, and nothing is lost.
+/// Room for all values is made before the first insertion. So if an allocation fails, it fails there, and nothing has changed. No total is
+/// tested here. After `TooMany` the bag is full: the values before the one that failed are inserted.
 pub fn insert_all<T: Eq + Hash + Drop, S: BuildHasher + Drop>(
     bag: &mut HashBag<T, S>,
     values: Vec<T>,
@@ -32,7 +32,7 @@ pub fn insert_all<T: Eq + Hash + Drop, S: BuildHasher + Drop>(
 
 /// Inserts all values, or none, by one extend.
 ///
-/// As room is made and the total is tested before, the extend can't fail and builds no table, which is proved.
+/// Room is made and the total is tested before. So the extend can't fail and builds no table, which is proved.
 pub fn extend_all<T: Eq + Hash + Drop, S: BuildHasher + Drop>(
     bag: &mut HashBag<T, S>,
     values: Vec<T>,

@@ -9,7 +9,7 @@ use hashbag::{BagError, HashBag};
 use std::alloc::{AllocError, Global};
 use std::hash::{BuildHasher, Hash};
 
-// The two steps.
+// Returns two steps: insert the value, then count it.
 fn insert_then_count<T: Copy>(alloc: Global, value: T) -> Result<Vec<Step<T>>, AllocError>
     ensures { IfOk result (λ steps. steps.items ≡ Step.Insert value ∷ Step.Count value ∷ []) }
 {
@@ -19,7 +19,7 @@ fn insert_then_count<T: Copy>(alloc: Global, value: T) -> Result<Vec<Step<T>>, A
     Ok(steps)
 }
 
-/// Inserts a value and counts it, as two steps of one run: the replies are the count before, and one more.
+/// Inserts a value and counts it, as two steps of one run, and returns the replies: the count before, and one more.
 pub fn insert_and_count<T: Eq + Hash + Copy, S: BuildHasher + Drop>(
     alloc: Global,
     bag: &mut HashBag<T, S>,

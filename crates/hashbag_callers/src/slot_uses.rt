@@ -7,8 +7,8 @@ ghost use Rattle.hashbag.specs.SlotWords.{Slot};
 use hashbag::HashBag;
 use std::hash::{BuildHasher, Hash};
 
-/// Keeps one of each value, and returns how many there are: one in each Live slot of the two tables. A slot of the newer table without a
-/// value is unchanged, so no value is in another slot than before.
+/// Keeps one of each value, and returns how many values there are: one in each Live slot of the two tables. A slot of the newer table that
+/// isn't Live is unchanged, so no value moves into it.
 pub fn keep_one_of_each<T: Eq + Hash + Drop, S: BuildHasher + Drop>(
     bag: &mut HashBag<T, S>,
 ) -> usize
@@ -21,7 +21,7 @@ pub fn keep_one_of_each<T: Eq + Hash + Drop, S: BuildHasher + Drop>(
     bag.set_len()
 }
 
-/// A law, at no cost: each growth during an extend has the number of slots that follows from the list before it.
+/// A law, at no cost: the number of slots after each growth during an extend follows from the list before that growth.
 pub fn grow_as_listed<T: Eq, S>()
     ensures { GrowAsListed S T.eq }
 {}

@@ -7,7 +7,7 @@ use hashbag::{BagError, HashBag};
 use std::alloc::Global;
 use std::hash::BuildHasher;
 
-/// Counts words: the bag has each as often as the list.
+/// Returns a bag that has each word as often as the list.
 pub fn count_texts(alloc: Global, words: &[&str]) -> Result<HashBag<String>, BagError>
     ensures counts { IfOk result (λ bag. (v : _) → count string_eq v bag.items ≡ text_count (string_bytes v) words.now) }
     ensures len { IfOk result (λ bag. length bag.items ≡ length words.now) }

@@ -9,13 +9,13 @@ use std::hash::{BuildHasher, Hash};
 /// Why nothing is transferred.
 #[derive(Debug, Drop)]
 pub enum TransferError {
-    /// The bag has fewer of the value.
+    /// The bag has fewer than `n` occurrences of the value.
     TooFew,
-    /// The insertion into the other bag fails, or a clone.
+    /// The insertion into the other bag failed, or the clone of the value.
     Bag(BagError),
 }
 
-/// Moves `n` occurrences of a value from one bag to another. If it fails, nothing changes.
+/// Moves `n` occurrences of a value from one bag to another. After an error nothing has changed.
 ///
 /// The insertion comes first, since it may fail. The removal can't.
 pub fn transfer<T: Eq + Hash + Copy + Drop, S: BuildHasher + Drop, S2: BuildHasher + Drop>(
@@ -42,7 +42,7 @@ pub fn transfer<T: Eq + Hash + Copy + Drop, S: BuildHasher + Drop, S2: BuildHash
     }
 }
 
-/// Moves `n` occurrences of a value from one bag to another, by a clone of it. If it fails, nothing changes.
+/// Moves `n` occurrences of a value from one bag to another, by a clone of the value. After an error nothing has changed.
 pub fn transfer_clone<T: Eq + Hash + Clone + Drop, S: BuildHasher + Drop, S2: BuildHasher + Drop>(
     from: &mut HashBag<T, S>,
     to: &mut HashBag<T, S2>,

@@ -1,4 +1,4 @@
-//! Callers to copy: uses of the contracts of the walks. Each has its clause from those contracts alone.
+//! Callers to copy: uses of the contracts of the walks. Each clause follows from these contracts alone.
 ghost use Rattle.std.specs.Prelude.{◌≡◌, List, [], length, IfOk};
 ghost use Rattle.hashbag.specs.Bag.{Means};
 ghost use Rattle.hashbag.specs.Occurrences.{distinct_count};
@@ -8,7 +8,7 @@ use hashbag::HashBag;
 use std::alloc::{AllocError, Global};
 use std::hash::{BuildHasher, Hash};
 
-/// Returns the sum of all counts, by a chain over the distinct values: it is the number of occurrences.
+/// Returns the sum of all counts, by a chain over the distinct values. The sum is the number of occurrences.
 pub fn sum_of_counts<T: Eq + Hash + Drop, S: BuildHasher + Drop>(bag: &HashBag<T, S>) -> usize
     ensures { result ≡ length bag.now.items }
 {
@@ -37,7 +37,7 @@ pub fn sum_used_up<T: Eq + Hash + Drop, S: BuildHasher + Drop>(bag: HashBag<T, S
     sum
 }
 
-/// Returns the number of occurrences, by a chain that takes them one by one.
+/// Returns the number of occurrences, by a chain over them.
 pub fn number_of_items<T: Eq + Hash + Drop, S: BuildHasher + Drop>(bag: &HashBag<T, S>) -> usize
     ensures { result ≡ length bag.now.items }
 {
@@ -55,7 +55,7 @@ pub fn number_by_loop<T: Eq + Hash + Drop, S: BuildHasher + Drop>(bag: &HashBag<
     number
 }
 
-/// Moves everything out of a bag into a list of the distinct values with their counts. If an allocation fails, the bag is empty too.
+/// Empties a bag, and returns its distinct values with their counts. If an allocation fails, the bag is empty too.
 pub fn moved_out<T: Eq + Hash + Drop, S: BuildHasher + Drop>(
     alloc: Global,
     bag: &mut HashBag<T, S>,
@@ -68,7 +68,7 @@ pub fn moved_out<T: Eq + Hash + Drop, S: BuildHasher + Drop>(
     bag.drain().collect(alloc)
 }
 
-/// Removes all values of a bag, and returns the one that the walk gives first, with its count, or `None` if the bag was empty.
+/// Empties a bag, and returns the first value of the walk with its count, or `None` if the bag was empty.
 pub fn first_moved_out<T: Eq + Hash + Drop, S: BuildHasher + Drop>(
     bag: &mut HashBag<T, S>,
 ) -> Option<(T, usize)>

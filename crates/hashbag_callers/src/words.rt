@@ -7,7 +7,7 @@ use hashbag::{BagError, HashBag};
 use std::alloc::Global;
 use std::hash::{BuildHasher, Hash};
 
-/// Inserts two words into a new bag: each call says the length that it leaves.
+/// Returns a new bag with two words. The contract of each insertion says the length after.
 pub fn two_words(alloc: Global) -> Result<HashBag<u64>, BagError>
     ensures { IfOk result (λ bag. length bag.items ≡ 2) }
 {
@@ -32,7 +32,7 @@ pub fn insert_each<S: BuildHasher + Drop>(
     Ok(())
 }
 
-/// Counts words: the bag has each word as often as the list.
+/// Returns a bag that has each word as often as the list.
 pub fn count_words<T: Eq + Hash + Drop>(
     alloc: Global,
     words: Vec<T>,
@@ -43,7 +43,7 @@ pub fn count_words<T: Eq + Hash + Drop>(
     HashBag::from_iter(alloc, words.into_iter())
 }
 
-/// Returns whether two bags are equal that the same insertions build in any two orders: they are.
+/// Builds two bags by the same insertions in any two orders, and returns whether the bags are equal: always `true`.
 pub fn equal_in_any_order<T: Eq + Hash + Drop>(
     alloc: Global,
     pairs: Vec<(T, usize)>,

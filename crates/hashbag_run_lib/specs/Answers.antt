@@ -8,12 +8,12 @@ use Rattle.hashbag.specs.JsonTrees.{IsBagTree}
 use Rattle.hashbag.specs.Script.{Steps, left_by, limit_by, replies_to}
 use Rattle.hashbag_run_lib.specs.declared.answers.Answers.{Answers}
 
--- d is the tree of a bag that means a list of numbers and has the limit `most`
+-- d is the tree of a bag of numbers that means the list X and has the limit `most`
 abbrev pub IsTreeOfNumbers : List ℕ → ℕ → Data → Type 0
 IsTreeOfNumbers X most d = IsBagTree nat_eq nat_cmp (λ n. number (unsigned n)) X most d
 
--- these are the results of the steps of two bags that are empty at first: the replies of each, the joins of what the steps leave,
--- and the trees of that, with the limits that the steps leave
+-- these are the results of the steps of two bags that are empty at first: the replies of each bag, the joins of the bags that the steps
+-- leave, and the trees and limits of these bags
 pub record AreAnswersTo (steps_a steps_b : Steps ℕ) (answers : Answers) : Type 0 where
   pub replies_a : answers.replies_a.items ≡ replies_to nat_eq steps_a
   pub replies_b : answers.replies_b.items ≡ replies_to nat_eq steps_b

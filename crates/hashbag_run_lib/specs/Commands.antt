@@ -6,55 +6,55 @@ use Rattle.std.specs.Str.Parse.{digits_value}
 use Rattle.hashbag_script.specs.declared.script.Step.{Step}
 use Rattle.hashbag_script.specs.declared.script.Step.TheVariants.{Insert, InsertMany, Replace, Remove, RemoveUpTo, TryTake, TakeAll, EntrySet, EntryOr, Retain, Clear, Count, Reserve, ShrinkToFit, Limit}
 
--- the number that a word writes: 1 to 20 decimal digits, and less than 2^64
+-- the number that a word is: 1 to 20 decimal digits, and less than 2^64; else none
 abbrev pub number_in : List ℕ → Option ℕ
 number_in word =
     let n = digits_value 10 word in
     if (list_all is_ascii_digit word && nat_lt 0 (length word)) && (nat_le (length word) 20 && nat_lt n (2 ^ 64)) then Some n else None
 
--- the numbers that words write, if each writes one
+-- the numbers that the words are, or none if a word is no number
 abbrev pub numbers_in : List (List ℕ) → Option (List ℕ)
 numbers_in [] = Some []
 numbers_in (word ∷ words) = option_and_then (λ n. option_map (λ ns. n ∷ ns) (numbers_in words)) (number_in word)
 
--- a step as its line has it: a verb, and the numbers after it
+-- a step as it is written in a line: a verb, and the numbers after it
 abbrev pub Command : Type 0
 Command = List ℕ × List ℕ
 
--- each verb and how many numbers it takes, but `retain`, which takes any even number of them
+-- each verb, and how many numbers it takes. `retain` isn't listed: it takes any even number of them
 abbrev pub verbs : List (List ℕ × ℕ)
 verbs =
     (codes "insert", 1) ∷ (codes "many", 2) ∷ (codes "replace", 1) ∷ (codes "remove", 1) ∷ (codes "upto", 2)
     ∷ (codes "try", 1) ∷ (codes "all", 1) ∷ (codes "set", 2) ∷ (codes "or", 2) ∷ (codes "clear", 0)
     ∷ (codes "count", 1) ∷ (codes "reserve", 1) ∷ (codes "shrink", 0) ∷ (codes "limit", 1) ∷ []
 
--- whether a verb takes that many numbers
+-- whether a verb takes this many numbers
 abbrev pub takes : List ℕ → ℕ → Bool
 takes verb many = (bytes_eq verb (codes "retain") && (many % 2 == 0)) || list_any (λ v. bytes_eq verb v.0 && (many == v.1)) verbs
 
--- the command of a verb and numbers, if it takes that many
+-- the command of a verb and numbers, or none if the verb doesn't take as many
 abbrev pub command : List ℕ → List ℕ → Option Command
 command verb numbers = if takes verb (length numbers) then Some (verb, numbers) else None
 
--- the command of words
+-- the command of words: the first word is the verb
 abbrev pub command_in : List (List ℕ) → Option Command
 command_in [] = None
 command_in (verb ∷ words) = option_and_then (command verb) (numbers_in words)
 
--- the command of words of which the first names the bag
+-- the command of words whose first word names this bag; else none
 abbrev pub command_after : List ℕ → List (List ℕ) → Option Command
 command_after bag [] = None
 command_after bag (name ∷ words) = if bytes_eq name bag then command_in words else None
 
--- the command of a line on the bag of this name, if it is one
+-- the command of a line on the bag of this name, or none
 abbrev pub command_on : List ℕ → List ℕ → Option Command
 command_on bag line = command_after bag (slice_split (λ b. b == 32) line)
 
--- a line that is neither empty nor a command on a or b
+-- whether a line is bad: neither empty nor a command on a or b
 abbrev pub is_bad : List ℕ → Bool
 is_bad line = nat_lt 0 (length line) && (is_none (command_on (codes "a") line) && is_none (command_on (codes "b") line))
 
--- the lines of an input: what is between line feeds
+-- the lines of an input: its parts between line feeds
 abbrev pub lines_of : List ℕ → List (List ℕ)
 lines_of input = slice_split (λ b. b == 10) input
 
@@ -66,7 +66,7 @@ first_bad input = option_map (λ k. k + 1) (position is_bad (lines_of input))
 abbrev pub commands_of : List ℕ → List ℕ → List Command
 commands_of bag input = filter_map (command_on bag) (lines_of input)
 
--- a step as a line has it
+-- a step as it is written in a line
 abbrev pub command_of : Step ℕ → Command
 command_of (Insert v) = (codes "insert", v ∷ [])
 command_of (InsertMany v n) = (codes "many", v ∷ n ∷ [])
@@ -84,6 +84,6 @@ command_of (Reserve n) = (codes "reserve", n ∷ [])
 command_of ShrinkToFit = (codes "shrink", [])
 command_of (Limit n) = (codes "limit", n ∷ [])
 
--- the command of a line on the bag of this name is appended to those of the steps, if the line is one
+-- the steps `new` are the steps `old`, and behind them the command of the line on the bag of this name, if it is one
 abbrev pub AppendsCommand : List ℕ → List ℕ → List (Step ℕ) → List (Step ℕ) → Type 0
 AppendsCommand bag line old new = map command_of new ≡ map command_of old ++ option_to_list (command_on bag line)

@@ -54,7 +54,7 @@ empty_input = refl
 in_order : commands_of (codes "a") (codes "a insert 5" ++ 10 ∷ codes "b clear" ++ 10 ∷ 10 ∷ codes "a count 5") ≡ (codes "insert", 5 ∷ []) ∷ (codes "count", 5 ∷ []) ∷ []
 in_order = refl
 
--- a line is a command on one bag alone
+-- a line is a command on one bag only
 appended : AppendsCommand (codes "a") (codes "a insert 5") [] (Insert 5 ∷ [])
 appended = refl
 

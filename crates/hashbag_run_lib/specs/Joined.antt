@@ -4,12 +4,12 @@ use Rattle.std.specs.List.Sorted.{IsNonDecreasingBy}
 use Rattle.hashbag_run_lib.specs.declared.joined.JoinLists.{JoinLists}
 use Rattle.hashbag_run_lib.specs.Lines.{join_lines}
 
--- ys has the items of xs, and their values don't fall
+-- ys has the items of xs, in ascending order of their values
 pub record IsRising {X : Type 0} (value : X → ℕ) (xs ys : List X) : Type 0 where
   pub same : IsPermutation xs ys
   pub order : IsNonDecreasingBy value ys
 
--- the lines of the joins, each sorted, were appended
+-- the lines of the joins were appended, each join in ascending order of values
 pub record PrintsJoins (joins : JoinLists ℕ) (before after : List ℕ) : Type 0 where
   pub outer : List (ℕ × ℕ × ℕ)
   pub difference : List (ℕ × ℕ)

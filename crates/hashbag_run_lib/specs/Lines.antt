@@ -29,7 +29,7 @@ reply_line bag reply = line (bag ∷ reply_words reply)
 abbrev pub outer_line : ℕ × ℕ × ℕ → List ℕ
 outer_line j = line (codes "outer" ∷ decimal j.0 ∷ decimal j.1 ∷ decimal j.2 ∷ [])
 
--- the line of this kind of a value with a count
+-- the line of this kind for a value with a count
 abbrev pub count_line : List ℕ → ℕ × ℕ → List ℕ
 count_line kind e = line (kind ∷ decimal e.0 ∷ decimal e.1 ∷ [])
 

@@ -8,13 +8,13 @@ use Rattle.hashbag_run_lib.specs.Format.{AreStepsOf}
 use Rattle.hashbag_run_lib.specs.Joined.{IsRising}
 use Rattle.hashbag_run_lib.specs.Lines.{output, join_lines}
 
--- the list is one of which Is holds, in ascending order of values
+-- `rising` is a list for which `Is` holds, in ascending order of values
 pub record IsByValue {X : Type 0} (value : X → ℕ) (Is : List X → Type 0) (rising : List X) : Type 0 where
   pub listed : List X
   pub is : Is listed
   pub rises : IsRising value listed rising
 
--- the text is what the steps of two empty bags reply, the joins of what they leave, values in ascending order, and the trees of that
+-- the text is the replies to the steps of two empty bags, the joins of the bags that the steps leave, by value, and the trees of these bags
 pub record IsOutputOf (steps_a steps_b : Steps ℕ) (text : List ℕ) : Type 0 where
   pub outer : List (ℕ × ℕ × ℕ)
   pub difference : List (ℕ × ℕ)

@@ -6,13 +6,13 @@ use Rattle.hashbag_run_lib.specs.Commands.{first_bad}
 use Rattle.hashbag_run_lib.specs.Lines.{bad_line, no_memory}
 use Rattle.hashbag_run_lib.specs.Output.{IsRunOf}
 
--- a line of the input is bad, and the text names the first one
+-- the input has a bad line, and the text names the first one
 pub record NamesBadLine (input text : List ℕ) : Type 0 where
   pub number : ℕ
   pub first : first_bad input ≡ Some number
   pub is : text ≡ bad_line number
 
--- what is written after an input: the output of its steps, the number of its first bad line, or that there was no memory
+-- the outcome of an input: the output of its steps, or the number of its first bad line; or, of any input, a failed allocation
 abbrev pub IsAnswerTo : List ℕ → Outcome → Type 0
 IsAnswerTo input (Done text) = IsRunOf input (string_bytes text)
 IsAnswerTo input (BadLine text) = NamesBadLine input (string_bytes text)

@@ -5,10 +5,10 @@ use Rattle.hashbag.specs.Joins.{IsOuterJoin, IsDifference, IsNotIn, IsSignedDiff
 use Rattle.hashbag.specs.Pairs.{Ran, IsDone}
 use Rattle.hashbag.specs.Script.{run}
 
--- r and q are runs of steps on two bags, and the four lists the joins of the bags that they leave. Then, whichever lists X
--- and Y the bags meant: each step replies as the plain list replies, and each bag means what its list has become; the outer
--- join lists each value of either of these two lists once, those of the first one before, with both counts, of which one is
--- above 0; and the other joins are what these counts decide
+-- r and q are runs of steps on two bags, and the four lists are the joins of the bags that they leave. For all lists X and Y that the bags
+-- meant before: (1) each step replies as a plain list replies, and each bag means what its list has become; (2) the outer join lists each
+-- value of these two lists once, the values of the first list before others, with both counts, of which one is above 0; (3) the other joins
+-- follow from these counts
 pub record IsRunAndJoined {T S S2 : Type 0} (eq : T → T → Bool) (r : Ran T S) (q : Ran T S2) (outer_list : List (T × ℕ × ℕ)) (difference_list : List (T × ℕ)) (signed_list : List (T × ℤ)) (not_in_list : List (T × ℕ)) : Type 0 where
   pub first : IsDone eq r
   pub second : IsDone eq q

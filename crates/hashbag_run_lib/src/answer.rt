@@ -1,4 +1,4 @@
-//! The program, from the bytes of its input to those of its output.
+//! The program, from the bytes of its input to the bytes of its output.
 ghost use Rattle.std.specs.Prelude.{◌≡◌, IfOk, IfErr, string_bytes};
 ghost use Rattle.hashbag_run_lib.specs.Format.{IsBadLineOf};
 ghost use Rattle.hashbag_run_lib.specs.Lines.{bad_line};
@@ -10,7 +10,7 @@ use crate::lines::{LinesError, Scripts, steps};
 use hashbag::BagError;
 use std::alloc::{AllocError, Global};
 
-/// The status if all was done.
+/// The status if all steps were done.
 pub const DONE: u8 = 0;
 
 /// The status after a bad line of the input.
@@ -72,15 +72,15 @@ fn run_of(alloc: Global, input: &[u8]) -> Result<String, LinesError>
     Ok(output_of(alloc, a, b)?)
 }
 
-// Returns the line that names a bad line.
+// Returns the line that names the number of a bad line.
 fn bad_line_text(alloc: Global, number: u64) -> Result<String, AllocError>
     ensures { IfOk result (λ text. string_bytes text ≡ bad_line number) }
 {
     format!(in alloc; "bad line {number}\n")
 }
 
-/// Returns what the program writes after an input: the output of the steps that its lines are, run on two empty bags, or the number of the
-/// first line that is no step, or that an allocation failed.
+/// Returns what the program writes after an input: the output of its steps, run on two empty bags; the number of the first line that is no
+/// step; or that an allocation failed.
 pub fn answer(alloc: Global, input: &[u8]) -> Outcome
     ensures { IsAnswerTo input.now result }
 {

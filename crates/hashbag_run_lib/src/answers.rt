@@ -17,13 +17,13 @@ use std::alloc::Global;
 struct Answers {
     replies_a: Vec<Reply<u64>>,
     replies_b: Vec<Reply<u64>>,
-    // Of the bags that the steps leave.
+    // The joins of the bags that the steps leave, and below the trees of these bags.
     joins: JoinLists<u64>,
     tree_a: Value,
     tree_b: Value,
 }
 
-// Returns the replies to the steps of two empty bags.
+// Runs the steps on two empty bags, and returns the replies, the joins and the trees.
 fn answers_to(
     alloc: Global,
     steps_a: Vec<Step<u64>>,
@@ -55,7 +55,7 @@ fn answers_to(
     })
 }
 
-/// Returns the output of the steps of two empty bags: what each replies, then the joins of what they leave, and then its trees.
+/// Returns the output of the steps of two empty bags: the replies of each bag, the joins of the bags that the steps leave, and their trees.
 ///
 /// # Errors
 ///

@@ -15,7 +15,7 @@ pub const IO_FAILED: u8 = 4;
 // The greatest number of reads. An input that hasn't ended by then is a failed read.
 const READS: u64 = 1 << 32;
 
-// Why the input wasn't read.
+// Why reading the input failed.
 enum ReadError {
     Memory,
     Failed,
@@ -44,7 +44,7 @@ fn read_all<R: Read>(alloc: Global, input: &mut R) -> Result<Vec<u8>, ReadError>
     Err(ReadError::Failed)
 }
 
-// Writes the whole text, and returns whether that was done. Any error of the writer is a failure, and so is a write of no byte.
+// Writes the whole text, and returns whether that succeeded. It fails at the first error of the writer, or if the writer takes no byte.
 fn write_all<W: Write>(output: &mut W, text: &[u8]) -> bool
     ensures whole { OnTrue result (Appends (W.contents output.old) (W.contents output.new) text.now) }
     ensures part { AppendsPart (W.contents output.old) (W.contents output.new) text.now }
@@ -63,7 +63,7 @@ fn write_all<W: Write>(output: &mut W, text: &[u8]) -> bool
     true
 }
 
-// Writes the text, and returns the status, or that of a failed write.
+// Writes the text, and returns `status`, or `IO_FAILED` if a write fails.
 fn send<W: Write>(output: &mut W, text: &str, status: u8) -> u8
     ensures { IsSent (W.contents output.old) (W.contents output.new) text.now status result }
 {
@@ -74,11 +74,11 @@ fn send<W: Write>(output: &mut W, text: &str, status: u8) -> u8
     }
 }
 
-/// Reads steps, runs them on two empty bags, writes what each replies, then the joins of the bags and then their trees, and returns the
-/// exit status.
+/// Reads steps, runs them on two empty bags, writes the output, and returns the exit status. The output is the replies of each bag, then
+/// the joins of the bags, then their trees.
 ///
-/// The whole input is read before any line is judged, all lines are judged before any step is run, and the whole output is made before any
-/// of it is written.
+/// The whole input is read before any line is checked, all lines are checked before any step is run, and the whole output is built before
+/// any of it is written.
 ///
 /// | Status | If | Written |
 /// |---|---|---|

@@ -8,7 +8,7 @@ use hashbag::{BagError, HashBag};
 use std::alloc::{AllocError, Global};
 use std::hash::{BuildHasher, Hash};
 
-/// The four joins of two bags, by value.
+/// The four joins of two bags, with copies of the values.
 #[derive(Drop)]
 pub struct JoinLists<T> {
     /// Copies of [`Joins::outer`].
@@ -21,7 +21,7 @@ pub struct JoinLists<T> {
     pub not_in: Vec<(T, usize)>,
 }
 
-// Returns copies of values with a number each.
+// Returns the pairs with copies of their values.
 fn copied_pairs<T: Copy, N: Copy>(
     alloc: Global,
     pairs: &Vec<(&T, N)>,
@@ -31,7 +31,7 @@ fn copied_pairs<T: Copy, N: Copy>(
     pairs.iter().map(|pair| (*pair.0, pair.1)).collect(alloc)
 }
 
-// Returns copies of values with two counts each.
+// Returns the joined items with copies of their values.
 fn copied_joins<T: Copy>(
     alloc: Global,
     joins: &Vec<(&T, usize, usize)>,
@@ -44,7 +44,7 @@ fn copied_joins<T: Copy>(
         .collect(alloc)
 }
 
-// Returns the joins by value.
+// Returns the joins with copies of their values.
 fn copied<T: Copy + Drop>(alloc: Global, joins: &Joins<'_, T>) -> Result<JoinLists<T>, AllocError>
     ensures outer { IfOk result (λ lists. lists.outer.items ≡ map (λ j. (j.0.now, j.1, j.2)) joins.now.outer.items) }
     ensures difference { IfOk result (λ lists. lists.difference.items ≡ map (λ e. (e.0.now, e.1)) joins.now.difference.items) }
@@ -59,12 +59,12 @@ fn copied<T: Copy + Drop>(alloc: Global, joins: &Joins<'_, T>) -> Result<JoinLis
     })
 }
 
-/// Does the steps of two bags, those of the first before those of the second, appends a reply for each, and returns the joins of what the
-/// two runs leave.
+/// Does the steps of two bags, all of the first before those of the second, appends a reply for each step, and returns the joins of the
+/// bags that the steps leave.
 ///
 /// # Errors
 ///
-/// `Memory` if an allocation fails. Then there are no joins. Either the runs are as [`run_pair`] leaves them, or both were done.
+/// `Memory` if an allocation fails. Then no joins are returned, and the runs are either as [`run_pair`] leaves them, or both done.
 pub fn run_and_join<T: Eq + Hash + Copy + Drop, S: BuildHasher + Drop, S2: BuildHasher + Drop>(
     alloc: Global,
     a: &mut HashBag<T, S>,

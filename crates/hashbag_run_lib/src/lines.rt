@@ -29,17 +29,17 @@ impl From<AllocError> for LinesError {
     }
 }
 
-// The greatest number of digits of a number, with leading zeros.
+// The greatest number of digits of a number. Leading zeros count.
 const DIGITS: usize = 20;
 
-// Returns whether the word is decimal digits alone.
+// Returns whether each byte of the word is a decimal digit.
 fn is_digits(word: &[u8]) -> bool
     ensures { result ≡ list_all is_ascii_digit word.now }
 {
     word.iter().all(|byte| byte.is_ascii_digit())
 }
 
-// Returns the number of 1 to 20 decimal digits that fits a `u64`.
+// Returns the number of a word, or `None` unless the word is 1 to 20 decimal digits of a `u64`.
 fn number(word: &[u8]) -> Option<u64>
     ensures { result ≡ number_in word.now }
 {
@@ -52,7 +52,7 @@ fn number(word: &[u8]) -> Option<u64>
     }
 }
 
-// Returns the numbers of the words, if each is one.
+// Returns the numbers of the words, or `None` if a word is no number.
 fn numbers(alloc: Global, words: &[&[u8]]) -> Result<Option<Vec<u64>>, AllocError>
     ensures { IfOk result (λ r. option_map (λ v. v.items) r ≡ numbers_in (map (λ w. w.now) words.now)) }
 {
@@ -66,7 +66,7 @@ fn numbers(alloc: Global, words: &[&[u8]]) -> Result<Option<Vec<u64>>, AllocErro
     Ok(Some(numbers))
 }
 
-// Returns the step of a verb and its numbers, given as words.
+// Returns the step of these words, a verb and its numbers, or `None` if they are no step.
 fn step_in(alloc: Global, words: &[&[u8]]) -> Result<Option<Step<u64>>, AllocError>
     ensures { IfOk result (λ step. option_map command_of step ≡ command_in (map (λ w. w.now) words.now)) }
 {
@@ -97,7 +97,7 @@ pub enum Line {
     Other,
 }
 
-// Returns what a line is.
+// Returns the step of a line on the bag that it names, or `Line::Other`.
 fn line_of(alloc: Global, line: &[u8]) -> Result<Line, AllocError>
     ensures a { IfOk result (λ l. option_map command_of (step_on_a l) ≡ command_on (codes "a") line.now) }
     ensures b { IfOk result (λ l. option_map command_of (step_on_b l) ≡ command_on (codes "b") line.now) }
@@ -131,7 +131,7 @@ pub struct Scripts {
 }
 
 impl Scripts {
-    // Appends the step of a line, if it is one, and returns whether it is one or empty.
+    // Appends the step of a line, and returns `true`. If the line is no step, returns whether it is empty.
     fn push(&mut self, alloc: Global, line: &[u8]) -> Result<bool, AllocError>
         ensures a { OnOk result (AppendsCommand (codes "a") line.now self.old.a.items self.new.a.items) }
         ensures b { OnOk result (AppendsCommand (codes "b") line.now self.old.b.items self.new.b.items) }
@@ -151,7 +151,7 @@ impl Scripts {
     }
 }
 
-// Returns the number of the line after `passed` lines. A slice has fewer lines than a `u64` counts, but no contract of the kit says so.
+// Returns the number of the line after `passed` lines. A slice has fewer lines than a `u64` counts, but no contract says so: then `Memory`.
 fn line_after(passed: u64) -> Result<u64, LinesError>
     ensures next { IfOk result (λ number. number ≡ passed + 1) }
     ensures memory { IfErr result (λ e. e ≡ LinesError.Memory) }

@@ -39,7 +39,7 @@ pub fn print_replies(
     Ok(())
 }
 
-// Appends the line of each value with its two counts.
+// Appends a line for each value, with its two counts.
 fn print_outer(text: &mut String, outer: &Vec<(u64, usize, usize)>) -> Result<(), AllocError>
     ensures { OnOk result (string_bytes text.new ≡ string_bytes text.old ++ flat_map outer_line outer.now.items) }
 {
@@ -49,7 +49,7 @@ fn print_outer(text: &mut String, outer: &Vec<(u64, usize, usize)>) -> Result<()
     Ok(())
 }
 
-// Appends a line of this kind for each value with its count.
+// Appends a line of this kind for each value, with its count.
 fn print_counts(text: &mut String, kind: &str, counts: &Vec<(u64, usize)>) -> Result<(), AllocError>
     ensures { OnOk result (string_bytes text.new ≡ string_bytes text.old ++ flat_map (count_line kind.now) counts.now.items) }
 {
@@ -59,7 +59,7 @@ fn print_counts(text: &mut String, kind: &str, counts: &Vec<(u64, usize)>) -> Re
     Ok(())
 }
 
-// Appends the line of each value with its signed count.
+// Appends a line for each value, with its signed count.
 fn print_signed(text: &mut String, signed: &Vec<(u64, isize)>) -> Result<(), AllocError>
     ensures { OnOk result (string_bytes text.new ≡ string_bytes text.old ++ flat_map signed_line signed.now.items) }
 {
@@ -69,7 +69,7 @@ fn print_signed(text: &mut String, signed: &Vec<(u64, isize)>) -> Result<(), All
     Ok(())
 }
 
-/// Sorts the joins by value, and appends their lines.
+/// Appends the lines of the joins, each join sorted by value.
 pub fn print_joins(text: &mut String, joins: JoinLists<u64>) -> Result<(), AllocError>
     ensures { OnOk result (PrintsJoins joins (string_bytes text.old) (string_bytes text.new)) }
 {
@@ -90,7 +90,7 @@ pub fn print_joins(text: &mut String, joins: JoinLists<u64>) -> Result<(), Alloc
     Ok(())
 }
 
-/// Appends the line `NAME json TREE`. There is no space in the tree.
+/// Appends the line `BAG json TREE`. The tree is written without spaces.
 pub fn print_tree(
     alloc: Global,
     text: &mut String,

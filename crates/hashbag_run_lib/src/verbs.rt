@@ -6,7 +6,7 @@ use hashbag::script::Step;
 use std::alloc::{AllocError, Global};
 use std::str;
 
-// Returns the step of `retain` and its numbers, taken as pairs, if their number is even.
+// Returns the step `retain` of these numbers, which are pairs of a value and a count, or `None` if there is an odd number of them.
 fn retain(alloc: Global, numbers: &[u64]) -> Result<Option<Step<u64>>, AllocError>
     ensures { IfOk result (λ step. option_map command_of step ≡ command (codes "retain") numbers.now) }
 {
@@ -20,7 +20,7 @@ fn retain(alloc: Global, numbers: &[u64]) -> Result<Option<Step<u64>>, AllocErro
     Ok(Some(Step::Retain(pairs)))
 }
 
-// Returns the step of a verb without numbers.
+// Returns the step of a verb without numbers, or `None` if there is no such step.
 fn step_alone(verb: &str) -> Option<Step<u64>>
     requires { verb.now ≢ codes "retain" }
     ensures { option_map command_of result ≡ command verb.now [] }
@@ -32,7 +32,7 @@ fn step_alone(verb: &str) -> Option<Step<u64>>
     }
 }
 
-// Returns the step of a verb and a number.
+// Returns the step of a verb and a number, or `None` if there is no such step.
 fn step_with_one(verb: &str, n: u64) -> Option<Step<u64>>
     ensures { option_map command_of result ≡ command verb.now (n ∷ []) }
 {
@@ -49,7 +49,7 @@ fn step_with_one(verb: &str, n: u64) -> Option<Step<u64>>
     }
 }
 
-// Returns the step of a verb and two numbers.
+// Returns the step of a verb and two numbers, or `None` if there is no such step.
 fn step_with_two(verb: &str, value: u64, n: u64) -> Option<Step<u64>>
     requires { verb.now ≢ codes "retain" }
     ensures { option_map command_of result ≡ command verb.now (value ∷ n ∷ []) }
@@ -63,7 +63,7 @@ fn step_with_two(verb: &str, value: u64, n: u64) -> Option<Step<u64>>
     }
 }
 
-/// Returns the step of a verb and its numbers, if the verb takes that many.
+/// Returns the step of a verb and its numbers, or `None` if the verb is unknown or doesn't take that many numbers.
 pub fn step_of(alloc: Global, verb: &[u8], numbers: &[u64]) -> Result<Option<Step<u64>>, AllocError>
     ensures { IfOk result (λ step. option_map command_of step ≡ command verb.now numbers.now) }
 {
