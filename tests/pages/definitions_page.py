@@ -25,7 +25,7 @@ core/specs/Equality same_counts bag_eq
 core/specs/Inserts Inserts Replaces IsRefused InTurn IsMadeOf InsertsAll InsertsUpTo
 core/specs/Keys InsertsNamed RefusesNamed
 core/specs/Held HasFewer AreHeld Recounts
-table/specs/Tables Tables limit grown_slots room KeepsRoom Arrives IsPacked IsLeast
+table/specs/Tables Tables most_used grown_slots room KeepsRoom Arrives IsPacked IsLeast
 core/specs/Walks IsSetWalk IsWalk IsSetWalkOf IsWalkOf
 core/specs/Joins IsOuterJoin IsDifference IsNotIn IsSignedDifference saturated
 core/specs/JsonFaults fault

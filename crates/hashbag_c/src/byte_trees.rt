@@ -10,7 +10,7 @@ use serde_json::Value;
 use std::alloc::{AllocError, Global};
 use std::str;
 
-// Returns the bytes, of which each is below 256.
+// Only for the proof: returns the bytes as they are. Its clause says that each is below 256.
 fn below_256(bytes: &[u8]) -> &[u8]
     ensures same { result.now ≡ bytes.now }
     ensures bytes { are_bytes bytes.now ≡ true }

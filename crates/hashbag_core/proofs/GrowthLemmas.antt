@@ -6,7 +6,7 @@ use Rattle.std.proofs.lemmas.List.{length-append, length-replicate}
 use Rattle.hashbag_slots.specs.declared.slots.Slot.{Slot}
 use Rattle.hashbag_slots.specs.declared.slots.Slot.TheVariants.{Empty}
 use Rattle.hashbag_slots.specs.Slots.{entries}
-use Rattle.hashbag_table.specs.Tables.{Tables, limit, values, grown_slots, room, entries_of}
+use Rattle.hashbag_table.specs.Tables.{Tables, most_used, values, grown_slots, room, entries_of}
 use Rattle.hashbag_table.proofs.SlotLemmas.{length-entries}
 use Rattle.hashbag_core.specs.Bag.{Bag}
 use Rattle.hashbag_core.specs.Growths.{Grows, GrowsInTurn}
@@ -33,7 +33,7 @@ module _ {T S : Type 0} {eq : T → T → Bool} (laws : IsEquivalence eq) where
       let empty : Slot T = Empty in
       record {
         slots = (came.grown full).fills.same_length ∙ length-replicate (grown_slots (length before.tables.newer) (values before.tables)) empty ∙ ap (λ s. grown_slots (length before.tables.newer) s) number;
-        room = came.room_grown full ∙ ap (λ s. limit (length after.tables.newer) - s - 1) number;
+        room = came.room_grown full ∙ ap (λ s. most_used (length after.tables.newer) - s - 1) number;
         built = came.built.grown full;
       }
 

@@ -8,7 +8,7 @@ use Rattle.hashbag_slots.specs.declared.slots.Slot.TheVariants.{Empty, Removed}
 use Rattle.hashbag_slots.specs.Slots.{recounted, live_count}
 use Rattle.hashbag_table.specs.Table.{Table}
 use Rattle.hashbag_table.specs.Entries.{entry_of, IsCounted}
-use Rattle.hashbag_table.specs.Tables.{Tables, limit, room, entries_of, IsLeast, IsPacked, KeepsRoom, Writes, Rewrites, slot_in}
+use Rattle.hashbag_table.specs.Tables.{Tables, most_used, room, entries_of, IsLeast, IsPacked, KeepsRoom, Writes, Rewrites, slot_in}
 use Rattle.hashbag_table.proofs.CarryLemmas.{live_fresh, live_empty, removed_empty}
 use Rattle.hashbag_core.specs.Bag.{Bag, occurrences}
 use Rattle.hashbag_core.specs.Occurrences.{count}
@@ -64,7 +64,7 @@ module _ {T : Type 0} where
       let live = live_empty T (length t.newer) in
       let removed = removed_empty T (length t.newer) in
       let empty : Slot T = Empty in
-      let long = ap limit (length-replicate (length t.newer) empty) in
+      let long = ap most_used (length-replicate (length t.newer) empty) in
       record { slots = length-replicate (length t.newer) empty; room = omega (arith, live, removed, long); built = refl }
 
 module _ {T : Type 0} (eq : T → T → Bool) where

@@ -1,6 +1,6 @@
 -- Insertions in turn: the list before each growth decides how many slots it makes.
 use Rattle.std.specs.Prelude.{◌≡◌, ℕ, ◌+◌, ◌-◌, ◌<◌, Bool, List, [], ◌∷◌, length}
-use Rattle.hashbag_table.specs.Tables.{limit, room, values, grown_slots}
+use Rattle.hashbag_table.specs.Tables.{most_used, room, values, grown_slots}
 use Rattle.hashbag_core.specs.Bag.{Bag}
 use Rattle.hashbag_core.specs.Held.{AreHeld}
 use Rattle.hashbag_core.specs.Inserts.{Inserts, InTurn}
@@ -8,10 +8,10 @@ use Rattle.hashbag_core.specs.Occurrences.{count, distinct_count}
 
 module _ {T S : Type 0} (eq : T → T → Bool) where
   -- an absent value was inserted without room into a bag of n slots and s distinct values: there are `grown_slots n s` slots now, and
-  -- room is their limit less s + 1
+  -- room is `most_used` of them less s + 1
   pub record Grows (before after : Bag T S) : Type 0 where
     pub slots : length after.tables.newer ≡ grown_slots (length before.tables.newer) (distinct_count eq before.items)
-    pub room : room after.tables ≡ limit (length after.tables.newer) - distinct_count eq before.items - 1
+    pub room : room after.tables ≡ most_used (length after.tables.newer) - distinct_count eq before.items - 1
     pub built : after.tables.built ≡ before.tables.built + length after.tables.newer
 
   -- these pairs were inserted into `before` one after the other, as `InTurn` says, which left `after`. Each bag on the way has a Live slot

@@ -137,7 +137,7 @@ module _ (most : ℕ) (has_item : Data → Bool) where
   opened_fault (Err e) = Some e
   opened_fault (Ok p) = first_fault (min most p.0) has_item 0 0 p.1
 
-  -- the first fault of a tree under its limit or `most`, whichever is less, in the order of docs/FORMAT.md; none if it is read
+  -- the first fault of a tree under its limit or `most`, whichever is less, in the order that `from_value_with_hasher` lists; none if it is read
   abbrev pub fault : Data → Option JsonError
   fault d = opened_fault (opened d)
 

@@ -12,7 +12,7 @@ use Rattle.hashbag_core.specs.Held.{HasFewer}
 use Rattle.hashbag_core.specs.contracts.bag.HashBag.{the_row}
 
 module _ (T S H : RattleType) (key : HashMembers T.Denot) (build : builder.Ghosts S.Denot H.Denot) (hash : hasher.Ghosts H.Denot) where
-  -- the bag's type, as the logic holds it
+  -- `HashBag<T, S>` as a type of the logic, made of its items' type T, its hashers' maker S and its hasher H
   abbrev pub bag_row : RattleType
   bag_row = the_row T S H (record { eq = key.eq }) (record { hash_input = key.hash_input }) build hash
 

@@ -36,8 +36,9 @@ module _ {T : Type 0} (eq : T → T → Bool) where
     pub len : length W ≡ length bag.items
     pub fits : length bag.items ≤ greatest_total
 
-  -- W is a set walk of each list that the bag means, and such a list itself once its counts are written out. So the counts add up to the
-  -- length of the bag, there are as many entries as distinct values and no more than occurrences, and each of these numbers fits a `usize`
+  -- W is a set walk of each list that the bag means. With each value repeated as often as its count it is such a
+  -- list itself. So the counts add up to the length of the bag, there are as many entries as distinct values and no more than occurrences, and
+  -- each of these numbers fits a `usize`
   pub record IsSetWalkOf {S : Type 0} (bag : Bag T S) (W : List (T × ℕ)) : Type 0 where
     pub walk : (X : List T) → Means bag X → IsSetWalk X W
     pub means : Means bag (occurrences W)

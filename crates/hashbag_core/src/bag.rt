@@ -2,7 +2,8 @@
 //!
 //! In clauses `self.old` is the bag before a call, `self.new` the bag after it, and `self.now` one that is only read. `OnOk` and `OnErr`
 //! say what holds on success and on failure. `IfOk` and `IfErr` state it of the returned value or error. `×` is "and", `⊎` is "or",
-//! `(x : A) ×` is "there is an x", `(x : A) →` is "for every x". `ensures*` is about a loan that ends; callers don't learn it.
+//! `(x : A) ×` is "there is an x", `(x : A) →` is "for every x". `ensures*` says what
+//! holds once a loan is over: the prover uses it at the end of the loan, and no proof can name it.
 ghost use Rattle.std.specs.Prelude.{◌≡◌, ◌+◌, ◌-◌, ◌<◌, ◌≤◌, ◌↔◌, [], length, IsTrue, IsOk, IfOk, IfErr, OnOk, OnErr};
 ghost use Rattle.hashbag_table.specs.Tables.{room};
 ghost use Rattle.hashbag_core.specs.Bag.{limited, Lends};

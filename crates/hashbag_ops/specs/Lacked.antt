@@ -7,8 +7,8 @@ use Rattle.hashbag_table.specs.Tables.{Tables, room}
 use Rattle.hashbag_core.specs.Walks.{IsSetWalkOf}
 
 -- more than k distinct values of X don't occur in Y
-abbrev pub LacksMoreThan : {T : Type 0} → (T → T → Bool) → ℕ → List T → List T → Type 0
-LacksMoreThan {T} eq k X Y = (M : List (T × ℕ)) → IsNotIn eq X Y M → k < length M
+abbrev pub HasMoreThanLackedBy : {T : Type 0} → (T → T → Bool) → ℕ → List T → List T → Type 0
+HasMoreThanLackedBy {T} eq k X Y = (M : List (T × ℕ)) → IsNotIn eq X Y M → k < length M
 
 -- there is room in these tables for those of the values W that Y lacks
 abbrev pub HasRoomForAll : {T : Type 0} → (T → T → Bool) → List (T × ℕ) → List T → Tables T → Type 0

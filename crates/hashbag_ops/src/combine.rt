@@ -2,9 +2,9 @@
 ghost use Rattle.std.specs.Prelude.{◌≡◌, ℕ, ◌+◌, ◌-◌, ◌<◌, ◌≤◌, ◌↔◌, min, max, List, length, All, true, false, IfErr, OnOk, OnErr};
 ghost use Rattle.hashbag_core.specs.Joins.{IsNotIn};
 ghost use Rattle.hashbag_core.specs.Occurrences.{count, distinct_count};
-ghost use Rattle.hashbag_table.specs.Tables.{limit, room};
+ghost use Rattle.hashbag_table.specs.Tables.{most_used, room};
 ghost use Rattle.hashbag_core.specs.Walks.{IsSetWalkOf};
-ghost use Rattle.hashbag_ops.specs.Lacked.{HasRoomForAll, HasRoomForLacked, LacksMoreThan};
+ghost use Rattle.hashbag_ops.specs.Lacked.{HasRoomForAll, HasRoomForLacked, HasMoreThanLackedBy};
 ghost use Rattle.hashbag_ops.specs.Unions.{IsUnion};
 
 use hashbag_core::{BagError, HashBag, Spare};
@@ -60,7 +60,7 @@ pub fn merge<T: Eq + Hash + Drop, S: BuildHasher + Drop, S2: BuildHasher + Drop>
     ensures too_many { (result ≡ Err BagError.TooMany) ↔ (into.old.most < length into.old.items + length from.items) }
     ensures only_memory { length into.old.items + length from.items ≤ into.old.most → IfErr result (λ e. e ≡ BagError.Memory) }
     ensures full { result ≡ Err BagError.Memory → room into.old.tables < distinct_count T.eq from.items }
-    ensures lacks { result ≡ Err BagError.Memory → LacksMoreThan T.eq (room into.old.tables) from.items into.old.items }
+    ensures lacks { result ≡ Err BagError.Memory → HasMoreThanLackedBy T.eq (room into.old.tables) from.items into.old.items }
 
     // There are no fewer slots. If there was room for the values that `into` lacked, no table was built.
     ensures slots { OnOk result (length into.old.tables.newer ≤ length into.new.tables.newer) }
@@ -99,7 +99,7 @@ fn insert_beside_spare<T: Eq + Hash + Drop, S: BuildHasher + Drop, S2: BuildHash
     spare: Spare<T>,
 )
     requires fits { length into.old.items + length from.items ≤ into.old.most }
-    requires enough { distinct_count T.eq into.old.items + distinct_count T.eq from.items ≤ limit spare }
+    requires enough { distinct_count T.eq into.old.items + distinct_count T.eq from.items ≤ most_used spare }
     requires larger { length into.old.tables.newer ≤ spare }
     ensures counts { (v : T) → count T.eq v into.new.items ≡ count T.eq v into.old.items + count T.eq v from.items }
     ensures len { length into.new.items ≡ length into.old.items + length from.items }
@@ -135,7 +135,7 @@ fn make_room<T: Eq + Hash + Drop, S: BuildHasher + Drop, S2: BuildHasher + Drop>
     ensures err { OnErr result (into.new ≡ into.old) }
     ensures memory { IfErr result (λ e. e ≡ BagError.Memory) }
     ensures full { OnErr result (room into.old.tables < distinct_count T.eq from.now.items) }
-    ensures lacks { OnErr result (LacksMoreThan T.eq (room into.old.tables) from.now.items into.old.items) }
+    ensures lacks { OnErr result (HasMoreThanLackedBy T.eq (room into.old.tables) from.now.items into.old.items) }
     ensures slots { length into.old.tables.newer ≤ length into.new.tables.newer }
     ensures enough { (W : _) → IsSetWalkOf T.eq from.now W → HasRoomForAll T.eq W into.old.items into.old.tables → into.new ≡ into.old }
 {

@@ -6,7 +6,7 @@ use Rattle.std.specs.List.Sorted.{IsPermutation}
 use Rattle.std.proofs.lemmas.Bool.{cases_lt}
 use Rattle.std.proofs.lemmas.List.Folds.{list_any-append}
 use Rattle.hashbag_table.specs.Slots.{IsSlotCount, live_count, removed_count}
-use Rattle.hashbag_table.specs.Tables.{Tables, limit, room, values, grown_slots}
+use Rattle.hashbag_table.specs.Tables.{Tables, most_used, room, values, grown_slots}
 use Rattle.hashbag_table.proofs.RoomLemmas.{slot_count_least, grown_none, grown_same, grown_double}
 use Rattle.std.proofs.lemmas.List.{length-append, append-nil}
 use Rattle.std.proofs.lemmas.List.Sorted.{IsPermutation-refl}
@@ -59,28 +59,28 @@ pub record Pays (a b N r : ℕ) : Type 0 where
   pub spare : 3 * b + 6 * N ≤ 48 + 16 * (a + r)
   pub start : N ≡ 0 → b ≡ 0
 
-pays_grown : (a b N s m r : ℕ) → IsSlotCount N → s ≤ limit N → Pays a b N 0 → m ≡ grown_slots N s → r ≡ limit m - s - 1 → Pays (a + 1) (b + m) m r
+pays_grown : (a b N s m r : ℕ) → IsSlotCount N → s ≤ most_used N → Pays a b N 0 → m ≡ grown_slots N s → r ≡ most_used m - s - 1 → Pays (a + 1) (b + m) m r
 pays_grown a b N s m r count fits h is left =
     let x = h.few in let y = h.spare in
     elim (slot_count_least N count) [
       | inl none ↦
           let g = is ∙ grown_none N s none in
           let z = h.start none in
-          let l : limit m ≡ 12 = ap limit g in
-          let k : limit N ≡ 0 = ap limit none in
+          let l : most_used m ≡ 12 = ap most_used g in
+          let k : most_used N ≡ 0 = ap most_used none in
           record { few = omega (arith, g, z); spare = omega (arith, g, z, l, k, fits, left); start = λ no. absurd (omega (arith, g, no)) }
       | inr some ↦ elim (cases_lt (3 * N) (8 * s)) [
         | inl many ↦
             let g = is ∙ grown_double N s (omega (arith, some)) many in
             let four = in_fours N count in
-            let l : limit m ≡ 6 * four.0 = let e = four.1 in let q : m ≡ 8 * four.0 = omega (arith, g, e) in omega (arith, q) in
-            let k : limit N ≡ 3 * four.0 = let e = four.1 in omega (arith, e) in
+            let l : most_used m ≡ 6 * four.0 = let e = four.1 in let q : m ≡ 8 * four.0 = omega (arith, g, e) in omega (arith, q) in
+            let k : most_used N ≡ 3 * four.0 = let e = four.1 in omega (arith, e) in
             let e = four.1 in
             record { few = omega (arith, g, y); spare = omega (arith, g, y, l, k, e, fits, left); start = λ no. absurd (omega (arith, g, some, no)) }
         | inr few ↦
             let g = is ∙ grown_same N s (omega (arith, some)) few in
             let four = in_fours N count in
-            let l : limit m ≡ 3 * four.0 = let e = four.1 in let q : m ≡ 4 * four.0 = omega (arith, g, e) in omega (arith, q) in
+            let l : most_used m ≡ 3 * four.0 = let e = four.1 in let q : m ≡ 4 * four.0 = omega (arith, g, e) in omega (arith, q) in
             let e = four.1 in
             record { few = omega (arith, g, y); spare = omega (arith, g, y, l, e, few, some, left); start = λ no. absurd (omega (arith, g, some, no)) }
       ]
@@ -113,11 +113,11 @@ module _ {T : Type 0} (eq : T → T → Bool) where
   pub record IsShaped (items : List T) (t : Tables T) : Type 0 where
     pub count : IsSlotCount (length t.newer)
     pub known : values t ≡ distinct_count eq items
-    pub fits : values t ≤ limit (length t.newer)
+    pub fits : values t ≤ most_used (length t.newer)
     pub smaller : 0 < length t.waiting → length t.waiting + 16 ≤ length t.newer
 
   -- from what `slots` answers, n, and `waiting`, w
-  pub shaped_by : (n w : ℕ) (items : List T) (t : Tables T) → n ≡ length t.newer → IsSlotCount n → values t ≡ distinct_count eq items → live_count t.newer + removed_count t.newer + live_count t.waiting ≤ limit (length t.newer)
+  pub shaped_by : (n w : ℕ) (items : List T) (t : Tables T) → n ≡ length t.newer → IsSlotCount n → values t ≡ distinct_count eq items → live_count t.newer + removed_count t.newer + live_count t.waiting ≤ most_used (length t.newer)
       → w ≡ length t.waiting → (0 < w → w + 16 ≤ length t.newer) → IsShaped items t
   shaped_by n w items t slots count known fits waiting smaller = record { count = subst (λ m. IsSlotCount m) slots count; known = known; fits = omega (arith, fits); smaller = smaller_by w t waiting smaller }
 

@@ -9,7 +9,7 @@ use Rattle.std.proofs.lemmas.List.Sorted.{IsPermutation-refl}
 use Rattle.hashbag_table.specs.SlotWords.{Slot, Empty, Removed, Moved, Live}
 use Rattle.hashbag_table.specs.Slots.{is_live, is_removed, live_count, removed_count, recounted}
 use Rattle.hashbag_table.specs.Retained.{slot_kept, RetainsSlots, RetainsTables}
-use Rattle.hashbag_table.specs.Tables.{Tables, limit, room, values, grown_slots, Arrives, KeepsRoom}
+use Rattle.hashbag_table.specs.Tables.{Tables, most_used, room, values, grown_slots, Arrives, KeepsRoom}
 use Rattle.hashbag_table.proofs.RoomKeptLemmas.{IsTaken, kept_Rewrites, keeps_as, keeps_more, keeps_Arrives}
 use Rattle.hashbag_core.specs.Held.{left_in}
 use Rattle.hashbag_core.specs.Occurrences.{count}
@@ -24,7 +24,7 @@ module _ {T : Type 0} where
   -- a new table took the place of one that had no room, for one value more
   pub record Outgrows (old new : Tables T) : Type 0 where
     pub slots : length new.newer ≡ grown_slots (length old.newer) (values old)
-    pub room : room new ≡ limit (length new.newer) - values old - 1
+    pub room : room new ≡ most_used (length new.newer) - values old - 1
     pub built : new.built ≡ old.built + length new.newer
 
   -- k values came: into the slots that there were, or the one value that came for which there was no room into a new table
@@ -102,7 +102,7 @@ module _ {T : Type 0} where
   kept_retained : (old new : Tables T) → RetainsTables old new → KeepsRoom 0 old new
   kept_retained old new h =
       let long = h.newer.same_length in
-      let same : limit (length new.newer) ≡ limit (length old.newer) = ap limit long in
+      let same : most_used (length new.newer) ≡ most_used (length old.newer) = ap most_used long in
       let a = counts_kept old.newer new.newer h.newer in let b = counts_kept old.waiting new.waiting h.waiting in
       record { slots = long; room = omega (arith, same, a, b); built = h.built }
 

@@ -56,7 +56,8 @@ pub record IsNextGroup (ts : List ℕ) (pass from : ℕ) (group : ℕ × ℕ) : 
   pub mask : IsMaskOf (λ p. nat_le 128 (tag_at ts p)) group.0 (group.0 + 16) group.1
   pub none : (p : ℕ) → from ≤ p → p < group.0 → pass_of p ≡ pass → tag_at ts p < 128
 
--- the bits of a course show which of the 16 slots below `until`, all of them of its pass, are Live and not before `next`
+-- a course has a bit in `ahead` for each of the 16 slots that end before `until`, all of them of its pass: the bit is set if the slot is Live and
+-- isn't before `next`
 pub record IsCourse (newer older : List ℕ) (c : Course) : Type 0 where
   pub mask : IsMaskFrom (λ p. nat_le 128 (tag_at (of_turn c.turn newer older) p)) (c.until - 16) c.next c.until c.ahead
   pub whole : 0 < c.ahead → 16 ≤ c.until

@@ -13,7 +13,8 @@ use std::alloc::{AllocError, Global};
 use std::marker::Model;
 use std_alloc::room::may_hold;
 
-/// Where cells are: nowhere, in a block that wasn't written yet, or in a `Row`. The block becomes a row with the first value.
+/// Where cells are: nowhere, in a block that wasn't written yet, with the right to free it (its deed), or in a `Row`. The block becomes a row
+/// with the first value.
 pub enum Store<T> {
     Nothing,
     Unwritten(Block<T>, Deed<T, Global>),

@@ -81,6 +81,7 @@ fn live_group(tags: &[u8], pass: usize, from: usize) -> Option<(usize, u64)>
     }
     let count = tags.len();
     let block = from / BLOCK;
+    // Computed modulo `PASSES`: `pass - block`, how many blocks come before the next one of this pass.
     let skipped = (pass + (PASSES - 1) * block) % PASSES;
     let mut at = if skipped == 0 {
         from

@@ -1,7 +1,7 @@
 //! Probes along the path of a hash: where a value is, and the first slot that is free for one.
 //!
 //! A path begins at the hash modulo the number of slots, has the slots in turn, and has slot 0 after the last one. A probe reads tags,
-//! sixteen at once, and a cell only if the tag is the mark of its own hash. If hashes are spread evenly, one in 128 of the other values on
+//! sixteen at once, and a cell only if its tag is the mark of that hash. If hashes are spread evenly, one in 128 of the other values on
 //! the path has the same mark.
 //!
 //! In clauses `hash_under ..` is the hash under the state, `HoldsAt` says that a place has the value that the key names, and `IsAbsent` that

@@ -15,7 +15,7 @@ use Rattle.hashbag_slots.proofs.Edits.{count-set, set_cases}
 use Rattle.hashbag_slots.proofs.Tables.{within_table}
 use Rattle.hashbag_slots.proofs.Carrying.{length-Places, live-Places, IsAbsent-Places}
 use Rattle.hashbag_table.specs.Entries.{IsCounted}
-use Rattle.hashbag_table.specs.Tables.{limit, Tables, Fills, room_of, entries_of, AreTables, IsTables, MayAdopt, Carried, Roomy, room, values, fresh, grown_slots, IsReady, Arrives}
+use Rattle.hashbag_table.specs.Tables.{most_used, Tables, Fills, room_of, entries_of, AreTables, IsTables, MayAdopt, Carried, Roomy, room, values, fresh, grown_slots, IsReady, Arrives}
 use Rattle.hashbag_table.proofs.EntryLemmas.{counted_rearranged}
 use Rattle.hashbag_slots.proofs.Tables.{slot_at-replicate}
 use Rattle.hashbag_table.proofs.UnmovedLemmas.{unmoved_blank, unmoved_filled}
@@ -156,7 +156,7 @@ module _ {T : Type 0} (eq : T → T → Bool) (hash : T → ℕ) (newer older ne
     unmoved = unmoved_filled _ newer.slots newer1.slots (Fills-PlacesAll hash _ newer.slots newer1.slots placed) tables.unmoved;
     carried_within = let same = left.same_length in omega (arith, within, same);
     carried_slots_dead = dead;
-    fits = let k = kept_after in let f = tables.fits in let l : limit (length newer1.slots) ≡ limit (length newer.slots) = ap limit slots in omega (arith, k, f, l, removed);
+    fits = let k = kept_after in let f = tables.fits in let l : most_used (length newer1.slots) ≡ most_used (length newer.slots) = ap most_used slots in omega (arith, k, f, l, removed);
   }
 
   waiting_after : (most : ℕ) → many ≡ min (length older.slots - carried_to) most → drop (carried_to + many) older1.slots ≡ drop most (drop carried_to older.slots)
@@ -214,7 +214,7 @@ module _ {T : Type 0} (eq : T → T → Bool) (hash : T → ℕ) where
 
   pub room_carried : (k : ℕ) (newer waiting newer1 waiting1 : List (Slot T)) → Carried k newer waiting newer1 waiting1 → room_of newer waiting ≤ room_of newer1 waiting1
   room_carried k newer waiting newer1 waiting1 h =
-      let l : limit (length newer1) ≡ limit (length newer) = ap limit h.fills.same_length in
+      let l : most_used (length newer1) ≡ most_used (length newer) = ap most_used h.fills.same_length in
       let a = h.live in let b = h.removed in omega (arith, l, a, b)
 
   -- a carry keeps what holds between two calls
@@ -323,7 +323,7 @@ module _ {T : Type 0} (eq : T → T → Bool) (hash : T → ℕ) (newer fresh : 
 -- a table of Empty slots with room enough takes the place of one that is full
 module _ {T : Type 0} (eq : T → T → Bool) (hash : T → ℕ) (newer fresh : Columns T) (counted : IsCounted eq (entries newer.slots)) (empty : fresh.slots ≡ replicate (length fresh.slots) Empty) (reached : IsReached hash fresh)
     (roomy : Roomy (length newer.slots) (live_count newer.slots) (length fresh.slots)) where
-  room_fresh : room_of fresh.slots newer.slots ≡ limit (length fresh.slots) - live_count newer.slots
+  room_fresh : room_of fresh.slots newer.slots ≡ most_used (length fresh.slots) - live_count newer.slots
   room_fresh = let a = live_fresh fresh.slots empty in let b = removed_fresh fresh.slots empty in omega (arith, a, b)
 
   pub may_grow : MayAdopt eq hash fresh newer.slots 16
@@ -374,7 +374,7 @@ module _ {T : Type 0} (eq : T → T → Bool) (laws : IsEquivalence eq) (hash : 
         let live = live-Places v n newer.slots newer1.slots put in
         let fewer = removed-Places v n newer.slots newer1.slots put in
         let len = length-Places v n newer.slots newer1.slots put in
-        let limits : limit (length newer1.slots) ≡ limit (length newer.slots) = ap limit len in
+        let limits : most_used (length newer1.slots) ≡ most_used (length newer.slots) = ap most_used len in
         record {
           tables = record {
             newer_reached = reached;
@@ -433,14 +433,14 @@ module _ {T : Type 0} (old mid new : Tables T) where
       let live = live-Places v n mid.newer new.newer put in
       let fewer = removed-Places v n mid.newer new.newer put in
       let len = length-Places v n mid.newer new.newer put in
-      let limits : limit (length new.newer) ≡ limit (length mid.newer) = ap limit len in
+      let limits : most_used (length new.newer) ≡ most_used (length mid.newer) = ap most_used len in
       let waits : live_count new.waiting ≡ live_count mid.waiting = ap live_count same in
       record {
         with_room = λ pos. let h = ready.with_room pos in record { fills = Fills-then 16 1 old.newer mid.newer new.newer h.fills (Fills-Places v n mid.newer new.newer put); waits = same ∙ h.waits };
         grown = λ none. let h = (ready.grown none).0 in record { fills = Fills-then 16 1 (fresh old) mid.newer new.newer h.fills (Fills-Places v n mid.newer new.newer put); waits = same ∙ h.waits };
         room_kept = λ pos.
             let h = ready.with_room pos in
-            let l : limit (length mid.newer) ≡ limit (length old.newer) = ap limit h.fills.same_length in
+            let l : most_used (length mid.newer) ≡ most_used (length old.newer) = ap most_used h.fills.same_length in
             let a = h.live in let b = h.removed in omega (arith, l, a, b, live, fewer, limits, waits);
         room_grown = λ none.
             let h = (ready.grown none).0 in

@@ -13,7 +13,7 @@ use Rattle.hashbag_slots.specs.Columns.{Columns, IsReached}
 use Rattle.hashbag_table.specs.Asked.{MayAskInTurn, AnswersInTurn, Retains, kept}
 use Rattle.hashbag_table.specs.Entries.{IsCounted, total}
 use Rattle.hashbag_table.specs.Retained.{RetainsFrom}
-use Rattle.hashbag_table.specs.Tables.{limit, room_of, entries_of, AreTables, IsTables}
+use Rattle.hashbag_table.specs.Tables.{most_used, room_of, entries_of, AreTables, IsTables}
 use Rattle.hashbag_table.proofs.AskedLemmas.{total_kept, positive_kept}
 use Rattle.hashbag_table.proofs.ListLemmas.{IsPermutation-same}
 use Rattle.hashbag_table.proofs.RetainLemmas.{answers_left, counts_left, retained_live, retained_moved, retained_absent}
@@ -124,7 +124,7 @@ module _ {F T : Type 0} (g : Mut F (Bor T × (ℕ × Unit {0})) ℕ) where
     room_left =
         let a = counts_left g f f1 newer.slots newer1.slots first.left in let x = a.0 in
         let b = counts_left g f1 f2 (drop carried_to older.slots) (drop carried_to older1.slots) second.left in let y = b.1 in
-        let l : limit (length newer1.slots) ≡ limit (length newer.slots) = ap limit first.same_length in
+        let l : most_used (length newer1.slots) ≡ most_used (length newer.slots) = ap most_used first.same_length in
         omega (arith, x, y, l)
 
     -- two tables stay two tables
@@ -142,7 +142,7 @@ module _ {F T : Type 0} (g : Mut F (Bor T × (ℕ × Unit {0})) ℕ) where
         fits =
             let a = counts_left g f f1 newer.slots newer1.slots first.left in let x = a.0 in
             let b = counts_left g f1 f2 (drop carried_to older.slots) (drop carried_to older1.slots) second.left in let y = b.1 in
-            let l : limit (length newer1.slots) ≡ limit (length newer.slots) = ap limit first.same_length in
+            let l : most_used (length newer1.slots) ≡ most_used (length newer.slots) = ap most_used first.same_length in
             let t = before.tables.fits in omega (arith, x, y, l, t);
       }
 

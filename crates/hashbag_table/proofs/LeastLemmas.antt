@@ -5,23 +5,23 @@ use Rattle.std.proofs.lemmas.Bool.{cases_lt}
 use Rattle.hashbag_slots.specs.Slots.{IsSlotCount}
 use Rattle.hashbag_slots.proofs.Paths.{count_bound}
 use Rattle.hashbag_table.specs.declared.table.TheConstants.{MOST_VALUES}
-use Rattle.hashbag_table.specs.Tables.{limit, IsLeast}
+use Rattle.hashbag_table.specs.Tables.{most_used, IsLeast}
 use Rattle.hashbag_table.proofs.RoomLemmas.{slot_count_least}
 
 -- ---- limits
 
 -- three quarters of the greatest number of slots
-pub limit_most : limit (2 ^ 59) ≡ MOST_VALUES
+pub limit_most : most_used (2 ^ 59) ≡ MOST_VALUES
 limit_most = refl
 
-pub limit_mono : (m n : ℕ) → m ≤ n → limit m ≤ limit n
+pub limit_mono : (m n : ℕ) → m ≤ n → most_used m ≤ most_used n
 limit_mono m n le = omega arith
 
-pub limit_few : (n : ℕ) → limit n ≤ n
+pub limit_few : (n : ℕ) → most_used n ≤ n
 limit_few n = omega arith
 
--- every number of slots has its limit within that of the greatest
-pub limit_bound : (n : ℕ) → IsSlotCount n → limit n ≤ MOST_VALUES
+-- no number of slots has room for more values than the greatest
+pub limit_bound : (n : ℕ) → IsSlotCount n → most_used n ≤ MOST_VALUES
 limit_bound n c = let m = limit_mono n (2 ^ 59) (count_bound n c) in let e = limit_most in omega (arith, m, e)
 
 -- ---- the next number of slots
@@ -51,13 +51,13 @@ slot_count_first m d pos = elim (slot_count_least m d) [
 
 -- every number of slots, from n on, of which k may be Live, is at least m
 pub record Below (n k m : ℕ) : Type 0 where
-  pub at : (other : ℕ) → IsSlotCount other → n ≤ other → k ≤ limit other → m ≤ other
+  pub at : (other : ℕ) → IsSlotCount other → n ≤ other → k ≤ most_used other → m ≤ other
 
 -- where m is too small, the number that follows it is below every answer too
-pub below_first : (n k m : ℕ) → m ≡ 0 → limit m < k → Below n k 16
+pub below_first : (n k m : ℕ) → m ≡ 0 → most_used m < k → Below n k 16
 below_first n k m none short = record { at = λ other c le enough. slot_count_first other c (omega arith) }
 
-pub below_double : (n k m : ℕ) → IsSlotCount m → 0 < m → limit m < k → Below n k m → Below n k (2 * m)
+pub below_double : (n k m : ℕ) → IsSlotCount m → 0 < m → most_used m < k → Below n k m → Below n k (2 * m)
 below_double n k m c pos short below = record {
   at = λ other d le enough.
       let b = below.at other d le enough in
@@ -67,7 +67,7 @@ below_double n k m c pos short below = record {
       ];
 }
 
-pub least_from : (n k m : ℕ) → IsSlotCount m → n ≤ m → k ≤ limit m → Below n k m → IsLeast n k m
+pub least_from : (n k m : ℕ) → IsSlotCount m → n ≤ m → k ≤ most_used m → Below n k m → IsLeast n k m
 least_from n k m c le enough below = record { count = c; from = le; enough = enough; least = below.at }
 
 -- ---- what the least number is

@@ -13,7 +13,7 @@ use Rattle.hashbag_slots.specs.Slots.{is_live, holds, live_count, removed_count,
 use Rattle.hashbag_slots.specs.Columns.{Columns, IsReached}
 use Rattle.hashbag_slots.proofs.Tables.{within_table, slot_at-replicate}
 use Rattle.hashbag_table.specs.Entries.{IsCounted}
-use Rattle.hashbag_table.specs.Tables.{limit, Tables, values, entries_of, IsTables, IsPacked, MayAdopt, Carried}
+use Rattle.hashbag_table.specs.Tables.{most_used, Tables, values, entries_of, IsTables, IsPacked, MayAdopt, Carried}
 use Rattle.hashbag_table.proofs.CarryLemmas.{Fills-PlacesAll, live_fresh, removed_fresh, entries_fresh}
 use Rattle.hashbag_table.proofs.EntryLemmas.{counted_rearranged}
 use Rattle.hashbag_table.proofs.LeastLemmas.{limit_few}
@@ -65,7 +65,7 @@ module _ {T : Type 0} (eq : T → T → Bool) (laws : IsEquivalence eq) where
 -- the values that wait move into a table of Empty slots in which all have room
 module _ {T : Type 0} (eq : T → T → Bool) (laws : IsEquivalence eq) (hash : T → ℕ) (newer older blank : Columns T) (carried_to many : ℕ)
     (before : IsTables eq hash newer older carried_to) (empty : blank.slots ≡ replicate (length blank.slots) Empty) (all : carried_to + many ≡ length older.slots)
-    (enough : length (entries_of newer.slots (drop carried_to older.slots)) ≤ limit (length blank.slots)) where
+    (enough : length (entries_of newer.slots (drop carried_to older.slots)) ≤ most_used (length blank.slots)) where
   pub apart_blank : AreApart eq older.slots blank.slots
   apart_blank p v n here q lt = ap (λ ss. holds (eq v) (slot_at ss q)) empty ∙ ap (holds (eq v)) (slot_at-replicate (length blank.slots) q)
 
@@ -109,7 +109,7 @@ module _ {T : Type 0} (eq : T → T → Bool) (laws : IsEquivalence eq) (hash : 
     pub may_pack : (k : ℕ) → length newer.slots ≤ k → MayAdopt eq hash blank1 newer.slots k
     may_pack k most =
         let live = live_beside in let none = none_removed in let sum = all_values in
-        let limits : limit (length blank1.slots) ≡ limit (length blank.slots) = ap limit slots in
+        let limits : most_used (length blank1.slots) ≡ most_used (length blank.slots) = ap most_used slots in
         record {
           reached = reached;
           apart = apart_counted eq laws blank1.slots newer.slots counted_beside;

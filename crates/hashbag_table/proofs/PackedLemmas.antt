@@ -5,7 +5,7 @@ use Rattle.std.proofs.lemmas.List.Sums.{sum_by-cons}
 use Rattle.hashbag_slots.specs.declared.slots.Slot.{Slot}
 use Rattle.hashbag_slots.specs.declared.slots.Slot.TheVariants.{Empty, Removed, Moved, Live}
 use Rattle.hashbag_slots.specs.Slots.{is_live, is_removed, live_count, removed_count, slot_at}
-use Rattle.hashbag_table.specs.Tables.{limit, Tables, Fills, Arrives, IsPacked, room}
+use Rattle.hashbag_table.specs.Tables.{most_used, Tables, Fills, Arrives, IsPacked, room}
 use Rattle.hashbag_table.proofs.CarryLemmas.{live_fresh, removed_fresh}
 
 abbrev one_if : Bool → ℕ
@@ -58,7 +58,7 @@ module _ {T : Type 0} where
     pub slots : length t.newer ≡ length first.newer
     pub waiting : t.waiting ≡ []
     pub removed : removed_count t.newer ≡ 0
-    pub room : limit (length first.newer) ≤ room t + k
+    pub room : most_used (length first.newer) ≤ room t + k
     pub built : t.built ≡ first.built
 
   pub filled_first : (t : Tables T) → t.newer ≡ replicate (length t.newer) Empty → IsPacked t → IsFilled t t 0
@@ -70,8 +70,8 @@ module _ {T : Type 0} where
     built = refl;
   }
 
-  -- while fewer came than its limit, there is room for another
-  pub filled_next : (t u first : Tables T) (k : ℕ) → IsFilled t first k → k < limit (length first.newer) → Arrives t u → IsFilled u first (k + 1)
+  -- while fewer came than may be used, there is room for another
+  pub filled_next : (t u first : Tables T) (k : ℕ) → IsFilled t first k → k < most_used (length first.newer) → Arrives t u → IsFilled u first (k + 1)
   filled_next t u first k before more came =
       let some : 0 < room t = let r = before.room in omega (arith, r, more) in
       let kept = came.with_room some in

@@ -6,7 +6,7 @@ use Rattle.hashbag_slots.specs.declared.slots.Slot.TheVariants.{Live}
 use Rattle.hashbag_slots.specs.Slots.{is_live, is_removed, live_count, removed_count, slot_at}
 use Rattle.hashbag_slots.proofs.Edits.{count-set}
 use Rattle.hashbag_slots.proofs.Probing.{holder}
-use Rattle.hashbag_table.specs.Tables.{Tables, limit, room, slot_in, HoldsIn, Writes, Rewrites, Arrives, KeepsRoom}
+use Rattle.hashbag_table.specs.Tables.{Tables, most_used, room, slot_in, HoldsIn, Writes, Rewrites, Arrives, KeepsRoom}
 use Rattle.hashbag_table.specs.declared.table.Spot.{Spot}
 use Rattle.hashbag_table.specs.declared.table.Spot.TheVariants.{Newer, Waiting}
 
@@ -15,7 +15,7 @@ abbrev one_if : Bool → ℕ
 one_if b = cond b 1 0
 
 module _ {T : Type 0} where
-  -- the slot counts against the limit: it is Live or Removed
+  -- the slot counts as used: it is Live or Removed
   abbrev pub IsTaken : Slot T → Type 0
   IsTaken s = one_if (is_live s) + one_if (is_removed s) ≡ 1
 
@@ -36,7 +36,7 @@ module _ {T : Type 0} where
     pub kept_newer : (old new : Tables T) → old.newer ≡ ss → new.newer ≡ slice_set ss p s → new.waiting ≡ old.waiting → new.built ≡ old.built → KeepsRoom 0 old new
     kept_newer old new here now same built =
         let len : length new.newer ≡ length old.newer = ap length now ∙ length-set ss p s ∙ ap length (sym here) in
-        let lim : limit (length new.newer) ≡ limit (length old.newer) = ap limit len in
+        let lim : most_used (length new.newer) ≡ most_used (length old.newer) = ap most_used len in
         let a : live_count new.newer ≡ live_count (slice_set ss p s) = ap live_count now in let b : removed_count new.newer ≡ removed_count (slice_set ss p s) = ap removed_count now in
         let c : live_count old.newer ≡ live_count ss = ap live_count here in let d : removed_count old.newer ≡ removed_count ss = ap removed_count here in
         let e : live_count new.waiting ≡ live_count old.waiting = ap live_count same in
@@ -48,7 +48,7 @@ module _ {T : Type 0} where
         let a : live_count new.waiting ≡ live_count (slice_set ss p s) = ap live_count now in
         let b : live_count old.waiting ≡ live_count ss = ap live_count here in
         let c : live_count new.newer ≡ live_count old.newer = ap live_count same in let d : removed_count new.newer ≡ removed_count old.newer = ap removed_count same in
-        let lim : limit (length new.newer) ≡ limit (length old.newer) = ap (λ l. limit (length l)) same in
+        let lim : most_used (length new.newer) ≡ most_used (length old.newer) = ap (λ l. most_used (length l)) same in
         let fewer = no_more_live in
         record { slots = ap length same; room = omega (arith, lim, a, b, c, d, fewer); built = built }
 

@@ -4,7 +4,7 @@ use Rattle.hashbag_slots.specs.Slots.{IsSlotCount}
 use lib.Pow.{pow_mono}
 use Rattle.std.proofs.lemmas.Bool.{cases_lt}
 use Rattle.std.proofs.lemmas.Bool.{ne_eqb, le-leb, lt-leb}
-use Rattle.hashbag_table.specs.Tables.{limit, grown_slots, Roomy}
+use Rattle.hashbag_table.specs.Tables.{most_used, grown_slots, Roomy}
 
 pub IsSlotCount-16 : IsSlotCount 16
 IsSlotCount-16 = inr (4, omega arith, omega arith, refl)
@@ -38,7 +38,7 @@ grown_double n s pos many =
 pub Roomy_at : (n s m k : ℕ) → m ≡ k → Roomy n s k → Roomy n s m
 Roomy_at n s m k e h = subst (Roomy n s) (sym e) h
 
-pub grown_room : (n s : ℕ) → IsSlotCount n → s ≤ limit n → Roomy n s (grown_slots n s)
+pub grown_room : (n s : ℕ) → IsSlotCount n → s ≤ most_used n → Roomy n s (grown_slots n s)
 grown_room n s c le = elim (slot_count_least n c) [
   | inl z ↦ Roomy_at n s _ _ (grown_none n s z) (record { some = omega arith; carries = omega arith; smaller = omega arith })
   | inr ge ↦ elim (cases_lt (3 * n) (8 * s)) [

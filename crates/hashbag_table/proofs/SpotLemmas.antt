@@ -18,7 +18,7 @@ use Rattle.hashbag_slots.proofs.Writing.{set_twice}
 use Rattle.hashbag_slots.proofs.Tables.{within_table}
 use Rattle.hashbag_slots.proofs.Probing.{holder}
 use Rattle.hashbag_table.specs.Entries.{IsCounted, with_count, without, with_fewer, with_instance, count_of}
-use Rattle.hashbag_table.specs.Tables.{limit, Tables, NoneMoved, entries_of, IsTables, Swaps, HoldsIn, slot_in}
+use Rattle.hashbag_table.specs.Tables.{most_used, Tables, NoneMoved, entries_of, IsTables, Swaps, HoldsIn, slot_in}
 use Rattle.hashbag_table.specs.declared.table.Spot.{Spot}
 use Rattle.hashbag_table.specs.declared.table.Spot.TheVariants.{Newer, Waiting}
 use Rattle.hashbag_table.proofs.EntryLemmas.{counted_rearranged, stored-present, lookup-entry, with_fewer-some, with_fewer-all, without_absent, with_count-absent}
@@ -151,7 +151,7 @@ module _ {T : Type 0} (eq : T → T → Bool) (hash : T → ℕ) (newer older : 
         let was_kept : one_if (is_removed (slot_at newer.slots p)) ≡ 0 = ap (λ x. one_if (is_removed x)) was in
         let x : live_count newer1.slots ≡ live_count (slice_set newer.slots p s) = ap live_count now in let y : removed_count newer1.slots ≡ removed_count (slice_set newer.slots p s) = ap removed_count now in
         let sum : live_count newer1.slots + removed_count newer1.slots ≡ live_count newer.slots + removed_count newer.slots = omega (arith, a, b, was_live, was_kept, x, y, used) in
-        let limits : limit (length newer1.slots) ≡ limit (length newer.slots) = ap limit len in
+        let limits : most_used (length newer1.slots) ≡ most_used (length newer.slots) = ap most_used len in
         record {
           tables = record {
             newer_reached = reached;

@@ -6,7 +6,7 @@ use lib.Pow.{pow_mono}
 use Rattle.hashbag_slots.specs.declared.slots.Slot.{Slot}
 use Rattle.hashbag_slots.specs.declared.slots.Slot.TheVariants.{Empty, Removed, Live}
 use Rattle.hashbag_table.specs.declared.table.Spot.TheVariants.{Newer, Waiting}
-use Rattle.hashbag_table.specs.Tables.{limit, grown_slots, IsLeast, Tables, room, values, entries_of, slot_in, entry_in, IsPacked, fresh}
+use Rattle.hashbag_table.specs.Tables.{most_used, grown_slots, IsLeast, Tables, room, values, entries_of, slot_in, entry_in, IsPacked, fresh}
 
 -- 32 slots of the newer table, one Live and one Removed; and 16 of the older one, of which the last two still wait
 abbrev newer : List (Slot ℕ)
@@ -20,16 +20,16 @@ tables = record { newer = newer; waiting = waiting; older = 16; built = 48 }
 
 -- ---- numbers of slots
 
-no_slots : limit 0 ≡ 0
+no_slots : most_used 0 ≡ 0
 no_slots = refl
 
-limit_of_16 : limit 16 ≡ 12
+limit_of_16 : most_used 16 ≡ 12
 limit_of_16 = refl
 
-limit_of_32 : limit 32 ≡ 24
+limit_of_32 : most_used 32 ≡ 24
 limit_of_32 = refl
 
-limit_of_the_greatest : limit (2 ^ 59) ≡ 432345564227567616
+limit_of_the_greatest : most_used (2 ^ 59) ≡ 432345564227567616
 limit_of_the_greatest = refl
 
 first_growth : grown_slots 0 0 ≡ 16
@@ -64,7 +64,7 @@ least_for_12 = record {
 }
 
 -- if 2^j slots are too few, and twice as many are enough
-twice : (j k : ℕ) → 4 ≤ j → j < 59 → limit (2 ^ j) < k → k ≤ limit (2 ^ suc j) → IsLeast 0 k (2 ^ suc j)
+twice : (j k : ℕ) → 4 ≤ j → j < 59 → most_used (2 ^ j) < k → k ≤ most_used (2 ^ suc j) → IsLeast 0 k (2 ^ suc j)
 twice j k low high short long = record {
   count = inr (suc j, omega (arith, low), omega (arith, high), refl);
   from = omega arith;

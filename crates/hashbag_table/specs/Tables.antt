@@ -9,8 +9,8 @@ use Rattle.hashbag_table.specs.declared.table.Spot.{Spot}
 use Rattle.hashbag_table.specs.declared.table.Spot.TheVariants.{Newer, Waiting}
 use Rattle.hashbag_table.specs.Entries.{IsCounted}
 
--- the slots of the newer table in place order; those of the older one that wait to be carried; how many slots the older one has; and how
--- many slots all newer tables so far had
+-- the slots of the newer table in place order; those of the older one that wait to be carried; `older`, how many
+-- slots the older one has; and `built`, how many slots all newer tables so far had
 pub record Tables (T : Type 0) : Type 0 where
   pub newer : List (Slot T)
   pub waiting : List (Slot T)
@@ -18,8 +18,8 @@ pub record Tables (T : Type 0) : Type 0 where
   pub built : ℕ
 
 -- how many of n slots may be Live or Removed before a table grows
-abbrev pub limit : ℕ → ℕ
-limit n = 3 * n / 4
+abbrev pub most_used : ℕ → ℕ
+most_used n = 3 * n / 4
 
 -- how many slots the new table of a growth has, if there were n slots and s distinct values
 abbrev pub grown_slots : ℕ → ℕ → ℕ
@@ -29,14 +29,14 @@ grown_slots n s = if nat_eq n 0 then 16 else if nat_le (8 * s) (3 * n) then n el
 pub record IsLeast (n k m : ℕ) : Type 0 where
   pub count : IsSlotCount m
   pub from : n ≤ m
-  pub enough : k ≤ limit m
-  pub least : (other : ℕ) → IsSlotCount other → n ≤ other → k ≤ limit other → m ≤ other
+  pub enough : k ≤ most_used m
+  pub least : (other : ℕ) → IsSlotCount other → n ≤ other → k ≤ most_used other → m ≤ other
 
 -- a table of m slots may follow one of n slots with s values: there is room, insertions carry all, 16 slots each, before the room is used
 -- up, and the former table is no larger
 pub record Roomy (n s m : ℕ) : Type 0 where
-  pub some : s < limit m
-  pub carries : n ≤ 16 * (limit m - s)
+  pub some : s < most_used m
+  pub carries : n ≤ 16 * (most_used m - s)
   pub smaller : n ≤ m
 
 module _ {T : Type 0} where
@@ -53,14 +53,14 @@ module _ {T : Type 0} where
 
   -- how many absent values may come before a growth
   abbrev pub room_of : List (Slot T) → List (Slot T) → ℕ
-  room_of newer waiting = limit (length newer) - live_count newer - removed_count newer - live_count waiting
+  room_of newer waiting = most_used (length newer) - live_count newer - removed_count newer - live_count waiting
 
   -- the map of both tables
   abbrev pub entries_of : List (Slot T) → List (Slot T) → List (T × ℕ)
   entries_of newer waiting = entries newer ++ entries waiting
 
   -- two tables, of whose older one `carried_to` slots were carried: values are found in both, none is Live in both, none was
-  -- carried out of the newer one, what was carried is not Live, and all is within the limit
+  -- carried out of the newer one, what was carried is not Live, and no more slots are used than may be
   pub record AreTables (eq : T → T → Bool) (hash : T → ℕ) (newer older : Columns T) (carried_to : ℕ) : Type 0 where
     pub newer_reached : IsReached hash newer
     pub older_reached : IsReached hash older
@@ -68,7 +68,7 @@ module _ {T : Type 0} where
     pub unmoved : NoneMoved newer.slots
     pub carried_within : carried_to ≤ length older.slots
     pub carried_slots_dead : (p : ℕ) → p < carried_to → is_live (slot_at older.slots p) ≡ false
-    pub fits : live_count newer.slots + removed_count newer.slots + live_count (drop carried_to older.slots) ≤ limit (length newer.slots)
+    pub fits : live_count newer.slots + removed_count newer.slots + live_count (drop carried_to older.slots) ≤ most_used (length newer.slots)
 
   -- what holds between two calls: what waits is at most 16 times the room, and at least 16 fewer than the newer slots; and if
   -- nothing waits, the older table has no slots
@@ -80,13 +80,13 @@ module _ {T : Type 0} where
     pub freed : length older.slots ≤ carried_to → length older.slots ≡ 0
 
   -- a table may take the place of these newer slots, `many` of which are carried at once: values are found in it, all are
-  -- within its limit, and those that wait are few enough for its room
+  -- no more used than may be, and those that wait are few enough for its room
   pub record MayAdopt (eq : T → T → Bool) (hash : T → ℕ) (newer : Columns T) (former : List (Slot T)) (many : ℕ) : Type 0 where
     pub reached : IsReached hash newer
     pub apart : AreApart eq former newer.slots
     pub unmoved : NoneMoved newer.slots
     pub counted : IsCounted eq (entries_of newer.slots former)
-    pub fits : live_count newer.slots + removed_count newer.slots + live_count former ≤ limit (length newer.slots)
+    pub fits : live_count newer.slots + removed_count newer.slots + live_count former ≤ most_used (length newer.slots)
     pub carries : length former - many ≤ 16 * room_of newer.slots former
     pub smaller : (length former ≤ many) ⊎ (16 + (length former - many) ≤ length newer.slots)
 
@@ -138,22 +138,22 @@ module _ {T : Type 0} where
   -- What an inserted absent value leaves. If there was room: at most 17 newer slots became Live, and the others are the same; the first 16
   -- waiting slots wait no more; room is at most 1 lower; no table was built. If there was none: a new table of `grown_slots` was built, of
   -- which at most 17 slots became Live, and the others are Empty. The former newer table waits, without its first 16 slots. Room is the
-  -- limit of the new table less all values.
+  -- `most_used` of the new table less all values.
   pub record Arrives (old new : Tables T) : Type 0 where
     pub with_room : 0 < room old → Settles 17 old.newer old.waiting new
     pub grown : room old ≡ 0 → Settles 17 (fresh old) old.newer new
     pub room_kept : 0 < room old → room old ≤ room new + 1
-    pub room_grown : room old ≡ 0 → room new ≡ limit (length new.newer) - values old - 1
+    pub room_grown : room old ≡ 0 → room new ≡ most_used (length new.newer) - values old - 1
     pub built : Builds old new
 
   -- the newer table has the least number of slots, from n on, of which k may be Live
   abbrev pub HasLeast : ℕ → ℕ → Tables T → Type 0
   HasLeast n k t = IsLeast n k (length t.newer)
 
-  -- one table of slots: nothing waits, and room is the limit of the table less the values
+  -- one table of slots: nothing waits, and room is `most_used` of the table less the values
   pub record IsPacked (t : Tables T) : Type 0 where
     pub waiting : t.waiting ≡ []
-    pub room : room t ≡ limit (length t.newer) - values t
+    pub room : room t ≡ most_used (length t.newer) - values t
 
   -- the least table from n slots on with room for k values took the place of both, and its slots count as built
   pub record Packs (n k : ℕ) (old new : Tables T) : Type 0 where

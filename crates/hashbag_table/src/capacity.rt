@@ -2,7 +2,7 @@
 ghost use Rattle.std.specs.Prelude.{◌≡◌, ℕ, ◌*◌, ◌<◌, ◌≤◌, ◌^◌, [], length, nat_le, replicate, IfOk, IsErr};
 ghost use Rattle.hashbag_slots.specs.Slots.{IsSlotCount};
 ghost use Rattle.hashbag_slots.specs.Columns.{IsReached};
-ghost use Rattle.hashbag_table.specs.Tables.{limit, grown_slots, IsLeast, NoneMoved};
+ghost use Rattle.hashbag_table.specs.Tables.{most_used, grown_slots, IsLeast, NoneMoved};
 
 use hashbag_slots::slots::{Slot, Slots};
 use std::alloc::{AllocError, Global};
@@ -39,14 +39,14 @@ pub fn clear_slots<T: Eq + Drop>(slots: &mut Slots<T>)
 
 /// Returns how many of `count` slots may be Live or Removed: three quarters.
 #[inline(always)]
-pub fn limit(count: usize) -> usize
+pub fn most_used(count: usize) -> usize
     requires { count ≤ 2 ^ 59 }
-    ensures { result ≡ limit count }
+    ensures { result ≡ most_used count }
 {
     3 * count / 4
 }
 
-// Returns whether at most three eighths of `count` slots are Live, so that a new table with as many slots has half of its limit left.
+// Returns whether at most three eighths of `count` slots are Live, so that a new table with as many slots has room for as many again.
 fn is_sparse(count: usize, live: usize) -> bool
     requires count { count ≤ 2 ^ 59 }
     requires live { live ≤ count }
@@ -88,10 +88,10 @@ pub fn grown_slots(count: usize, live: usize) -> Result<usize, AllocError>
 pub fn least_slots(from: usize, values: usize) -> Result<usize, AllocError>
     requires count { IsSlotCount from }
     ensures least { IfOk result (λ n. IsLeast from values n) }
-    ensures past_most { IsErr result → limit (2 ^ 59) < values }
+    ensures past_most { IsErr result → most_used (2 ^ 59) < values }
 {
     let mut count = from;
-    'count: while limit(count) < values {
+    'count: while most_used(count) < values {
         if count >= MOST_SLOTS {
             return Err(AllocError);
         }

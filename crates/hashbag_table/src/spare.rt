@@ -11,6 +11,7 @@ use std::marker::Model;
 /// Contracts see a spare as the number of its slots, all of which are Empty. Dropping a spare frees them.
 #[derive(Drop)]
 pub struct Spare<T: Eq + Drop> {
+    // The slots, to which nothing was written.
     pub(crate) blank: Blank<T>,
 }
 

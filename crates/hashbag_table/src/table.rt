@@ -17,7 +17,7 @@ ghost use Rattle.hashbag_table.specs.Named.{named_count, named_entry};
 ghost use Rattle.hashbag_table.specs.Entries.{entry_of, count_of, without, with_count, with_fewer, with_instance, total, IsCounted};
 ghost use Rattle.hashbag_table.specs.Retained.{RetainsTables};
 ghost use Rattle.hashbag_table.specs.Table.{IsMapOf, ChangesSlot};
-ghost use Rattle.hashbag_table.specs.Tables.{limit, room, entries_of, Arrives, KeepsRoom, NoneMoved, Rewrites};
+ghost use Rattle.hashbag_table.specs.Tables.{most_used, room, entries_of, Arrives, KeepsRoom, NoneMoved, Rewrites};
 
 mod keys;
 mod make;
@@ -26,7 +26,7 @@ mod spare;
 mod spots;
 
 use crate::built::Built;
-use crate::capacity::{MOST_SLOTS, clear_slots, limit, no_slots};
+use crate::capacity::{MOST_SLOTS, clear_slots, most_used, no_slots};
 use crate::key::Key;
 use crate::retain::retain_slots;
 use crate::walk::{DrainWalk, IntoWalk, Walk};
@@ -94,8 +94,8 @@ impl<T: Eq + Hash + Drop, S: BuildHasher + Drop> Table<T, S> {
         ensures entries { self.now.entries ≡ entries_of self.now.tables.newer self.now.tables.waiting }
         ensures unmoved { NoneMoved self.now.tables.newer }
 
-        // All values and the Removed slots of the newer table are within its limit: three quarters of its slots.
-        ensures fits { live_count self.now.tables.newer + removed_count self.now.tables.newer + live_count self.now.tables.waiting ≤ limit (length self.now.tables.newer) }
+        // All values and the Removed slots of the newer table take at most three quarters of its slots.
+        ensures fits { live_count self.now.tables.newer + removed_count self.now.tables.newer + live_count self.now.tables.waiting ≤ most_used (length self.now.tables.newer) }
     {
         self.newer.slots()
     }
@@ -124,7 +124,7 @@ impl<T: Eq + Hash + Drop, S: BuildHasher + Drop> Table<T, S> {
     pub fn room(&self) -> usize
         ensures { result ≡ room self.now.tables }
     {
-        limit(self.newer.slots()) - self.newer.live() - self.newer.removed() - self.older.live()
+        most_used(self.newer.slots()) - self.newer.live() - self.newer.removed() - self.older.live()
     }
 
     /// Returns the number of distinct values.
@@ -132,7 +132,7 @@ impl<T: Eq + Hash + Drop, S: BuildHasher + Drop> Table<T, S> {
         ensures len { result ≡ length self.now.entries }
         ensures counted { IsCounted T.eq self.now.entries }
     {
-        // Only for the proof: it uses the clauses `value` and `bound` of `slots`.
+        // Only for the proof: it uses the clauses `value` and `bound` of `Slots::slots`.
         let _slots = self.newer.slots();
         self.newer.live() + self.older.live()
     }
@@ -148,7 +148,7 @@ impl<T: Eq + Hash + Drop, S: BuildHasher + Drop> Table<T, S> {
     pub fn capacity(&self) -> usize
         ensures { result ≡ length self.now.entries + room self.now.tables }
     {
-        // Only for the proof: it uses the clauses `value` and `bound` of `slots`.
+        // Only for the proof: it uses the clauses `value` and `bound` of `Slots::slots`.
         let _slots = self.newer.slots();
         self.set_len() + self.room()
     }

@@ -1,7 +1,7 @@
 //! Room and slots of a bag: how much there is, what is allocated, and what is freed.
 ghost use Rattle.std.specs.Prelude.{◌≡◌, ℕ, ◌+◌, ◌*◌, ◌<◌, ◌≤◌, [], length, IsOk, IfErr, OnOk, OnErr};
 ghost use Rattle.hashbag_slots.specs.Slots.{IsSlotCount, live_count, removed_count};
-ghost use Rattle.hashbag_table.specs.Tables.{limit, room, values, Carried, KeepsRoom, ReservesOrStays, ShrinksOrStays, NoneMoved};
+ghost use Rattle.hashbag_table.specs.Tables.{most_used, room, values, Carried, KeepsRoom, ReservesOrStays, ShrinksOrStays, NoneMoved};
 ghost use Rattle.hashbag_core.specs.Occurrences.{distinct_count};
 ghost use Rattle.hashbag_core.specs.Held.{no_slots, AreHeld, NeedsSlots};
 ghost use Rattle.hashbag_table.specs.declared.table.TheConstants.{MOST_VALUES};
@@ -52,8 +52,8 @@ impl<T: Eq + Hash + Drop, S: BuildHasher + Drop> HashBag<T, S> {
         ensures held { AreHeld T.eq self.now.items self.now.tables }
         ensures unmoved { NoneMoved self.now.tables.newer }
 
-        // The values of both tables and the Removed slots of the newer one are within its limit: three quarters of its slots.
-        ensures fits { live_count self.now.tables.newer + removed_count self.now.tables.newer + live_count self.now.tables.waiting ≤ limit (length self.now.tables.newer) }
+        // The values of both tables and the Removed slots of the newer one take at most three quarters of its slots.
+        ensures fits { live_count self.now.tables.newer + removed_count self.now.tables.newer + live_count self.now.tables.waiting ≤ most_used (length self.now.tables.newer) }
         ensures values { values self.now.tables ≡ distinct_count T.eq self.now.items }
     {
         self.table.slots()

@@ -171,6 +171,7 @@ impl<T: Eq + Hash + Drop, S: BuildHasher + Drop> HashBag<T, S> {
         S: Default,
         requires can { I.can_next keys }
         requires ends { IsFinite (I.remaining keys) }
+        // The values of all keys were inserted in turn into an empty bag.
         ensures all { IfOk result (λ bag. InsertsAll T.eq I.next_gives (NamedOnce Q.names) keys (empty_bag bag.hasher) bag) }
 
         // The state is the default, and no limit is set.

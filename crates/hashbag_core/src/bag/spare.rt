@@ -1,6 +1,6 @@
 //! Spare slots of a bag: allocated ahead, and taken into use later.
 ghost use Rattle.std.specs.Prelude.{◌≡◌, ◌+◌, ◌-◌, ◌<◌, ◌≤◌, length, IfOk, IfErr};
-ghost use Rattle.hashbag_table.specs.Tables.{limit, room, IsLeast, IsPacked};
+ghost use Rattle.hashbag_table.specs.Tables.{most_used, room, IsLeast, IsPacked};
 ghost use Rattle.hashbag_core.specs.Occurrences.{distinct_count};
 ghost use Rattle.hashbag_core.specs.Held.{BuildsSlots};
 ghost use Rattle.hashbag_table.specs.declared.table.TheConstants.{MOST_VALUES};
@@ -62,13 +62,13 @@ impl<T: Eq + Hash + Drop, S: BuildHasher + Drop> HashBag<T, S> {
     /// ```
     pub fn use_spare(&mut self, spare: Spare<T>)
         // In clauses a spare is the number of its slots.
-        requires enough { distinct_count T.eq self.old.items ≤ limit spare }
+        requires enough { distinct_count T.eq self.old.items ≤ most_used spare }
         ensures items { IsBagOf T.eq self.old self.old.items self.new }
         ensures len { length self.new.items ≡ length self.old.items }
 
-        // The spare is the only table, so nothing waits. Room is its limit less the distinct values, and its slots count as built.
+        // The spare is the only table, so nothing waits. Room is `most_used` of it less the distinct values, and its slots count as built.
         ensures slots { length self.new.tables.newer ≡ spare }
-        ensures room { room self.new.tables ≡ limit spare - distinct_count T.eq self.old.items }
+        ensures room { room self.new.tables ≡ most_used spare - distinct_count T.eq self.old.items }
         ensures packed { IsPacked self.new.tables }
         ensures built { BuildsSlots spare self.old self.new }
     {

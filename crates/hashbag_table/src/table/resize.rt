@@ -6,7 +6,7 @@ ghost use Rattle.hashbag_slots.specs.Slots.{entries};
 ghost use Rattle.hashbag_slots.specs.Columns.{IsReached};
 ghost use Rattle.hashbag_table.specs.Entries.{IsCounted};
 ghost use Rattle.hashbag_table.specs.Table.{IsMapOf};
-ghost use Rattle.hashbag_table.specs.Tables.{limit, room, values, IsLeast, AreTables, HasLeast, IsPacked, KeepsRoom, ReservesOrStays, ShrinksOrStays, Carried, IsReady, MayAdopt};
+ghost use Rattle.hashbag_table.specs.Tables.{most_used, room, values, IsLeast, AreTables, HasLeast, IsPacked, KeepsRoom, ReservesOrStays, ShrinksOrStays, Carried, IsReady, MayAdopt};
 
 use crate::capacity::{grown_slots, least_slots, no_slots};
 use crate::table::{MOST_VALUES, Table};
@@ -156,7 +156,7 @@ impl<T: Eq + Hash + Drop, S: BuildHasher + Drop> Table<T, S> {
     pub(super) fn move_all_into(&mut self, newer: Slots<T>)
         requires empty { newer.slots ≡ replicate (length newer.slots) Slot.Empty }
         requires reached { (hash : T → ℕ) → IsReached hash newer }
-        requires enough { length self.old.entries ≤ limit (length newer.slots) }
+        requires enough { length self.old.entries ≤ most_used (length newer.slots) }
         ensures slots { length self.new.tables.newer ≡ length newer.slots }
         ensures packed { IsPacked self.new.tables }
         ensures built { self.new.tables.built ≡ self.old.tables.built + length newer.slots }

@@ -1,7 +1,7 @@
 //! Spare slots of a table: allocated ahead, and taken into use later.
 ghost use Rattle.std.specs.Prelude.{◌≡◌, ◌+◌, ◌<◌, ◌≤◌, length, IfOk, IsErr};
 ghost use Rattle.hashbag_table.specs.Table.{IsMapOf};
-ghost use Rattle.hashbag_table.specs.Tables.{limit, values, IsLeast, IsPacked};
+ghost use Rattle.hashbag_table.specs.Tables.{most_used, values, IsLeast, IsPacked};
 
 use crate::capacity::least_slots;
 use crate::spare::Spare;
@@ -36,7 +36,7 @@ impl<T: Eq + Hash + Drop, S: BuildHasher + Drop> Table<T, S> {
     ///
     /// Every value is moved and hashed once. It doesn't allocate.
     pub fn use_spare(&mut self, spare: Spare<T>)
-        requires enough { length self.old.entries ≤ limit spare }
+        requires enough { length self.old.entries ≤ most_used spare }
         ensures slots { length self.new.tables.newer ≡ spare }
 
         // Nothing waits, the spare's slots count as built, and all values are in them.

@@ -151,7 +151,7 @@ impl<T: Eq + Hash + Drop, S: BuildHasher + Drop> Table<T, S> {
         ensures hasher { self.new.hasher ≡ self.old.hasher }
         ensures counted { IsCounted T.eq self.new.entries }
     {
-        // Only for the proof: it uses the clauses `value` and `bound` of `slots`.
+        // Only for the proof: it uses the clauses `value` and `bound` of `Slots::slots`.
         let _slots = self.older.slots();
         if let Spot::Newer(place) = spot {
             self.newer.set_at(place, n);
@@ -171,7 +171,7 @@ impl<T: Eq + Hash + Drop, S: BuildHasher + Drop> Table<T, S> {
         ensures hasher { self.new.hasher ≡ self.old.hasher }
         ensures counted { IsCounted T.eq self.new.entries }
     {
-        // Only for the proof: it uses the clauses `value` and `bound` of `slots`.
+        // Only for the proof: it uses the clauses `value` and `bound` of `Slots::slots`.
         let _slots = self.older.slots();
         match spot {
             Spot::Newer(place) => {
@@ -191,7 +191,7 @@ impl<T: Eq + Hash + Drop, S: BuildHasher + Drop> Table<T, S> {
         requires live { is_live (slot_in self.now.tables spot) ≡ true }
         ensures count { IfEntry self.now.tables spot (λ e. result ≡ e.1) }
     {
-        // Only for the proof: it uses the clauses `value` and `bound` of `slots`.
+        // Only for the proof: it uses the clauses `value` and `bound` of `Slots::slots`.
         let _slots = self.older.slots();
         match spot {
             Spot::Newer(place) => {
@@ -230,7 +230,7 @@ impl<T: Eq + Hash + Drop, S: BuildHasher + Drop> Table<T, S> {
         ensures hasher { self.new.hasher ≡ self.old.hasher }
         ensures counted { IsCounted T.eq self.new.entries }
     {
-        // Only for the proof: it uses the clauses `value` and `bound` of `slots`.
+        // Only for the proof: it uses the clauses `value` and `bound` of `Slots::slots`.
         let _slots = self.older.slots();
         match spot {
             Spot::Newer(place) => {

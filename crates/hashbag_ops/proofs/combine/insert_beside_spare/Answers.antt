@@ -1,6 +1,6 @@
 use Rattle.std.proofs.Common.{refl, arith}
 use Rattle.std.proofs.lemmas.Iterator.Consumers.{YieldsList-from_first}
-use Rattle.hashbag_table.specs.Tables.{limit}
+use Rattle.hashbag_table.specs.Tables.{most_used}
 use Rattle.hashbag_core.proofs.InsertLemmas.{stays_in_turn}
 use Rattle.hashbag_ops.proofs.Spared.{none_so_far, one_more, has_rest, in_turn, summed, adds_by_spare, adds_all, no_room_for_lacked, takes_one, takes_rest}
 use Rattle.hashbag_ops.proofs.combine.insert_beside_spare.Goals as goal
@@ -10,7 +10,7 @@ pairs-init g c = none_so_far g.T.PartialEq.eq c.args.into.now c.into_iter-pairs.
 
 pub use_spare-requires : goal.use_spare-requires
 use_spare-requires g c =
-    let left = has_rest g.met.T.Eq.laws c.args.from c.args.into.now c.pairs.into c.into_iter-pairs.result c.pairs.pairs c.next.new.self c.in-Some.value c.in-Some.n (limit c.args.spare) c.into_iter-pairs.ensures.into_iter_gives c.len-len.ensures.bag
+    let left = has_rest g.met.T.Eq.laws c.args.from c.args.into.now c.pairs.into c.into_iter-pairs.result c.pairs.pairs c.next.new.self c.in-Some.value c.in-Some.n (most_used c.args.spare) c.into_iter-pairs.ensures.into_iter_gives c.len-len.ensures.bag
     c.pairs.invariant c.in-Some.ensures.steps c.requires.enough c.requires.fits in
     let room = left.room in
     record { enough = omega (arith, room) }
@@ -18,7 +18,7 @@ use_spare-requires g c =
 -- the value that found no room
 pub unwrap-requires : goal.unwrap-requires
 unwrap-requires g c =
-    let left = has_rest g.met.T.Eq.laws c.args.from c.args.into.now c.pairs.into c.into_iter-pairs.result c.pairs.pairs c.next.new.self c.in-Some.value c.in-Some.n (limit c.args.spare) c.into_iter-pairs.ensures.into_iter_gives c.len-len.ensures.bag
+    let left = has_rest g.met.T.Eq.laws c.args.from c.args.into.now c.pairs.into c.into_iter-pairs.result c.pairs.pairs c.next.new.self c.in-Some.value c.in-Some.n (most_used c.args.spare) c.into_iter-pairs.ensures.into_iter_gives c.len-len.ensures.bag
     c.pairs.invariant c.in-Some.ensures.steps c.requires.enough c.requires.fits in
     let few = left.room in
     let fits = left.fits in
@@ -30,7 +30,7 @@ unwrap-requires g c =
 -- what comes after it
 pub unwrap-requires-then-has_no_room_for : goal.unwrap-requires-then-has_no_room_for
 unwrap-requires-then-has_no_room_for g c =
-    let left = has_rest g.met.T.Eq.laws c.args.from c.args.into.now c.pairs.into c.into_iter-pairs.result c.pairs.pairs c.next.new.self c.in-Some.value c.in-Some.n (limit c.args.spare) c.into_iter-pairs.ensures.into_iter_gives c.len-len.ensures.bag
+    let left = has_rest g.met.T.Eq.laws c.args.from c.args.into.now c.pairs.into c.into_iter-pairs.result c.pairs.pairs c.next.new.self c.in-Some.value c.in-Some.n (most_used c.args.spare) c.into_iter-pairs.ensures.into_iter_gives c.len-len.ensures.bag
     c.pairs.invariant c.in-Some.ensures.steps c.requires.enough c.requires.fits in
     let few = left.room in
     let fits = left.fits in
@@ -78,7 +78,7 @@ returns-then-has_no_room_for-clause-hasher g c =
 
 pub returns-then-has_no_room_for-clause-slots : goal.returns-then-has_no_room_for-clause-slots
 returns-then-has_no_room_for-clause-slots g c =
-    let left = has_rest g.met.T.Eq.laws c.args.from c.args.into.now c.pairs.into c.into_iter-pairs.result c.pairs.pairs c.next.new.self c.in-Some.value c.in-Some.n (limit c.args.spare) c.into_iter-pairs.ensures.into_iter_gives c.len-len.ensures.bag
+    let left = has_rest g.met.T.Eq.laws c.args.from c.args.into.now c.pairs.into c.into_iter-pairs.result c.pairs.pairs c.next.new.self c.in-Some.value c.in-Some.n (most_used c.args.spare) c.into_iter-pairs.ensures.into_iter_gives c.len-len.ensures.bag
     c.pairs.invariant c.in-Some.ensures.steps c.requires.enough c.requires.fits in
     let few = left.room in
     let room = c.use_spare.ensures.room in
@@ -103,7 +103,7 @@ returns-then-has_no_room_for-clause-unbuilt g c = λ room_for.
 -- a value that is there, or for which there is room
 pub unwrap-requires-in-Some : goal.unwrap-requires-in-Some
 unwrap-requires-in-Some g c =
-    let left = has_rest g.met.T.Eq.laws c.args.from c.args.into.now c.pairs.into c.into_iter-pairs.result c.pairs.pairs c.next.new.self c.in-Some.value c.in-Some.n (limit c.args.spare) c.into_iter-pairs.ensures.into_iter_gives c.len-len.ensures.bag
+    let left = has_rest g.met.T.Eq.laws c.args.from c.args.into.now c.pairs.into c.into_iter-pairs.result c.pairs.pairs c.next.new.self c.in-Some.value c.in-Some.n (most_used c.args.spare) c.into_iter-pairs.ensures.into_iter_gives c.len-len.ensures.bag
     c.pairs.invariant c.in-Some.ensures.steps c.requires.enough c.requires.fits in
     let fits = left.fits in
     takes_one g.met.T.Eq.laws c.pairs.into c.in-Some.value c.in-Some.n c.insert_many-in-Some.result (omega (arith, fits)) c.insert_many-in-Some.ensures.refused

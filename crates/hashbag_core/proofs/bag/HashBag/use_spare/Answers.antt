@@ -1,5 +1,5 @@
 use Rattle.std.proofs.Common.{◌≤◌, sym, ◌∙◌, subst, refl, arith}
-use Rattle.hashbag_table.specs.Tables.{limit}
+use Rattle.hashbag_table.specs.Tables.{most_used}
 use Rattle.hashbag_core.specs.Occurrences.{distinct_count}
 use Rattle.hashbag_core.proofs.OccurrenceLemmas.{bag_from_tally, occurrences_rearranged, tally_rearranged}
 use Rattle.hashbag_core.proofs.DistinctLemmas.{distinct_count-occurrences}
@@ -9,7 +9,7 @@ pub use_spare-requires : goal.use_spare-requires
 use_spare-requires g c = record {
   enough =
       let same = distinct_count-occurrences g.met.T.Eq.laws c.self.inside.table.entries c.self.invariant.counted in
-      let many = subst (λ a. distinct_count g.T.PartialEq.eq a.items ≤ limit c.args.spare) (sym c.self.view_is) c.requires.enough in
+      let many = subst (λ a. distinct_count g.T.PartialEq.eq a.items ≤ most_used c.args.spare) (sym c.self.view_is) c.requires.enough in
       omega (arith, same, many);
 }
 

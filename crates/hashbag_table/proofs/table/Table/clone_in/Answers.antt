@@ -3,7 +3,7 @@ use Rattle.std.specs.List.Sorted.{IsPermutation}
 use Rattle.std.proofs.lemmas.List.{append-nil, length-append}
 use Rattle.std.proofs.lemmas.List.Sorted.{length_permutation, IsPermutation-refl}
 use Rattle.hashbag_table.specs.Entries.{IsCounted}
-use Rattle.hashbag_table.specs.Tables.{limit, IsLeast}
+use Rattle.hashbag_table.specs.Tables.{most_used, IsLeast}
 use Rattle.hashbag_table.proofs.CarryLemmas.{IsCounted-nil}
 use Rattle.hashbag_table.proofs.CloneLemmas.{IsCopy, next_is_new, next_is_some, copied, clones_reordered}
 use Rattle.hashbag_table.proofs.PackedLemmas.{IsFilled, filled_first, filled_next, filled_packed}
@@ -44,7 +44,7 @@ loop-value-preserved g c =
     c.requires.equal c.walk-value-items.ensures.counted.distinct order so_far.2 c.in_ok-clone.ensures.cases in
     let all = length_permutation _ _ order in
     let both = length-append so_far.0 (entry ∷ c.next.new.self) in
-    let more : length so_far.0 < limit (length c.in_ok-table.table.tables.newer) = let e = c.in_ok-table.ensures.least.enough in let n = c.set_len.ensures.len in omega (arith, e, n, all, both) in
+    let more : length so_far.0 < most_used (length c.in_ok-table.table.tables.newer) = let e = c.in_ok-table.ensures.least.enough in let n = c.set_len.ensures.len in omega (arith, e, n, all, both) in
     let longer : length so_far.0 + 1 ≡ length (so_far.0 ++ entry ∷ []) = sym (length-append so_far.0 (entry ∷ [])) in (
       (
         so_far.0 ++ entry ∷ [],

@@ -6,7 +6,7 @@ use Rattle.hashbag_slots.specs.Hashing.{hash_under}
 use Rattle.hashbag_slots.specs.declared.slots.Slot.TheVariants.{Empty}
 use Rattle.hashbag_slots.specs.Slots.{IsSlotCount, live_count, entries}
 use Rattle.hashbag_table.specs.Entries.{IsCounted}
-use Rattle.hashbag_table.specs.Tables.{limit, MayAdopt, Carried, grown_slots, room, room_of, fresh}
+use Rattle.hashbag_table.specs.Tables.{most_used, MayAdopt, Carried, grown_slots, room, room_of, fresh}
 use Rattle.hashbag_table.proofs.RoomLemmas.{grown_room, Roomy_at}
 use Rattle.hashbag_table.proofs.CarryLemmas.{alone_full, live_alone, entries_fresh, may_grow, room_first, ready_grown}
 use Rattle.hashbag_table.proofs.table.Table.grow.Goals as goal
@@ -25,7 +25,7 @@ adopt-requires-clause-may g c =
     let alone = alone_full g.T.PartialEq.eq hash c.self.inside.newer c.self.inside.older c.self.inside.carried_to c.self.invariant full in
     let counted : IsCounted g.T.PartialEq.eq (entries n) = subst (IsCounted g.T.PartialEq.eq) (ap (λ ss. entries n ++ entries ss) alone ∙ append-nil (entries n)) c.self.invariant.counted in
     let f = c.self.invariant.tables.fits in
-    let within : live_count n ≤ limit (length n) = omega (arith, f) in
+    let within : live_count n ≤ most_used (length n) = omega (arith, f) in
     let base = grown_room (length n) (live_count n) (subst IsSlotCount c.slots.ensures.value c.slots.ensures.count) within in
     let len : length c.in_ok-newer.newer.slots ≡ grown_slots (length n) (live_count n) =
     ap length c.in_ok-newer.ensures.slots ∙ length-replicate c.in_ok-count.count Empty ∙ c.in_ok-count.ensures.grown ∙ (λ i. grown_slots (c.slots.ensures.value i) (c.live.ensures i)) in
@@ -44,7 +44,7 @@ returns-clause-ready g c =
     c.in_ok-newer.ensures.slots ∙ ap (λ k. replicate k Empty) (c.in_ok-count.ensures.grown ∙ (λ i. grown_slots (c.slots.ensures.value i) ((c.live.ensures ∙ live) i))) in
     let counted : IsCounted g.T.PartialEq.eq (entries n) = subst (IsCounted g.T.PartialEq.eq) (ap (λ ss. entries n ++ entries ss) alone ∙ append-nil (entries n)) c.self.invariant.counted in
     let f = c.self.invariant.tables.fits in
-    let within : live_count n ≤ limit (length n) = omega (arith, f) in
+    let within : live_count n ≤ most_used (length n) = omega (arith, f) in
     let base = grown_room (length n) (live_count n) (subst IsSlotCount c.slots.ensures.value c.slots.ensures.count) within in
     let len : length c.in_ok-newer.newer.slots ≡ grown_slots (length n) (live_count n) =
     ap length c.in_ok-newer.ensures.slots ∙ length-replicate c.in_ok-count.count Empty ∙ c.in_ok-count.ensures.grown ∙ (λ i. grown_slots (c.slots.ensures.value i) (c.live.ensures i)) in

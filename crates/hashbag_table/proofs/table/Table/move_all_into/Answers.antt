@@ -6,7 +6,7 @@ use Rattle.hashbag_slots.specs.Hashing.{hash_under}
 use Rattle.hashbag_slots.specs.Slots.{entries}
 use Rattle.hashbag_slots.specs.Columns.{IsReached}
 use Rattle.hashbag_table.specs.Entries.{IsCounted}
-use Rattle.hashbag_table.specs.Tables.{limit}
+use Rattle.hashbag_table.specs.Tables.{most_used}
 use Rattle.hashbag_table.proofs.EntryLemmas.{counted_rearranged}
 use Rattle.hashbag_table.proofs.PackLemmas.{apart_blank, room_blank, beside, may_pack, packed, values_packed, IsTables-freed}
 use Rattle.hashbag_table.proofs.table.Table.move_all_into.Goals as goal
@@ -22,7 +22,7 @@ carry_from-requires-clause-apart g c =
     let hash = hash_under g.T.Hash.hash_input g.S.BuildHasher g.S.Hasher.Hasher c.self.inside.hasher in
     let i = c.self.inside in
     let w = c.self.invariant.tables.carried_within in let s = c.slots.ensures.value in
-    let enough = subst (λ t. length t.entries ≤ limit (length c.args.newer.slots)) (sym c.self.view_is) c.requires.enough in
+    let enough = subst (λ t. length t.entries ≤ most_used (length c.args.newer.slots)) (sym c.self.view_is) c.requires.enough in
     apart_blank g.T.PartialEq.eq g.met.T.Eq.laws hash i.newer i.older c.args.newer i.carried_to (c.slots.result - i.carried_to) c.self.invariant c.requires.empty (omega (arith, w, s)) enough
 
 pub carry_from-requires-clause-room : goal.carry_from-requires-clause-room
@@ -30,7 +30,7 @@ carry_from-requires-clause-room g c =
     let hash = hash_under g.T.Hash.hash_input g.S.BuildHasher g.S.Hasher.Hasher c.self.inside.hasher in
     let i = c.self.inside in
     let w = c.self.invariant.tables.carried_within in let s = c.slots.ensures.value in
-    let enough = subst (λ t. length t.entries ≤ limit (length c.args.newer.slots)) (sym c.self.view_is) c.requires.enough in
+    let enough = subst (λ t. length t.entries ≤ most_used (length c.args.newer.slots)) (sym c.self.view_is) c.requires.enough in
     room_blank g.T.PartialEq.eq g.met.T.Eq.laws hash i.newer i.older c.args.newer i.carried_to (c.slots.result - i.carried_to) c.self.invariant c.requires.empty (omega (arith, w, s)) enough
 
 pub invariant_of-self : goal.invariant_of-self
@@ -45,7 +45,7 @@ adopt-requires-clause-may g c =
     let hash = hash_under g.T.Hash.hash_input g.S.BuildHasher g.S.Hasher.Hasher c.self.inside.hasher in
     let i = c.self.inside in let h = c.carry_from.ensures in
     let w = c.self.invariant.tables.carried_within in let s = c.slots.ensures.value in
-    let enough = subst (λ t. length t.entries ≤ limit (length c.args.newer.slots)) (sym c.self.view_is) c.requires.enough in
+    let enough = subst (λ t. length t.entries ≤ most_used (length c.args.newer.slots)) (sym c.self.view_is) c.requires.enough in
     may_pack g.T.PartialEq.eq g.met.T.Eq.laws hash i.newer i.older c.args.newer i.carried_to (c.slots.result - i.carried_to) c.self.invariant c.requires.empty (omega (arith, w, s)) enough
     c.carry_from.new.self h.placed h.removed h.slots h.reached c.slots-many.result (let m = c.slots-many.ensures.value in omega (arith, m))
 
@@ -57,7 +57,7 @@ returns-clause-packed g c =
     let hash = hash_under g.T.Hash.hash_input g.S.BuildHasher g.S.Hasher.Hasher c.self.inside.hasher in
     let i = c.self.inside in let h = c.carry_from.ensures in
     let w = c.self.invariant.tables.carried_within in let s = c.slots.ensures.value in
-    let enough = subst (λ t. length t.entries ≤ limit (length c.args.newer.slots)) (sym c.self.view_is) c.requires.enough in
+    let enough = subst (λ t. length t.entries ≤ most_used (length c.args.newer.slots)) (sym c.self.view_is) c.requires.enough in
     packed g.T.PartialEq.eq g.met.T.Eq.laws hash i.newer i.older c.args.newer i.carried_to (c.slots.result - i.carried_to) c.self.invariant c.requires.empty (omega (arith, w, s)) enough
     c.carry_from.new.self h.placed h.removed h.slots h.reached c.slots-many.result (let m = c.slots-many.ensures.value in omega (arith, m)) c.adopt.new.self.tables c.adopt.ensures.carried
 
@@ -66,7 +66,7 @@ returns-clause-values g c =
     let hash = hash_under g.T.Hash.hash_input g.S.BuildHasher g.S.Hasher.Hasher c.self.inside.hasher in
     let i = c.self.inside in let h = c.carry_from.ensures in
     let w = c.self.invariant.tables.carried_within in let s = c.slots.ensures.value in
-    let enough = subst (λ t. length t.entries ≤ limit (length c.args.newer.slots)) (sym c.self.view_is) c.requires.enough in
+    let enough = subst (λ t. length t.entries ≤ most_used (length c.args.newer.slots)) (sym c.self.view_is) c.requires.enough in
     values_packed g.T.PartialEq.eq g.met.T.Eq.laws hash i.newer i.older c.args.newer i.carried_to (c.slots.result - i.carried_to) c.self.invariant c.requires.empty (omega (arith, w, s)) enough
     c.carry_from.new.self h.placed h.removed h.slots h.reached c.slots-many.result (let m = c.slots-many.ensures.value in omega (arith, m)) c.adopt.new.self.tables c.adopt.ensures.carried
     ∙ ap (λ t. length t.entries) c.self.view_is
@@ -76,7 +76,7 @@ returns-clause-entries g c =
     let hash = hash_under g.T.Hash.hash_input g.S.BuildHasher g.S.Hasher.Hasher c.self.inside.hasher in
     let i = c.self.inside in let h = c.carry_from.ensures in
     let w = c.self.invariant.tables.carried_within in let s = c.slots.ensures.value in
-    let enough = subst (λ t. length t.entries ≤ limit (length c.args.newer.slots)) (sym c.self.view_is) c.requires.enough in
+    let enough = subst (λ t. length t.entries ≤ most_used (length c.args.newer.slots)) (sym c.self.view_is) c.requires.enough in
     let es = entries c.carry_from.new.self.slots in let ns = entries i.newer.slots in
     let none = ap (λ (o : _). o.slots) c.replace-older.ensures.after ∙ c.no_slots.ensures.slots in
     let same = ap (λ ss. es ++ (ns ++ entries ss)) none ∙ ap (λ l. es ++ l) (append-nil ns) in

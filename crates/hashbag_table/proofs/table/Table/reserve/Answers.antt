@@ -7,7 +7,7 @@ use Rattle.hashbag_table.specs.Tables.{room, entries_of, IsLeast}
 use Rattle.hashbag_table.proofs.SlotLemmas.{length-entries}
 use Rattle.hashbag_table.proofs.table.Table.reserve.Goals as goal
 
--- what there is and what there is room for is within the limit of the greatest table
+-- what there is and what there is room for fit into the greatest table
 pub returns-then-n-room-clause-beyond : goal.returns-then-n-room-clause-beyond
 returns-then-n-room-clause-beyond g c some beyond =
     let n = c.self.inside.newer.slots in let w = drop c.self.inside.carried_to c.self.inside.older.slots in

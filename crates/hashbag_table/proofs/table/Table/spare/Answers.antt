@@ -6,7 +6,7 @@ use Rattle.hashbag_table.specs.Tables.{entries_of}
 use Rattle.hashbag_table.proofs.SlotLemmas.{length-entries}
 use Rattle.hashbag_table.proofs.table.Table.spare.Goals as goal
 
--- the values are within the limit of the greatest table
+-- the values fit into the greatest table
 pub overflow_sub-values : goal.overflow_sub-values
 overflow_sub-values g c =
     let n = c.self.inside.newer.slots in let w = drop c.self.inside.carried_to c.self.inside.older.slots in
