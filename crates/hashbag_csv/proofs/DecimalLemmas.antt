@@ -6,6 +6,7 @@ use Rattle.std.specs.Fmt.{decimal}
 use Rattle.std.specs.List.{position_or_len}
 use Rattle.std.specs.Str.Parse.{IsNumeral, AllDigits, digits_value}
 use Rattle.std.proofs.Math.Nat.{div-add-mod', mod-lt, div-one, mul-one, div-le_self, le-mul_of_pos_right, one-le-pow}
+use Rattle.std.proofs.lemmas.Bool.{cond-false, cond-true, ne_eqb}
 use Rattle.std.proofs.lemmas.Bool.Decides.{nat_tests}
 use Rattle.std.proofs.lemmas.Fmt.{decimal_is_IsNumeral, length-decimal-le}
 use Rattle.std.proofs.lemmas.List.{append_assoc, drop_all, drop_at, drop-drop, get_or_append_left, get_or_at, length-append, length-replicate, take_all, take_at}
@@ -15,7 +16,7 @@ use Rattle.std.proofs.lemmas.Str.Parse.{digit_at}
 use Rattle.hashbag_csv.specs.declared.scale.Mark.{Mark}
 use Rattle.hashbag_csv.specs.declared.scale.Mark.TheVariants.{Point, Comma}
 use Rattle.hashbag_csv.specs.Marks.{code_of}
-use Rattle.hashbag_csv.specs.Decimals.{ArePartsOf, IsDecimal, units, units_of, whole_of, part_of}
+use Rattle.hashbag_csv.specs.Decimals.{ArePartsOf, IsDecimal, decimal_text, padded_digits, units, units_of, whole_of, part_of}
 
 -- a mark is before the digits
 pub code_low : (m : Mark) → code_of m < 48
@@ -132,17 +133,20 @@ parts_value D n w p whole part long =
 
 -- ---- digits with zeros before them
 
-pub padded_is : (width n k : ℕ) (text zeros ds : List ℕ) → 0 < width → n < 10 ^ width → n < 2 ^ 64 → ds ≡ decimal n → zeros ≡ replicate k 48 → k ≡ width - length ds → text ≡ zeros ++ ds
-    → AllDigits 10 text × (length text ≡ width) × (digits_value 10 text ≡ n)
-padded_is width n k text zeros ds wide fits small is zeros_are missing whole =
-    let parts : text ≡ replicate k 48 ++ ds = whole ∙ ap (λ (l : List ℕ). l ++ ds) zeros_are in
+pub padded_text : (width n k : ℕ) (text zeros ds : List ℕ) → ds ≡ decimal n → zeros ≡ replicate k 48 → k ≡ width - length ds → text ≡ zeros ++ ds → text ≡ padded_digits width n
+padded_text width n k text zeros ds is zeros_are missing whole =
+    whole ∙ (λ i. (zeros_are ∙ ap (λ m. replicate m 48) missing) i ++ ds) ∙ ap (λ l. replicate (width - length l) 48 ++ l) is
+
+pub padded_is : (width n : ℕ) → 0 < width → n < 10 ^ width → n < 2 ^ 64
+    → AllDigits 10 (padded_digits width n) × (length (padded_digits width n) ≡ width) × (digits_value 10 (padded_digits width n) ≡ n)
+padded_is width n wide fits small =
+    let ds = decimal n in
+    let k = width - length ds in
     let numeral = decimal_is_IsNumeral n small in
-    let digits : AllDigits 10 ds = subst (AllDigits 10) (sym is) numeral.0.1 in
-    let value : digits_value 10 ds ≡ n = ap (digits_value 10) is ∙ numeral.1 in
-    let short : length ds ≤ width = subst (λ (l : List ℕ). length l ≤ width) (sym is) (length-decimal-le width n wide fits small) in
-    let long : length text ≡ length (replicate k 48) + length ds = ap length parts ∙ length-append (replicate k 48) ds in
+    let short : length ds ≤ width = length-decimal-le width n wide fits small in
+    let long : length (padded_digits width n) ≡ length (replicate k 48) + length ds = length-append (replicate k 48) ds in
     let zeros_long = length-replicate {A = ℕ} k 48 in
-    (subst (AllDigits 10) (sym parts) (zeros_digits k ds digits), omega (arith, long, zeros_long, missing, short), ap (digits_value 10) parts ∙ zeros_value k ds ∙ value)
+    (zeros_digits k ds numeral.0.1, omega (arith, long, zeros_long, short), zeros_value k ds ∙ numeral.1)
 
 -- ---- what is written
 
@@ -164,6 +168,20 @@ joined_written m D n u c ones text part whole small some unit ones_are mark text
     let value : units_of D (decimal (n / u)) part ≡ n = parts_value D n (decimal (n / u)) part (numeral.1 ∙ ap (λ (k : ℕ). n / k) unit) (part_is.2 ∙ ap (λ (k : ℕ). n % k) unit) part_is.1 in
     let said = joined_is (code_of m) (code_low m) D n (decimal (n / u)) part parts value in
     subst (λ (l : List ℕ). IsDecimal (code_of m) D l × (units (code_of m) D l ≡ n)) (sym is) said
+
+-- the text that is written, without decimals and with decimals
+
+pub alone_text : (m : Mark) (D n u : ℕ) (text : List ℕ) → D ≡ 0 → u ≡ 10 ^ D → text ≡ decimal (n / u) → text ≡ decimal_text (code_of m) D n
+alone_text m D n u text none unit is =
+    let one : u ≡ 1 = unit ∙ ap (λ (k : ℕ). 10 ^ k) none in
+    is ∙ ap (λ (k : ℕ). decimal (n / k)) one ∙ ap decimal (div-one n) ∙ sym (cond-true (D == 0) (decimal n) _ (eq-eqb D 0 none))
+
+pub joined_text : (m : Mark) (D n u c : ℕ) (ones text part whole : List ℕ) → ¬ (D ≡ 0) → u ≡ 10 ^ D → ones ≡ decimal (n / u) → c ≡ code_of m → text ≡ ones ++ c ∷ [] → whole ≡ text ++ part
+    → part ≡ padded_digits D (n % u) → whole ≡ decimal_text (code_of m) D n
+joined_text m D n u c ones text part whole some unit ones_are mark text_is whole_is part_is =
+    whole_is ∙ (λ i. text_is i ++ part) ∙ append_assoc ones (c ∷ []) part
+    ∙ (λ i. (ones_are ∙ ap (λ (k : ℕ). decimal (n / k)) unit) i ++ mark i ∷ (part_is ∙ ap (λ (k : ℕ). padded_digits D (n % k)) unit) i)
+    ∙ sym (cond-false (D == 0) (decimal n) _ (ne_eqb D 0 some))
 
 pub under_unit : (D n u : ℕ) → u ≡ 10 ^ D → n % u < 10 ^ D
 under_unit D n u unit = subst (λ (k : ℕ). n % u < k) unit (mod-lt n (subst (λ (k : ℕ). 0 < k) (sym unit) (unit_some D)))

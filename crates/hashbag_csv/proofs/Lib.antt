@@ -2,6 +2,7 @@ pub mod AlikeLemmas
 pub mod BadLineLemmas
 pub mod CountLemmas
 pub mod DecimalLemmas
+pub mod EscapedLemmas
 pub mod FirstLemmas
 pub mod GroupLemmas
 pub mod LineLemmas

@@ -1,7 +1,7 @@
 -- Numbers with up to D decimals, in units of 10^-D: if D is 2, `1.50` is 150.
-use Rattle.std.specs.Prelude.{◌≡◌, ℕ, ◌+◌, ◌-◌, ◌*◌, ◌^◌, ◌≤◌, ◌==◌, ◌++◌, ◌∷◌, ◌⊎◌, List, length, Option, MatchOption}
+use Rattle.std.specs.Prelude.{◌≡◌, ℕ, ◌+◌, ◌-◌, ◌*◌, ◌/◌, ◌%◌, ◌^◌, ◌≤◌, ◌==◌, ◌++◌, ◌∷◌, ◌⊎◌, List, length, replicate, decimal, if◌then◌else◌, Option, MatchOption}
 use Rattle.std.specs.List.{before_first, after_first}
-use Rattle.std.specs.Str.Parse.{AllDigits, IsNumeral, digits_value}
+use Rattle.std.specs.Str.Parse.{IsNumeral, digits_value}
 
 -- the most decimals that a scale has
 abbrev pub most_decimals : ℕ
@@ -35,6 +35,10 @@ units mark D text = units_of D (whole_of mark text) (part_of mark text)
 abbrev pub IsSomeIfFits : Option ℕ → Type 0 → ℕ → Type 0
 IsSomeIfFits read P value = MatchOption read (¬ (P × (value ≤ 2 ^ 64 - 1))) (λ n. P × (value ≡ n))
 
--- `digits` are `width` digits, and `number` is the value of these digits
-abbrev pub IsPadded : ℕ → ℕ → List ℕ → Type 0
-IsPadded number width digits = AllDigits 10 digits × (length digits ≡ width) × (digits_value 10 digits ≡ number)
+-- the digits of a number, with zeros before them up to this width
+abbrev pub padded_digits : ℕ → ℕ → List ℕ
+padded_digits width n = replicate (width - length (decimal n)) 48 ++ decimal n
+
+-- the text of n units of 10^-D: the digits of the whole part, and, if D isn't 0, the mark and D digits
+abbrev pub decimal_text : ℕ → ℕ → ℕ → List ℕ
+decimal_text mark D n = if D == 0 then decimal n else decimal (n / 10 ^ D) ++ mark ∷ padded_digits D (n % 10 ^ D)

@@ -4,6 +4,9 @@ pub mod Articles
 pub mod BadLines
 pub mod Counts
 pub mod Decimals
+pub mod DecimalsExamples
+pub mod Escaped
+pub mod EscapedExamples
 pub mod Faults
 pub mod FaultsExamples
 pub mod FirstLines

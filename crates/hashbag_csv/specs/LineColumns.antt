@@ -47,9 +47,9 @@ abbrev pub IsLineErrorBy : Scale → LineColumns → Sheet → Sheet → SheetEr
 IsLineErrorBy scale c old new e = IsLineError scale (form_of c).number (number_place c) (fits_sheet old (read_last new)) (read_last new) e
 
 -- `None` if a record is read as a line with these columns, else its error
-abbrev pub IsSaidBy : Scale → LineColumns → Sheet → Record → Option SheetError → Type 0
-IsSaidBy scale c sheet = IsSaidOf scale (form_of c).number (number_place c) (is_short_allowed sheet) (width_of sheet)
+abbrev pub IsCheckOf : Scale → LineColumns → Sheet → Record → Option SheetError → Type 0
+IsCheckOf scale c sheet = IsSaidOf scale (form_of c).number (number_place c) (is_short_allowed sheet) (width_of sheet)
 
--- the next record was read, and `next` is what `IsSaidBy` says of it; or no record was left, and `next` is `None`
+-- the next record was read, and `next` is what `IsCheckOf` says of it; or no record was left, and `next` is `None`
 abbrev pub SaysOfNext : Scale → LineColumns → Sheet → Option (Option SheetError) → Sheet → Type 0
-SaysOfNext scale c old next new = MatchOption next (left old ≡ []) (λ said. ReadsOne old new × IsSaidBy scale c old (read_last new) said)
+SaysOfNext scale c old next new = MatchOption next (left old ≡ []) (λ said. ReadsOne old new × IsCheckOf scale c old (read_last new) said)

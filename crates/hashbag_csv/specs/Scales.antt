@@ -1,6 +1,6 @@
 -- Scales, and numbers in their units.
 use Rattle.std.specs.Prelude.{◌≡◌, ℕ, ◌-◌, ◌^◌, List}
-use Rattle.hashbag_csv.specs.Decimals.{IsDecimal}
+use Rattle.hashbag_csv.specs.Decimals.{IsDecimal, decimal_text}
 use Rattle.hashbag_csv.specs.Marks.{code_of}
 use Rattle.hashbag_csv.specs.declared.scale.Mark.{Mark}
 use Rattle.hashbag_csv.specs.declared.scale.Scale.{Scale}
@@ -12,3 +12,7 @@ IsWidestScale decimals mark scale = (scale.decimals ≡ decimals) × (scale.mark
 -- a text is a number, with no more decimals than the scale has
 abbrev pub IsNumberIn : Scale → List ℕ → Type 0
 IsNumberIn scale text = IsDecimal (code_of scale.mark) scale.decimals text
+
+-- the text of a number of units: with all decimals of the scale, and no zeros before the digits of the whole part
+abbrev pub number_text : Scale → ℕ → List ℕ
+number_text scale n = decimal_text (code_of scale.mark) scale.decimals n

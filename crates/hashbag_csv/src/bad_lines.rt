@@ -1,7 +1,7 @@
 //! All bad lines of a text, not only the first one.
 ghost use Rattle.std.specs.Prelude.{◌≡◌, ◌∷◌, ◌++◌, [], option_copied, IfOk, OnOk};
 ghost use Rattle.hashbag_csv.specs.BadLines.{AreBadLines, AreBadLinesOf, errors_in};
-ghost use Rattle.hashbag_csv.specs.LineColumns.{IsSaidBy, SaysOfNext};
+ghost use Rattle.hashbag_csv.specs.LineColumns.{IsCheckOf, SaysOfNext};
 ghost use Rattle.hashbag_csv.specs.Sheets.{KeepsHeader, left};
 
 use crate::article::Article;
@@ -51,7 +51,7 @@ fn bad_lines_left<A: Article + Drop>(
     scale: Scale,
     max_errors: usize,
 ) -> Result<Vec<SheetError>, SheetError>
-    ensures { IfOk result (λ errors. AreBadLines (IsSaidBy scale columns.now sheet.old) max_errors (left sheet.old) errors.items) }
+    ensures { IfOk result (λ errors. AreBadLines (IsCheckOf scale columns.now sheet.old) max_errors (left sheet.old) errors.items) }
 {
     let mut errors = Vec::new(alloc);
     'lines: while errors.len() < max_errors {

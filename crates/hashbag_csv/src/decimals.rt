@@ -3,9 +3,9 @@
 ghost use Rattle.std.specs.Prelude.{◌≡◌, ◌≤◌, ◌<◌, ◌*◌, ◌^◌, Some, IfOk};
 ghost use Rattle.std.specs.String.{string_bytes};
 ghost use Rattle.std.specs.Str.Parse.{IsNumeral, digits_value};
-ghost use Rattle.hashbag_csv.specs.Decimals.{ArePartsOf, IsPadded, IsSomeIfFits, units_of};
+ghost use Rattle.hashbag_csv.specs.Decimals.{ArePartsOf, IsSomeIfFits, padded_digits, units_of};
 ghost use Rattle.hashbag_csv.specs.Lines.{number_in};
-ghost use Rattle.hashbag_csv.specs.Scales.{IsNumberIn};
+ghost use Rattle.hashbag_csv.specs.Scales.{IsNumberIn, number_text};
 
 use crate::scale::Scale;
 use std::alloc::{AllocError, Global};
@@ -72,9 +72,7 @@ pub fn read_decimal(text: &str, scale: Scale) -> Option<usize>
 
 // Returns the digits of a number, with zeros before them up to this width.
 fn padded(alloc: Global, number: usize, width: u32) -> Result<String, AllocError>
-    requires fits { number < 10 ^ width }
-    requires wide { 0 < width }
-    ensures { IfOk result (λ text. IsPadded number width (string_bytes text)) }
+    ensures { IfOk result (λ text. string_bytes text ≡ padded_digits width number) }
 {
     let digits = format!(in alloc; "{number}")?;
     let missing = (width as usize).saturating_sub(digits.len());
@@ -88,7 +86,8 @@ fn padded(alloc: Global, number: usize, width: u32) -> Result<String, AllocError
 
 /// Returns a number of units as text, with all decimals of the scale. From that text [`read_decimal`] returns the number.
 pub fn write_decimal(alloc: Global, number: usize, scale: Scale) -> Result<String, AllocError>
-    ensures { IfOk result (λ text. IsNumberIn scale (string_bytes text) × (number_in scale (string_bytes text) ≡ number)) }
+    ensures text { IfOk result (λ text. string_bytes text ≡ number_text scale number) }
+    ensures reads { IfOk result (λ text. IsNumberIn scale (string_bytes text) × (number_in scale (string_bytes text) ≡ number)) }
 {
     let unit = unit_of(scale.decimals);
     let mut text = format!(in alloc; "{}", number / unit)?;

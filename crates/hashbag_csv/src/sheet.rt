@@ -17,6 +17,9 @@ use std::str;
 // A byte order mark, which some programs write at the beginning of a text.
 const BYTE_ORDER_MARK: &[u8] = b"\xef\xbb\xbf";
 
+// How a message names a column whose name isn't UTF-8.
+const NOT_UTF8: &str = "one that is not UTF-8";
+
 // A message names at most this many columns.
 const NAMED: usize = 12;
 
@@ -275,7 +278,7 @@ impl<'a> Sheet<'a> {
     fn push_name(&self, text: &mut String, place: usize) -> Result<(), AllocError> {
         match str::from_utf8(self.bytes_at(place)) {
             Ok(name) => write!(text, "`{}`", shown(self.alloc, name)?),
-            Err(_) => text.push_str("one that is not UTF-8"),
+            Err(_) => text.push_str(NOT_UTF8),
         }
     }
 
@@ -292,7 +295,7 @@ impl<'a> Sheet<'a> {
     }
 
     // Returns the names in the header, at most 12, and a hint. If the only name contains another delimiter, the hint is that delimiter;
-    // else it is the first name near `name`, if there is one.
+    // else it is the first name near `name`, if there is one; else an encoding, if a name isn't UTF-8.
     fn names_shown(&self, name: &str) -> Result<String, AllocError> {
         let mut text = String::new(self.alloc);
         let columns = self.record.len();
@@ -311,7 +314,11 @@ impl<'a> Sheet<'a> {
             write!(text, "; is the delimiter `{other}`?")?;
             return Ok(text);
         }
+        let names = text.len();
         self.push_near(&mut text, name)?;
+        if text.len() == names && text.contains(NOT_UTF8) {
+            text.push_str("; if it is Windows-1252, `--encoding Windows-1252` reads it")?;
+        }
         Ok(text)
     }
 

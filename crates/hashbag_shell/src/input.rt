@@ -8,7 +8,7 @@ use std::io::Read;
 const PART: u64 = 1 << 24;
 
 /// Returns the name of an input in messages: `standard input` for `-`.
-pub fn said(name: &str) -> &str {
+pub fn shown_name(name: &str) -> &str {
     if name == "-" { "standard input" } else { name }
 }
 
@@ -23,11 +23,11 @@ fn read_all<'a, F: Read>(
     for _ in 0..u64::MAX {
         match reader.by_ref().take(PART).read_to_end(&mut text) {
             Ok(0) => break,
-            Ok(n) => progress.tell(rt, said(file), n),
+            Ok(n) => progress.tell(rt, shown_name(file), n),
             Err(error) => return Err(Trouble::of_file(file, error)),
         }
     }
-    progress.tell_whole(rt, said(file));
+    progress.tell_whole(rt, shown_name(file));
     Ok(text)
 }
 

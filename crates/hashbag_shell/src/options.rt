@@ -67,6 +67,7 @@ pub fn encoding_arg<'a>(alloc: Global, name: &'a str, help: &'a str) -> Arg<'a> 
         .long(name)
         .value_name("NAME")
         .value_parser(NAMES.as_slice())
+        .ignore_case(true)
         .help(help)
 }
 

@@ -1,7 +1,8 @@
 //! Where a text is written: to standard output, or to a named file.
 use crate::output_file::OutputFile;
+use crate::status::BAD_INPUT;
 use crate::trouble::Trouble;
-use std::fs::File;
+use std::fs::{self, File};
 use std::io::{self, Read, Write};
 use std::rt::Files;
 
@@ -25,6 +26,12 @@ fn copy_text<'a, W: Write, I: Read>(output: &mut W, from: &mut I) -> Result<(), 
     flushed(output, given)
 }
 
+// Returns whether this name is of a descriptor that was redirected to a file.
+fn is_redirected<R: Files>(rt: &R, name: &str) -> bool {
+    (name == "/dev/stderr" || name.starts_with("/dev/fd/") || name.starts_with("/proc/self/fd/"))
+        && fs::metadata(rt, name).is_ok_and(|found| found.is_file())
+}
+
 /// An output that has been opened, and not yet written.
 #[derive(Drop)]
 pub enum Output<'a> {
@@ -35,7 +42,8 @@ pub enum Output<'a> {
 }
 
 impl<'a> Output<'a> {
-    /// Opens the file of this name, or standard output if `name` is `None`. Nothing is written yet.
+    /// Opens the file of this name. Opens standard output if `name` is `None` or `/dev/stdout`: a file to which standard output goes keeps
+    /// what was written before. Nothing is written yet.
     ///
     /// # Errors
     ///
@@ -47,6 +55,13 @@ impl<'a> Output<'a> {
         let Some(name) = name else {
             return Ok(Output::Standard);
         };
+        if name == "/dev/stdout" {
+            return Ok(Output::Standard);
+        }
+        if is_redirected(rt, name) {
+            let what = format!(in rt.alloc(); "{name}: goes to a file, which would be replaced");
+            return Err(Trouble::with_status(what, BAD_INPUT));
+        }
         match OutputFile::open(rt, name) {
             Ok(file) => Ok(Output::Named(name, file)),
             Err(error) => Err(Trouble::of_file(name, error)),

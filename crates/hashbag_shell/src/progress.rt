@@ -29,7 +29,7 @@ pub enum Reports {
 /// What was read, and when it was reported.
 #[derive(Clone, Copy)]
 pub struct Progress {
-    // When the work began, and when it was last reported, or the beginning again; `None` if the work isn't reported.
+    // When the work began, and when it was last reported: at first, the beginning. `None` if the work isn't reported.
     times: Option<(Instant, Instant)>,
     // Whether a report overwrites the report before, on a terminal. Else each report is a line.
     overwrites: bool,

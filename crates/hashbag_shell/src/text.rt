@@ -9,6 +9,9 @@ use hashbag_text::whole::decode;
 use memchr::{memchr, memchr_iter};
 use std::alloc::Global;
 
+/// The message for text in UTF-8 that is to be read in an encoding of one byte a character.
+pub const MARKED: &str = "UTF-8, by its byte order mark; `--encoding UTF-8` reads it";
+
 // Returns the first line that shows that these bytes aren't text, and what they are, or `None`. UTF-16 with a byte order mark
 // is left to the readers of the text.
 fn no_text(bytes: &[u8]) -> Option<(u64, &'static str)> {
@@ -26,6 +29,12 @@ fn no_text(bytes: &[u8]) -> Option<(u64, &'static str)> {
     ))
 }
 
+/// Returns whether bytes that are named as Latin-1 or Windows-1252 begin with the byte order mark of UTF-8: no text in these begins so.
+pub fn is_marked_utf8(encoding: Encoding, bytes: &[u8]) -> bool {
+    matches!(encoding, Encoding::Latin1 | Encoding::Windows1252)
+        && bytes.starts_with(b"\xef\xbb\xbf")
+}
+
 // Returns the bytes, or `BadLine` if `no_text` shows that they aren't text.
 fn checked<'a>(alloc: Global, file: &'a str, bytes: Vec<u8>) -> Result<Vec<u8>, Trouble<'a>>
     ensures { IfOk result (λ text. text ≡ bytes) }
@@ -34,6 +43,21 @@ fn checked<'a>(alloc: Global, file: &'a str, bytes: Vec<u8>) -> Result<Vec<u8>, 
         None => Ok(bytes),
         Some((line, what)) => Err(Trouble::of_line(file, line, what.to_string(alloc))),
     }
+}
+
+/// If the message of the trouble names `--encoding`, returns it with `option` in place of that.
+pub fn with_option<'a>(alloc: Global, trouble: Trouble<'a>, option: &str) -> Trouble<'a> {
+    if let Trouble::BadLine {
+        file,
+        line,
+        what,
+        ..
+    } = &trouble
+        && let Some((before, after)) = what.split_once("`--encoding ")
+    {
+        return Trouble::of_line(*file, *line, format!(in alloc; "{before}`{option} {after}"));
+    }
+    trouble
 }
 
 /// Returns the trouble of a file whose bytes aren't text in its encoding.
@@ -50,7 +74,8 @@ pub fn of_decoding<'a>(alloc: Global, file: &'a str, error: DecodeError) -> Trou
 ///
 /// # Errors
 ///
-/// `BadLine` if the bytes aren't text in the encoding, are compressed, or have a NUL byte; `Memory` if an allocation fails.
+/// `BadLine` if the bytes aren't text in the encoding, begin with the mark of UTF-8 in an encoding of one byte a character, are compressed, or
+/// have a NUL byte; `Memory` if an allocation fails.
 pub fn text_of<'a>(
     alloc: Global,
     file: &'a str,
@@ -62,6 +87,9 @@ pub fn text_of<'a>(
     let Some(encoding) = encoding else {
         return checked(alloc, file, bytes);
     };
+    if is_marked_utf8(encoding, &bytes) {
+        return Err(Trouble::of_line(file, 1, MARKED.to_string(alloc)));
+    }
     match decode(alloc, encoding, bytes.as_slice()) {
         Ok(text) => checked(alloc, file, text.into_bytes()),
         Err(error) => Err(of_decoding(alloc, file, error)),

@@ -18,7 +18,7 @@ pub enum Trouble<'a> {
     NotText,
     /// The arguments don't fit together.
     #[error("{0}")]
-    Words(String),
+    Arguments(String),
     /// A file wasn't opened, read or written.
     #[error("{file}: {error}")]
     File {
@@ -102,7 +102,7 @@ impl<'a> Trouble<'a> {
     }
 
     /// Returns whether a message is written: not for `Printed`, and not for a write to a pipe that nobody reads any more.
-    pub fn is_said(&self) -> bool
+    pub fn is_reported(&self) -> bool
         ensures { IsTrue result ↔ IsSaid self.now }
     {
         match self {
@@ -125,18 +125,18 @@ impl<'a> Trouble<'a> {
         match self {
             Trouble::Printed(status) | Trouble::Other { status, .. } => *status,
             Trouble::BadLine { is_total, .. } if *is_total => TOTAL_TOO_LARGE,
-            Trouble::NotText | Trouble::Words(_) | Trouble::BadLine { .. } => BAD_INPUT,
+            Trouble::NotText | Trouble::Arguments(_) | Trouble::BadLine { .. } => BAD_INPUT,
             Trouble::Memory | Trouble::MemoryIn { .. } => NO_MEMORY,
             Trouble::File { .. } | Trouble::Random(_) | Trouble::Write(_) => IO_FAILED,
         }
     }
 
-    /// Writes the message to standard error, in a line that begins with the program's name, unless [`Trouble::is_said`] is
+    /// Writes the message to standard error, in a line that begins with the program's name, unless [`Trouble::is_reported`] is
     /// false. Returns the exit status.
     pub fn report<R: Eprint>(&self, rt: &R, program: &str) -> u8
         ensures { result ≡ status_of self.now }
     {
-        if self.is_said() {
+        if self.is_reported() {
             let _ = eprintln!(rt; "{program}: {self}");
         }
         self.status()

@@ -15,7 +15,7 @@ abbrev pub yields : Option ℕ → Option (List ℕ) → Option (List ℕ)
 yields None text = text
 yields (Some c) text = behind (encode_utf8 c) text
 
--- a text behind what is a character, or else no text
+-- the character, and then the text; no text if it is no character
 abbrev pub before : Option ℕ → Option (List ℕ) → Option (List ℕ)
 before None text = None
 before (Some c) text = behind (encode_utf8 c) text
@@ -67,7 +67,7 @@ abbrev pub ordered : Option ByteOrder → List ℕ → Option (List ℕ)
 ordered None bytes = None
 ordered (Some o) bytes = text_of_all (units_in o bytes)
 
--- the text of bytes in UTF-16 with a mark, which isn't text; that of no bytes has none
+-- the text of bytes in UTF-16 behind a byte order mark, without the mark; no bytes need no mark
 abbrev pub marked : List ℕ → Option (List ℕ)
 marked [] = Some []
 marked (a ∷ []) = None

@@ -26,15 +26,21 @@ pub enum Encoding {
 }
 
 impl Encoding {
-    /// Returns the encoding of this name of [`NAMES`], and `None` for UTF-8.
+    /// Returns the encoding of this name of [`NAMES`], in any case, and `None` for UTF-8.
     pub fn named(name: &str) -> Option<Encoding> {
-        match name {
-            "UTF-16" => Some(Encoding::Utf16),
-            "UTF-16LE" => Some(Encoding::Utf16Le),
-            "UTF-16BE" => Some(Encoding::Utf16Be),
-            "Latin-1" => Some(Encoding::Latin1),
-            "Windows-1252" => Some(Encoding::Windows1252),
-            _ => None,
+        let is = |other: &str| name.eq_ignore_ascii_case(other);
+        if is("UTF-16") {
+            Some(Encoding::Utf16)
+        } else if is("UTF-16LE") {
+            Some(Encoding::Utf16Le)
+        } else if is("UTF-16BE") {
+            Some(Encoding::Utf16Be)
+        } else if is("Latin-1") {
+            Some(Encoding::Latin1)
+        } else if is("Windows-1252") {
+            Some(Encoding::Windows1252)
+        } else {
+            None
         }
     }
 }

@@ -11,4 +11,4 @@ returns c =
     let D = c.args.scale.decimals in
     let s = c.args.digits.now in
     let is = parts_decimal m D s c.in-Some.ensures.0 (omega (arith, c.in-Some.ensures.1, c.if-decimals-scale.false)) in
-    (is, past c.args.scale.most (IsDecimal m D s) (units m D s) is c.requires, c.in_ok-greatest.ensures.0, c.in_ok-greatest.ensures.1)
+    (is, past c.args.scale.most (IsDecimal m D s) (units m D s) is c.requires, c.in_ok-greatest.ensures.reads.0, c.in_ok-greatest.ensures.reads.1)
