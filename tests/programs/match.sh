@@ -67,7 +67,18 @@ has ../out "$rows" "UTF-8 and Windows-1252"
 ends 0 "" list.csv semicolons.csv -d ';' --encoding Windows-1252 --delivered-encoding UTF-8 $columns
 has ../out "$rows" "Windows-1252 and UTF-8"
 ends 2 'hashbag_match: text.txt:1: UTF-16; `--encoding UTF-16` reads it' text.txt text.txt
+# the second file has an option of its own, and the mark of UTF-8 isn't read in an encoding of one byte a character
+printf 'article,number\nbolt,1\n' > plain.csv && iconv -t UTF-16 plain.csv > wide.csv && printf 'Gr\366\337e,number\nbolt,1\n' > head.csv
+ends 2 'hashbag_match: wide.csv:1: UTF-16; `--delivered-encoding UTF-16` reads it' plain.csv wide.csv
+ends 2 'hashbag_match: wide.csv:1: UTF-16; `--encoding UTF-16` reads it' wide.csv plain.csv
+ends 2 'hashbag_match: head.csv:1: no column `article`; there are: one that is not UTF-8, `number`; if it is Windows-1252, `--delivered-encoding Windows-1252` reads it' plain.csv head.csv
+{ printf '\357\273\277'; cat plain.csv; } > marked.csv
+ends 2 'hashbag_match: marked.csv:1: UTF-8, by its byte order mark; `--encoding UTF-8` reads it' marked.csv plain.csv --encoding Windows-1252
+ends 2 'hashbag_match: marked.csv:1: UTF-8, by its byte order mark; `--delivered-encoding UTF-8` reads it' plain.csv marked.csv --encoding Latin-1
+ends 0 "" marked.csv plain.csv
 printf 'article,number\n\344,1\n' > latin.csv
+ends 2 'hashbag_match: latin.csv:2: column `article` is not UTF-8; if it is Windows-1252, `--delivered-encoding Windows-1252`' plain.csv latin.csv
+rm plain.csv wide.csv head.csv marked.csv
 ends 2 'hashbag_match: latin.csv:2: column `article` is not UTF-8; if it is Windows-1252, `--encoding Windows-1252`' latin.csv latin.csv
 ends 0 "" latin.csv latin.csv --encoding Latin-1
 printf 'article,number\nbolt,1\n\220,1\n' > undefined.csv
@@ -80,7 +91,7 @@ printf 'a\0\n\0\n\0\075\330b\0' > half.txt
 ends 2 "hashbag_match: half.txt:3: not UTF-16: half a surrogate pair" half.txt half.txt --encoding UTF-16LE
 printf 'a\0\n\0\n\0b' > odd.txt
 ends 2 "hashbag_match: odd.txt:3: not UTF-16: an odd number of bytes" a.csv odd.txt --delivered-encoding UTF-16LE
-for how in "--encoding UTF-7" "--encoding utf-8" "--delivered-encoding latin1"; do
+for how in "--encoding UTF-7" "--delivered-encoding latin1"; do
   "$program" a.csv a.csv $how > ../out 2> ../err
   [ $? = 2 ] && [ ! -s ../out ] && grep -q 'possible values: UTF-8, UTF-16, UTF-16LE, UTF-16BE, Latin-1, Windows-1252' ../err || fail "an encoding without a name: $how"
 done
@@ -243,7 +254,7 @@ for words in "" "a.csv" "- -" "a.csv b.csv --scale 10" "a.csv b.csv --delimiter 
 done
 # No text: a NUL byte, and gzip
 printf 'article,number\nbolt,1\nnut\0,1\n' > nul.csv
-ends 2 'hashbag_match: nul.csv:3: a NUL byte; if it is UTF-16, `--encoding UTF-16LE` reads it' a.csv nul.csv
+ends 2 'hashbag_match: nul.csv:3: a NUL byte; if it is UTF-16, `--delivered-encoding UTF-16LE` reads it' a.csv nul.csv
 gzip -c a.csv > packed.csv
 ends 2 'hashbag_match: packed.csv:1: gzip; `zcat` makes it text' packed.csv a.csv
 

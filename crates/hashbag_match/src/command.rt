@@ -62,7 +62,7 @@ fn with_lines<'a>(alloc: Global, command: CommandResult<'a>) -> CommandResult<'a
     let each_line = Arg::new(alloc, "each-line")
         .long("each-line")
         .action(ArgAction::SetTrue)
-        .help("Read no column of numbers: each line counts as one")
+        .help("Read no column of numbers: each line below the header counts as one")
         .conflicts_with("number")?
         .conflicts_with("delivered-number")?
         .conflicts_with("scale")?

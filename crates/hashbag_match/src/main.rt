@@ -13,16 +13,27 @@ use hashbag_shell::inputs::HostInputs;
 use hashbag_shell::output::Output;
 use hashbag_shell::program::{given_to, program};
 use hashbag_shell::status::BAD_INPUT;
+use hashbag_shell::text::with_option;
 use hashbag_shell::trouble::Trouble;
 use std::hash::RandomState;
 use std::process::ExitCode;
 
 // Names the bad lines of a file on standard error.
-fn name_lines(rt: &HostRuntime, file: &str, errors: Vec<SheetError>) {
+fn name_lines<'a>(rt: &HostRuntime, request: &Request<'a>, file: &'a str, errors: Vec<SheetError>) {
     for error in errors {
         if let Err(trouble) = in_file::<()>(rt.alloc(), file, Err(error)) {
-            trouble.report(rt, PROGRAM);
+            of_either(rt, request, trouble).report(rt, PROGRAM);
         }
+    }
+}
+
+// Returns the trouble. If it is of the second file alone, it names the option for that file's encoding.
+fn of_either<'a>(rt: &HostRuntime, request: &Request<'a>, trouble: Trouble<'a>) -> Trouble<'a> {
+    match &trouble {
+        Trouble::BadLine { file, .. } if *file == request.delivered && *file != request.ordered => {
+            with_option(rt.alloc(), trouble, "--delivered-encoding")
+        }
+        _ => trouble,
     }
 }
 
@@ -46,9 +57,9 @@ fn matched<'a>(
     inputs.end();
     match made {
         Ok(made) => Ok(made),
-        Err(Unmatched::Trouble(trouble)) => Err(trouble),
+        Err(Unmatched::Trouble(trouble)) => Err(of_either(rt, request, trouble)),
         Err(Unmatched::BadLines { file, errors }) => {
-            name_lines(rt, file, errors);
+            name_lines(rt, request, file, errors);
             Err(Trouble::Printed(BAD_INPUT))
         }
     }

@@ -109,7 +109,7 @@ impl<'a> Request<'a> {
     ///
     /// # Errors
     ///
-    /// `Words` if they don't fit together, `Memory` if an allocation fails.
+    /// `Arguments` if they don't fit together, `Memory` if an allocation fails.
     pub fn of<R: Files + AllocGlobal>(
         rt: &R,
         given: &ArgMatches<'a>,
@@ -130,15 +130,15 @@ impl<'a> Request<'a> {
     fn check<R: Files + AllocGlobal>(&self, rt: &R) -> Result<(), Trouble<'a>> {
         let alloc = rt.alloc();
         if self.ordered == "-" && self.delivered == "-" {
-            return Err(Trouble::Words(format!(in alloc; "both files are standard input")?));
+            return Err(Trouble::Arguments(format!(in alloc; "both files are standard input")?));
         }
         if let Err(bad) = self.ask.fits() {
-            return Err(Trouble::Words(format!(in alloc; "{bad}")?));
+            return Err(Trouble::Arguments(format!(in alloc; "{bad}")?));
         }
         if let Some(file) = self.output
             && (is_one_file(rt, self.ordered, file) || is_one_file(rt, self.delivered, file))
         {
-            return Err(Trouble::Words(format!(in alloc; "the output is one of the inputs")?));
+            return Err(Trouble::Arguments(format!(in alloc; "the output is one of the inputs")?));
         }
         Ok(())
     }

@@ -4,6 +4,7 @@ pub mod CarriedLemmas
 pub mod LineLemmas
 pub mod RowLemmas
 pub mod SumLemmas
+pub mod TableLemmas
 pub mod TallyLemmas
 pub mod TextLemmas
 pub mod WrittenLemmas

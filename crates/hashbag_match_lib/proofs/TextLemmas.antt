@@ -1,5 +1,5 @@
 -- Rows of articles, and the text of them, by the bytes of their fields.
-use Rattle.std.proofs.Common.{◌≡◌, ℕ, ◌+◌, ◌<◌, Bool, true, List, [], ◌∷◌, map, All, Ordering, String, inl, inr, refl, sym, ◌∙◌, ap, subst, arith}
+use Rattle.std.proofs.Common.{◌≡◌, ℕ, ◌+◌, ◌<◌, Bool, cond, not, List, [], ◌∷◌, map, sum_by, All, Ordering, String, inl, inr, refl, sym, ◌∙◌, ap, subst, arith}
 use Rattle.std.specs.Borrow.{Bor}
 use Rattle.std.specs.Global.{Global, Vec}
 use Rattle.std.specs.Ordering.{nat_cmp, ordering_then}
@@ -8,6 +8,8 @@ use Rattle.std.specs.Cmp.Lexicographic.{slice_cmp}
 use Rattle.std.specs.List.{AllByRecursion, Contains}
 use Rattle.std.specs.List.Sorted.{IsStrictlySortedBy}
 use Rattle.std.specs.declared.cmp.Ordering.TheVariants.{Less, Equal, Greater}
+use Rattle.std.proofs.lemmas.List.{length-map}
+use Rattle.std.proofs.lemmas.List.Sums.{sum_by-cons}
 use Rattle.std.proofs.lemmas.List.Elements.{All-contains, All-map}
 use Rattle.hashbag.proofs.ContainsLemmas.{All-from_Contains, Contains-map, Contains-map_back}
 use Rattle.hashbag_csv.specs.Articles.{same_article}
@@ -15,16 +17,33 @@ use Rattle.hashbag_csv.specs.FirstLines.{Carried}
 use Rattle.hashbag_csv.specs.LineColumns.{line_bytes}
 use Rattle.hashbag_csv.specs.Quantities.{quantity, times}
 use Rattle.hashbag_csv.specs.Readers.{Record}
-use Rattle.hashbag_match_lib.specs.Matching.{AreRows, lent_rows}
+use Rattle.hashbag_match_lib.specs.Forms.{text_of}
+use Rattle.hashbag_match_lib.specs.Matching.{AreRows, AreTotals, agrees, lent_rows, missing_of, surplus_of, totals_in}
 use Rattle.hashbag_match_lib.specs.Asks.{Lines}
 use Rattle.hashbag_match_lib.specs.Files.{AreMatchedFiles, Encodings, Gives}
 use Rattle.hashbag_match_lib.specs.Shown.{Entry, bytes_row, shown_rows, with_first}
 use Rattle.hashbag_match_lib.specs.Texts.{AreRowsOfLines, IsTextOfLines, Rise, RiseAs, look_asked}
-use Rattle.hashbag_match_lib.specs.Written.{IsTextOf, Look}
+use Rattle.hashbag_match_lib.specs.Written.{Look}
 use Rattle.hashbag_match_lib.specs.declared.ask.Ask.{Ask}
 use Rattle.hashbag_match_lib.specs.declared.matching.Row.{Row}
+use Rattle.hashbag_match_lib.specs.declared.totals.Totals.{Totals}
 use Rattle.hashbag_match_lib.proofs.ByteLemmas.{articles_decide, named_times, quantity_of, times_of}
 use Rattle.hashbag_match_lib.proofs.RowLemmas.{lent_row}
+
+-- a sum over a list that a function makes
+sum_mapped : {X Y : Type 0} (f : Y → ℕ) (g : X → Y) (xs : List X) → sum_by (λ x. f (g x)) xs ≡ sum_by f (map g xs)
+sum_mapped f g [] = refl
+sum_mapped f g (x ∷ xs) = sum_by-cons (λ y. f (g y)) x xs ∙ ap (λ n. f (g x) + n) (sum_mapped f g xs) ∙ sym (sum_by-cons f (g x) (map g xs))
+
+-- the sums of rows are those of the rows with the bytes of their fields
+totals_by_bytes : {A : Type 0} (fields : A → Record) (rows : List (Row (Bor A))) (totals : Totals) → AreTotals rows totals → totals ≡ totals_in (map (bytes_row fields) rows)
+totals_by_bytes fields rows totals are =
+    λ i. record {
+      articles = (are.articles ∙ sym (length-map rows (bytes_row fields))) i;
+      differing = (are.differing ∙ sum_mapped (λ row. cond (not (agrees row)) 1 0) (bytes_row fields) rows) i;
+      missing = (are.missing ∙ sum_mapped missing_of (bytes_row fields) rows) i;
+      surplus = (are.surplus ∙ sum_mapped surplus_of (bytes_row fields) rows) i;
+    }
 
 module _ {A : Type 0} {eq : A → A → Bool} (cmp : A → A → Ordering) (fields : A → Record) (same : (x y : A) → eq x y ≡ same_article (fields x) (fields y)) (F G : List (A × ℕ)) (rows : List (Row (Bor A)))
     (h : AreRows eq cmp (λ v. times eq v F + times eq v G) (λ v. quantity eq v F) (λ v. quantity eq v G) (lent_rows rows)) where
@@ -78,14 +97,14 @@ module _ {A : Type 0} {eq : A → A → Bool} (cmp : A → A → Ordering) (fiel
   }
 
   -- the text of these rows
-  pub text_by_bytes : (ask : Ask) (L M : Lines) (K : List Carried) (entries : List Entry) (look : Look) (text : List ℕ) → lines F ≡ L → lines G ≡ M
-      → entries ≡ map (with_first K) (shown_rows ask.only (map (bytes_row fields) rows)) → look ≡ look_asked ask → IsTextOf ask.form look entries text
+  pub text_by_bytes : (ask : Ask) (L M : Lines) (K : List Carried) (entries : List Entry) (look : Look) (totals : Totals) (text : List ℕ) → lines F ≡ L → lines G ≡ M
+      → entries ≡ map (with_first K) (shown_rows ask.only (map (bytes_row fields) rows)) → look ≡ look_asked ask → AreTotals rows totals → text ≡ text_of ask.form look totals entries
       → IsTextOfLines (RiseAs cmp fields) ask L M K text
-  text_by_bytes ask L M K entries look text first second shown asked is = record {
+  text_by_bytes ask L M K entries look totals text first second shown asked sums is = record {
     rows = map (bytes_row fields) rows;
     are = subst (λ l. AreRowsOfLines (RiseAs cmp fields) l M (map (bytes_row fields) rows)) first
         (subst (λ m. AreRowsOfLines (RiseAs cmp fields) (lines F) m (map (bytes_row fields) rows)) second rows_by_bytes);
-    is = subst (λ e. IsTextOf ask.form (look_asked ask) e text) shown (subst (λ l. IsTextOf ask.form l entries text) asked is);
+    is = is ∙ λ i. text_of ask.form (asked i) (totals_by_bytes fields rows totals sums i) (shown i);
   }
 
 -- ---- the order of what articles are kept as

@@ -19,6 +19,11 @@ use Rattle.hashbag_match_lib.specs.Written.{HasWritten, member_tokens, members, 
 pub flat_more : {X A : Type 0} (f : X → List A) (xs : List X) (x : X) → flat_map f (xs ++ x ∷ []) ≡ flat_map f xs ++ f x
 flat_more f xs x = flat_map-append f xs (x ∷ []) ∙ ap (λ l. flat_map f xs ++ l) (flat_map-cons f x [] ∙ append-nil (f x))
 
+-- what two functions make of a list, and of one item more
+pub mapped_more : {X Y Z : Type 0} (f : Y → Z) (g : X → Y) (xs : List X) (x : X) → map f (map g (xs ++ x ∷ [])) ≡ map f (map g xs) ++ f (g x) ∷ []
+mapped_more f g [] x = refl
+mapped_more f g (y ∷ xs) x = ap (λ l. f (g y) ∷ l) (mapped_more f g xs x)
+
 -- three parts, appended one after another
 pub three_parts : {X : Type 0} (m n o p x y z : List X) → m ≡ [] → n ≡ m ++ x → o ≡ n ++ y → p ≡ o ++ z → p ≡ x ++ (y ++ z)
 three_parts m n o p x y z none first second third = third ∙ (λ i. (second ∙ (λ j. (first ∙ (λ k. none k ++ x)) j ++ y)) i ++ z) ∙ append_assoc x y z

@@ -1,9 +1,12 @@
 pub mod Asks
 pub mod Fields
 pub mod Files
+pub mod Forms
 pub mod Matched
 pub mod Matching
 pub mod Shown
+pub mod Tables
+pub mod TablesExamples
 pub mod Tallies
 pub mod Texts
 pub mod Widths

@@ -20,7 +20,16 @@ module _ {T : Type 0} where
   abbrev pub agrees : Row T → Bool
   agrees row = row.ordered == row.delivered
 
-  -- the sums over all rows
+  -- the sums of all rows
+  abbrev pub totals_in : List (Row T) → Totals
+  totals_in rows = record {
+    articles = length rows;
+    differing = count_by (λ row. not (agrees row)) rows;
+    missing = sum_by missing_of rows;
+    surplus = sum_by surplus_of rows;
+  }
+
+  -- the same, one by one
   pub record AreTotals (rows : List (Row T)) (totals : Totals) : Type 0 where
     pub articles : totals.articles ≡ length rows
     pub differing : totals.differing ≡ count_by (λ row. not (agrees row)) rows

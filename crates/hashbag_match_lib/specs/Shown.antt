@@ -1,8 +1,10 @@
 -- Which rows are written, and the bytes of their fields.
-use Rattle.std.specs.Prelude.{Bool, true, List, filter, map, nat_lt, not}
+use Rattle.std.specs.Prelude.{◌≡◌, Bool, true, List, String, filter, map, nat_lt, not}
 use Rattle.std.specs.Borrow.{Bor}
+use Rattle.std.specs.Global.{Global, Vec}
+use Rattle.std.specs.HashMap.{HashMap}
 use Rattle.std.specs.String.{string_bytes}
-use Rattle.hashbag_csv.specs.FirstLines.{Carried, first_of}
+use Rattle.hashbag_csv.specs.FirstLines.{Carried, HasFirsts, first_of}
 use Rattle.hashbag_csv.specs.Readers.{Record}
 use Rattle.hashbag_match_lib.specs.Matching.{agrees, missing_of, surplus_of}
 use Rattle.hashbag_match_lib.specs.declared.matching.Row.{Row}
@@ -38,6 +40,20 @@ entry_of row = record {
   delivered = row.delivered;
 }
 
+-- the same of each row
+abbrev pub entries_of : List (Row Fields) → List Entry
+entries_of rows = map entry_of rows
+
 -- a row with what the first line with its article carries along
 abbrev pub with_first : List Carried → Row Record → Entry
 with_first K row = record { article = (row.article, first_of row.article K); ordered = row.ordered; delivered = row.delivered }
+
+module _ {A S : Type 0} (eq : A → A → Bool) (fields : A → Record) (firsts : HashMap A (Vec (String Global)) S) where
+  -- texts are the fields that the first line with an article carries along, whatever lines the map has the first fields of
+  abbrev pub AreFieldsAlong : A → List (String Global) → Type 0
+  AreFieldsAlong article texts = (K : List Carried) → HasFirsts eq fields K firsts → map string_bytes texts ≡ first_of (fields article) K
+
+  -- rows are those that are written, each with what the first line with its article carries along
+  abbrev pub AreShownRows : Only → List (Row (Bor A)) → List (Row Fields) → Type 0
+  AreShownRows which rows shown =
+      (K : List Carried) → HasFirsts eq fields K firsts → entries_of shown ≡ map (with_first K) (shown_rows which (map (bytes_row fields) rows))

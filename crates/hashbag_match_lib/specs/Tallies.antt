@@ -54,7 +54,7 @@ module _ {T : Type 0} (eq : T → T → Bool) where
         (L M : List (T × ℕ)) → IsTallyOf eq L ordered.counts ordered.zeros → IsTallyOf eq M delivered.counts delivered.zeros
         → AreRows eq cmp (λ v. times eq v L + times eq v M) (λ v. quantity eq v L) (λ v. quantity eq v M) rows
 
-    -- the test says whether the lines of two tallies name as many of each article
+    -- `agree` says whether the lines of both tallies add up to the same number of each article
     abbrev pub SaysWhetherTalliesAgree : Tally T S H → Tally T S H → Bool → Type 0
     SaysWhetherTalliesAgree ordered delivered agree =
         (L M : List (T × ℕ)) → IsTallyOf eq L ordered.counts ordered.zeros → IsTallyOf eq M delivered.counts delivered.zeros

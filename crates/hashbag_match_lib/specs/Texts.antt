@@ -11,8 +11,10 @@ use Rattle.hashbag_csv.specs.Quantities.{quantity, times}
 use Rattle.hashbag_csv.specs.Readers.{Record}
 use Rattle.hashbag_match_lib.specs.Asks.{Lines, carried_along, delivered_in, names_of, ordered_in}
 use Rattle.hashbag_match_lib.specs.Fields.{IsTallyOfLines}
+use Rattle.hashbag_match_lib.specs.Forms.{text_of}
+use Rattle.hashbag_match_lib.specs.Matching.{totals_in}
 use Rattle.hashbag_match_lib.specs.Shown.{shown_rows, with_first}
-use Rattle.hashbag_match_lib.specs.Written.{IsTextOf, Look}
+use Rattle.hashbag_match_lib.specs.Written.{Look}
 use Rattle.hashbag_match_lib.specs.declared.ask.Ask.{Ask}
 use Rattle.hashbag_match_lib.specs.declared.matching.Row.{Row}
 use Rattle.hashbag_match_lib.specs.declared.texts.Lists.{Lists}
@@ -44,11 +46,12 @@ look_asked ask = record {
 }
 
 module _ (Rising : List Record → Type 0) (ask : Ask) where
-  -- the text is what is written of the rows of these lines. With a row goes what the first line with its article carries along
+  -- the text is what is written of the rows of these lines. With a row goes what the first line with its article carries along. The sums are of
+  -- all rows, also of those that aren't written
   pub record IsTextOfLines (L M : Lines) (K : List Carried) (text : List ℕ) : Type 0 where
     pub rows : List (Row Record)
     pub are : AreRowsOfLines Rising L M rows
-    pub is : IsTextOf ask.form (look_asked ask) (map (with_first K) (shown_rows ask.only rows)) text
+    pub is : text ≡ text_of ask.form (look_asked ask) (totals_in rows) (map (with_first K) (shown_rows ask.only rows))
 
   -- the same of the lines of two texts, of which the first one comes first
   abbrev pub IsTextOfTexts : List ℕ → List ℕ → List ℕ → Type 0

@@ -1,23 +1,22 @@
 -- The bytes that are written of rows, in each form.
-use Rattle.std.specs.Prelude.{◌≡◌, ℕ, ◌<◌, false, List, [], ◌∷◌, ◌++◌, codes, decimal, flat_map, map, Some, ⊤}
-use Rattle.std.specs.Global.{Vec}
-use Rattle.std.specs.List.{AllZip}
+use Rattle.std.specs.Prelude.{◌≡◌, ℕ, ◌==◌, false, List, [], ◌∷◌, ◌++◌, codes, decimal, flat_map, String, if◌then◌else◌, map, Some}
+use Rattle.std.specs.Borrow.{Bor}
+use Rattle.std.specs.Global.{Global, Vec}
+use Rattle.std.specs.String.{string_bytes}
 use Rattle.csv.specs.Writing.{default_writer, fields_written, has_written, row_text, text_written, with_delimiter, writer_setup}
 use Rattle.csv.specs.declared.writer.Writer.{Writer}
 use Rattle.csv.specs.declared.writer.WriterBuilder.{WriterBuilder}
 use Rattle.json.specs.Print.{print}
 use Rattle.json.specs.Token.{Token, begin_array, begin_object, end_array, end_object, key, number, string}
-use Rattle.hashbag_csv.specs.Lines.{number_in}
 use Rattle.hashbag_csv.specs.Readers.{Record, byte_of}
-use Rattle.hashbag_csv.specs.Scales.{IsNumberIn}
+use Rattle.hashbag_csv.specs.Scales.{number_text}
 use Rattle.hashbag_csv.specs.declared.delimiter.Delimiter.{Delimiter}
 use Rattle.hashbag_csv.specs.declared.scale.Scale.{Scale}
 use Rattle.hashbag_match_lib.specs.Matching.{missing_of, surplus_of}
-use Rattle.hashbag_match_lib.specs.Shown.{Entry}
+use Rattle.hashbag_match_lib.specs.Shown.{Entry, entries_of, entry_of}
 use Rattle.hashbag_match_lib.specs.declared.matching.Row.{Row}
-use Rattle.hashbag_match_lib.specs.declared.output.Form.{Form}
-use Rattle.hashbag_match_lib.specs.declared.output.Form.TheVariants as form
 use Rattle.hashbag_match_lib.specs.declared.output.Layout.{Layout}
+use Rattle.hashbag_match_lib.specs.declared.shown.Fields.{Fields}
 
 -- the numbers of a row, in the order of their columns
 abbrev pub numbers_in : {T : Type 0} → Row T → List ℕ
@@ -43,19 +42,19 @@ look_of layout = record {
   delimiter = layout.delimiter;
 }
 
--- a text is this number, in units of the scale
-abbrev pub IsNumberText : Scale → ℕ → List ℕ → Type 0
-IsNumberText scale n text = IsNumberIn scale text × (number_in scale text ≡ n)
+-- the texts of the numbers of a row
+abbrev pub numbers_text : {T : Type 0} → Scale → Row T → Record
+numbers_text scale row = map (number_text scale) (numbers_in row)
 
--- the texts are these numbers, one by one
-abbrev pub AreNumberTexts : Scale → List ℕ → Record → Type 0
-AreNumberTexts scale numbers texts = AllZip (IsNumberText scale) numbers texts
-
--- the fields of a row, and the texts of its numbers
-abbrev pub IsRecord : Scale → Entry → Record → Type 0
-IsRecord scale row cells = (numbers : Record) × AreNumberTexts scale (numbers_in row) numbers × (cells ≡ row.article.0 ++ (row.article.1 ++ numbers))
+-- the record of a row: its fields, and the texts of its numbers
+abbrev pub record_of : Scale → Entry → Record
+record_of scale row = row.article.0 ++ (row.article.1 ++ numbers_text scale row)
 
 -- ---- CSV
+
+-- the bytes of fields
+abbrev pub field_bytes : Vec (Bor (List ℕ)) → Record
+field_bytes fields = map (λ f. f.now) fields.items
 
 -- fields between this delimiter, in quotes where they have to be
 abbrev pub writer_of : Delimiter → WriterBuilder
@@ -81,9 +80,8 @@ abbrev pub header_of : Look → Record
 header_of look = look.keys ++ (look.carried ++ number_names)
 
 -- a header, and a record for each row
-abbrev pub IsCsvText : Look → List Entry → List ℕ → Type 0
-IsCsvText look rows text =
-    (records : List Record) × AllZip (IsRecord look.scale) rows records × (text ≡ records_text look.delimiter (header_of look ∷ records))
+abbrev pub csv_text : Look → List Entry → List ℕ
+csv_text look rows = records_text look.delimiter (header_of look ∷ map (record_of look.scale) rows)
 
 -- ---- JSON
 
@@ -97,29 +95,35 @@ members (name ∷ names) (value ∷ values) = key name ∷ value ∷ members nam
 abbrev pub member_tokens : Record → Record → List Token
 member_tokens names fields = members names (map string fields)
 
--- a number, or a text of it if the scale has decimals
-pub record IsNumberToken (scale : Scale) (n : ℕ) (token : Token) : Type 0 where
-  pub whole : scale.decimals ≡ 0 → token ≡ number (decimal n)
-  pub parts : 0 < scale.decimals → (text : List ℕ) × IsNumberText scale n text × (token ≡ string text)
+-- the same of texts
+abbrev pub field_tokens : List (Bor (List ℕ)) → List (String Global) → List Token
+field_tokens names fields = member_tokens (map (λ n. n.now) names) (map string_bytes fields)
+
+-- a number, or the text of it if the scale has decimals
+abbrev pub number_token : Scale → ℕ → Token
+number_token scale n = if scale.decimals == 0 then number (decimal n) else string (number_text scale n)
+
+-- a member with a number
+abbrev pub number_member : List ℕ → Scale → ℕ → List Token
+number_member name scale n = key name ∷ number_token scale n ∷ []
 
 -- an object: a member for each column
-abbrev pub IsObject : Look → Entry → List Token → Type 0
-IsObject look row object =
-    (numbers : List Token) × AllZip (IsNumberToken look.scale) (numbers_in row) numbers
-    × (object ≡ begin_object ∷ (member_tokens look.keys row.article.0 ++ (member_tokens look.carried row.article.1 ++ (members number_names numbers ++ end_object ∷ []))))
+abbrev pub object_of : Look → Entry → List Token
+object_of look row =
+    begin_object ∷ (member_tokens look.keys row.article.0 ++ (member_tokens look.carried row.article.1
+    ++ (members number_names (map (number_token look.scale) (numbers_in row)) ++ end_object ∷ [])))
 
 -- the tokens of an array of these objects
 abbrev pub array_tokens : List (List Token) → List Token
 array_tokens objects = begin_array ∷ (flat_map (λ o. o) objects ++ end_array ∷ [])
 
+-- the object of a row, and the array of rows
+abbrev pub row_object : Layout → Row Fields → List Token
+row_object layout row = object_of (look_of layout) (entry_of row)
+
+abbrev pub rows_tokens : Layout → List (Row Fields) → List Token
+rows_tokens layout rows = array_tokens (map (object_of (look_of layout)) (entries_of rows))
+
 -- an array of an object for each row, on a line
-abbrev pub IsJsonText : Look → List Entry → List ℕ → Type 0
-IsJsonText look rows text = (objects : List (List Token)) × AllZip (IsObject look) rows objects × (text ≡ print (array_tokens objects) ++ 10 ∷ [])
-
--- ---- all forms
-
--- the text of rows in a form
-abbrev pub IsTextOf : Form → Look → List Entry → List ℕ → Type 0
-IsTextOf form.Table look rows text = ⊤
-IsTextOf form.Csv look rows text = IsCsvText look rows text
-IsTextOf form.Json look rows text = IsJsonText look rows text
+abbrev pub json_text : Look → List Entry → List ℕ
+json_text look rows = print (array_tokens (map (object_of look) rows)) ++ 10 ∷ []

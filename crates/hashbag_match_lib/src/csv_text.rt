@@ -1,9 +1,8 @@
 //! Rows as CSV.
 ghost use Rattle.std.specs.Prelude.{◌≡◌, ◌++◌, [], map, IfOk, OnOk};
 ghost use Rattle.std.specs.String.{string_bytes};
-ghost use Rattle.hashbag_csv.specs.Readers.{Record};
-ghost use Rattle.hashbag_match_lib.specs.Shown.{entry_of};
-ghost use Rattle.hashbag_match_lib.specs.Written.{HasWritten, IsCsvText, IsRecord, WritesRecord, header_of, look_of};
+ghost use Rattle.hashbag_match_lib.specs.Shown.{entries_of, entry_of};
+ghost use Rattle.hashbag_match_lib.specs.Written.{HasWritten, WritesRecord, csv_text, field_bytes, header_of, look_of, record_of};
 
 use crate::matching::Row;
 use crate::output::{Layout, NUMBERS, numbers_of};
@@ -25,7 +24,7 @@ fn push_record(writer: &mut Writer<Vec<u8>>, cells: &[&[u8]]) -> Result<(), Allo
 
 // Appends names.
 fn push_names<'n>(cells: &mut Vec<&'n [u8]>, names: &[&'n str]) -> Result<(), AllocError>
-    ensures { OnOk result (map (λ f. f.now) cells.new.items ≡ map (λ f. f.now) cells.old.items ++ map (λ n. n.now) names.now) }
+    ensures { OnOk result (field_bytes cells.new ≡ field_bytes cells.old ++ map (λ n. n.now) names.now) }
 {
     for name in names {
         cells.push(name.as_bytes())?;
@@ -35,7 +34,7 @@ fn push_names<'n>(cells: &mut Vec<&'n [u8]>, names: &[&'n str]) -> Result<(), Al
 
 // Appends fields.
 fn push_fields<'f>(cells: &mut Vec<&'f [u8]>, fields: &'f [String]) -> Result<(), AllocError>
-    ensures { OnOk result (map (λ f. f.now) cells.new.items ≡ map (λ f. f.now) cells.old.items ++ map string_bytes fields.now) }
+    ensures { OnOk result (field_bytes cells.new ≡ field_bytes cells.old ++ map string_bytes fields.now) }
 {
     for field in fields {
         cells.push(field.as_str().as_bytes())?;
@@ -74,7 +73,7 @@ fn push_row(
     row: &Row<Fields<'_>>,
     scale: Scale,
 ) -> Result<(), AllocError>
-    ensures { OnOk result ((cells : Record) × IsRecord scale (entry_of row.now) cells × WritesRecord cells writer.old writer.new) }
+    ensures { OnOk result (WritesRecord (record_of scale (entry_of row.now)) writer.old writer.new) }
 {
     let numbers = numbers_of(alloc, row, scale)?;
     let mut cells = Vec::new(alloc);
@@ -95,7 +94,7 @@ pub fn csv_of(
     rows: &[Row<Fields<'_>>],
     layout: Layout<'_>,
 ) -> Result<Vec<u8>, AllocError>
-    ensures { IfOk result (λ text. IsCsvText (look_of layout.entry) (map entry_of rows.now) text.items) }
+    ensures { IfOk result (λ text. text.items ≡ csv_text (look_of layout.entry) (entries_of rows.now)) }
 {
     let mut writer = writer_with(alloc, layout.delimiter);
     push_header(alloc, &mut writer, layout)?;

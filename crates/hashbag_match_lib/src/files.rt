@@ -2,7 +2,8 @@
 ghost use Rattle.std.specs.Prelude.{◌≡◌, IfErr, IfOk, IfSome};
 ghost use Rattle.hashbag_match_lib.specs.Asks.{lines_asked};
 ghost use Rattle.hashbag_match_lib.specs.Fields.{TalliesLines};
-ghost use Rattle.hashbag_match_lib.specs.Files.{AreErrorsIn, AreListsOf, AreMatchedFiles, IsListOf, NamesLinesOfEither, NamesLinesOfSource, NamesLinesOfText};
+ghost use Rattle.hashbag_match_lib.specs.Files.{AreErrorsIn, AreListsOf, AreMatchedFiles, IsListOf};
+ghost use Rattle.hashbag_match_lib.specs.Files.{NamesLinesOfEither, NamesLinesOfSource, NamesLinesOfText};
 ghost use Rattle.hashbag_match_lib.specs.Texts.{Rise, RiseAs};
 
 use crate::ask::{Ask, Columns};
@@ -121,7 +122,8 @@ fn read_list<'a, A: Article + Drop, S: BuildHasher + Copy + Drop, I: Inputs>(
     ask: &Ask<'_>,
     firsts: &mut HashMap<A, Vec<String>, S>,
 ) -> Result<Tally<A, S>, Unmatched<'a>>
-    ensures list { IfOk result (IsListOf A.eq A.fields (I.gives inputs.now) ask.now source.entry firsts.old firsts.new) }
+    ensures list { IfOk result
+        (IsListOf A.eq A.fields (I.gives inputs.now) ask.now source.entry firsts.old firsts.new) }
     ensures bad_lines { IfErr result (NamesLinesOfSource (I.gives inputs.now) ask.now source.entry) }
 {
     let file = source.file;
@@ -142,8 +144,10 @@ fn read_lists<'a, A: Article + Drop, S: BuildHasher + Copy + Drop, I: Inputs>(
     delivered: &'a str,
     encodings: (Option<Encoding>, Option<Encoding>),
 ) -> Result<Lists<A, S>, Unmatched<'a>>
-    ensures lists { IfOk result (AreListsOf A.eq A.fields (I.gives inputs.now) encodings ask.now ordered.now delivered.now) }
-    ensures bad_lines { IfErr result (NamesLinesOfEither (I.gives inputs.now) encodings ask.now ordered.now delivered.now) }
+    ensures lists { IfOk result
+        (AreListsOf A.eq A.fields (I.gives inputs.now) encodings ask.now ordered.now delivered.now) }
+    ensures bad_lines { IfErr result
+        (NamesLinesOfEither (I.gives inputs.now) encodings ask.now ordered.now delivered.now) }
 {
     let first = Source {
         file: ordered,
@@ -177,9 +181,10 @@ fn match_as<'a, A: Article + Drop, S: BuildHasher + Copy + Drop, I: Inputs>(
     delivered: &'a str,
     encodings: (Option<Encoding>, Option<Encoding>),
 ) -> Result<(Vec<u8>, Findings), Unmatched<'a>>
-    ensures matched { IfOk result (λ made. AreMatchedFiles (RiseAs A.cmp A.fields) (I.gives inputs.now) encodings ask.now
-        ordered.now delivered.now made.0.items made.1.status) }
-    ensures bad_lines { IfErr result (NamesLinesOfEither (I.gives inputs.now) encodings ask.now ordered.now delivered.now) }
+    ensures matched { IfOk result (λ made. AreMatchedFiles (RiseAs A.cmp A.fields) (I.gives inputs.now) encodings
+        ask.now ordered.now delivered.now made.0.items made.1.status) }
+    ensures bad_lines { IfErr result
+        (NamesLinesOfEither (I.gives inputs.now) encodings ask.now ordered.now delivered.now) }
 {
     let lists = read_lists::<A, S, I>(alloc, state, inputs, ask, ordered, delivered, encodings)?;
     Ok(match_lists(alloc, state, &lists, ask)?)
@@ -211,7 +216,8 @@ pub fn match_files<'a, S: BuildHasher + Copy + Drop, I: Inputs>(
         ordered.now delivered.now made.0.items made.1.status) }
 
     // If the error is `BadLines`, it has bad lines of the file that it names.
-    ensures bad_lines { IfErr result (NamesLinesOfEither (I.gives inputs.now) encodings ask.now ordered.now delivered.now) }
+    ensures bad_lines { IfErr result
+        (NamesLinesOfEither (I.gives inputs.now) encodings ask.now ordered.now delivered.now) }
 {
     if ask.ordered.keys.len() == 1 {
         return match_as::<String, S, I>(alloc, state, inputs, ask, ordered, delivered, encodings);

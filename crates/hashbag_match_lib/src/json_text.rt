@@ -1,10 +1,7 @@
 //! Rows as JSON.
-ghost use Rattle.std.specs.Prelude.{◌≡◌, ◌++◌, ◌∷◌, [], List, map, IfOk, OnOk};
-ghost use Rattle.std.specs.List.{AllZip};
-ghost use Rattle.std.specs.String.{string_bytes};
-ghost use Rattle.json.specs.Token.{Token, key};
-ghost use Rattle.hashbag_match_lib.specs.Shown.{entry_of};
-ghost use Rattle.hashbag_match_lib.specs.Written.{IsJsonText, IsNumberToken, IsObject, array_tokens, look_of, member_tokens};
+ghost use Rattle.std.specs.Prelude.{◌≡◌, ◌++◌, IfOk, OnOk};
+ghost use Rattle.hashbag_match_lib.specs.Shown.{entries_of};
+ghost use Rattle.hashbag_match_lib.specs.Written.{field_tokens, json_text, look_of, number_member, row_object, rows_tokens};
 
 use crate::matching::Row;
 use crate::output::Layout;
@@ -17,7 +14,7 @@ use std::alloc::{AllocError, Global};
 // Writes a member for each field, with the name of its column.
 fn write_fields(writer: &mut Writer, names: &[&str], fields: &[String]) -> Result<(), AllocError>
     ensures before { writer.new.before ≡ writer.old.before }
-    ensures tokens { OnOk result (writer.new.tokens ≡ writer.old.tokens ++ member_tokens (map (λ n. n.now) names.now) (map string_bytes fields.now)) }
+    ensures tokens { OnOk result (writer.new.tokens ≡ writer.old.tokens ++ field_tokens names.now fields.now) }
 {
     for (name, field) in names.iter().zip(fields.iter()) {
         writer.key(*name)?;
@@ -35,7 +32,7 @@ fn write_number(
     scale: Scale,
 ) -> Result<(), AllocError>
     ensures before { writer.new.before ≡ writer.old.before }
-    ensures tokens { OnOk result ((t : Token) × IsNumberToken scale number t × (writer.new.tokens ≡ writer.old.tokens ++ key name.now ∷ t ∷ [])) }
+    ensures tokens { OnOk result (writer.new.tokens ≡ writer.old.tokens ++ number_member name.now scale number) }
 {
     writer.key(name)?;
     if scale.decimals == 0 {
@@ -52,7 +49,7 @@ fn write_row(
     layout: Layout<'_>,
 ) -> Result<(), AllocError>
     ensures before { writer.new.before ≡ writer.old.before }
-    ensures tokens { OnOk result ((object : List Token) × IsObject (look_of layout.entry) (entry_of row.now) object × (writer.new.tokens ≡ writer.old.tokens ++ object)) }
+    ensures tokens { OnOk result (writer.new.tokens ≡ writer.old.tokens ++ row_object layout.entry row.now) }
 {
     let scale = layout.scale;
     writer.begin_object()?;
@@ -74,8 +71,7 @@ fn write_rows(
     layout: Layout<'_>,
 ) -> Result<(), AllocError>
     ensures before { writer.new.before ≡ writer.old.before }
-    ensures tokens { OnOk result ((objects : List (List Token)) × AllZip (IsObject (look_of layout.entry)) (map entry_of rows.now) objects
-        × (writer.new.tokens ≡ writer.old.tokens ++ array_tokens objects)) }
+    ensures tokens { OnOk result (writer.new.tokens ≡ writer.old.tokens ++ rows_tokens layout.entry rows.now) }
 {
     writer.begin_array()?;
     for row in rows {
@@ -94,7 +90,7 @@ pub fn json_of(
     rows: &[Row<Fields<'_>>],
     layout: Layout<'_>,
 ) -> Result<Vec<u8>, AllocError>
-    ensures { IfOk result (λ text. IsJsonText (look_of layout.entry) (map entry_of rows.now) text.items) }
+    ensures { IfOk result (λ text. text.items ≡ json_text (look_of layout.entry) (entries_of rows.now)) }
 {
     let mut writer = Writer::new(Vec::new(alloc));
     write_rows(alloc, &mut writer, rows, layout)?;

@@ -1,8 +1,9 @@
 //! The text of rows.
-ghost use Rattle.std.specs.Prelude.{map, IfOk};
+ghost use Rattle.std.specs.Prelude.{◌≡◌, map, IfOk};
 ghost use Rattle.std.specs.String.{string_bytes};
-ghost use Rattle.hashbag_match_lib.specs.Shown.{entry_of};
-ghost use Rattle.hashbag_match_lib.specs.Written.{AreNumberTexts, IsTextOf, look_of, numbers_in};
+ghost use Rattle.hashbag_match_lib.specs.Forms.{text_of as text_in};
+ghost use Rattle.hashbag_match_lib.specs.Shown.{entries_of};
+ghost use Rattle.hashbag_match_lib.specs.Written.{look_of, numbers_text};
 
 use crate::csv_text::csv_of;
 use crate::json_text::json_of;
@@ -64,7 +65,7 @@ pub fn is_reserved(name: &str) -> bool {
 ///
 /// An allocation fails.
 pub fn numbers_of<T>(alloc: Global, row: &Row<T>, scale: Scale) -> Result<[String; 4], AllocError>
-    ensures { IfOk result (λ texts. AreNumberTexts scale (numbers_in row.now) (map string_bytes texts)) }
+    ensures { IfOk result (λ texts. map string_bytes texts ≡ numbers_text scale row.now) }
 {
     Ok([
         write_decimal(alloc, row.ordered, scale)?,
@@ -86,7 +87,7 @@ pub fn text_of(
     layout: Layout<'_>,
     form: Form,
 ) -> Result<Vec<u8>, AllocError>
-    ensures { IfOk result (λ text. IsTextOf form (look_of layout.entry) (map entry_of rows.now) text.items) }
+    ensures { IfOk result (λ text. text.items ≡ text_in form (look_of layout.entry) totals.now (entries_of rows.now)) }
 {
     match form {
         Form::Table => table_of(alloc, rows, totals, layout),

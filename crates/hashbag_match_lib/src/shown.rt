@@ -1,8 +1,6 @@
 //! The rows that are written.
-ghost use Rattle.std.specs.Prelude.{◌≡◌, List, map, IfOk};
-ghost use Rattle.std.specs.String.{string_bytes};
-ghost use Rattle.hashbag_csv.specs.FirstLines.{Carried, HasFirsts, first_of};
-ghost use Rattle.hashbag_match_lib.specs.Shown.{bytes_row, entry_of, shown_rows as rows_shown, shows as is_shown, with_first};
+ghost use Rattle.std.specs.Prelude.{◌≡◌, IfOk};
+ghost use Rattle.hashbag_match_lib.specs.Shown.{AreFieldsAlong, AreShownRows, shows as is_shown};
 
 use crate::matching::Row;
 use hashbag_csv::article::Article;
@@ -62,8 +60,7 @@ fn fields_along<'f, A: Article + Drop, S: BuildHasher + Drop>(
     firsts: &'f HashMap<A, Vec<String>, S>,
     article: &A,
 ) -> &'f [String]
-    ensures { (K : List Carried) → HasFirsts A.eq A.fields K firsts.now
-        → map string_bytes result.now ≡ first_of (A.fields article.now) K }
+    ensures { AreFieldsAlong A.eq A.fields firsts.now article.now result.now }
 {
     if firsts.is_empty() {
         return &[];
@@ -87,8 +84,7 @@ pub fn shown_rows<'a, A: Article + Drop, S: BuildHasher + Drop>(
     rows: &[Row<&'a A>],
     firsts: &'a HashMap<A, Vec<String>, S>,
 ) -> Result<Vec<Row<Fields<'a>>>, AllocError>
-    ensures { IfOk result (λ shown. (K : List Carried) → HasFirsts A.eq A.fields K firsts.now
-        → map entry_of shown.items ≡ map (with_first K) (rows_shown only (map (bytes_row A.fields) rows.now))) }
+    ensures { IfOk result (λ shown. AreShownRows A.eq A.fields firsts.now only rows.now shown.items) }
 {
     let mut shown = Vec::new(alloc);
     for row in rows {

@@ -1,10 +1,14 @@
 //! Rows in columns.
-ghost use Rattle.std.specs.Prelude.{map, IfOk};
+ghost use Rattle.std.specs.Prelude.{◌≡◌, ◌++◌, ◌∷◌, [], get_or, map, flat_map, IfOk, OnOk};
 ghost use Rattle.std.specs.String.{string_bytes};
-ghost use Rattle.hashbag_match_lib.specs.Widths.{AreWidened};
+ghost use Rattle.hashbag_match_lib.specs.Shown.{entries_of, entry_of};
+ghost use Rattle.hashbag_match_lib.specs.Tables.{cell_bytes, cells_of as cells_in, escaped_fields, line_bytes, row_cells};
+ghost use Rattle.hashbag_match_lib.specs.Tables.{cell_text, gap, line_text, spaces, sums_text, table_text, title_of, titles_of as titles_in};
+ghost use Rattle.hashbag_match_lib.specs.Widths.{AreWidened, AreWidths, width_of};
+ghost use Rattle.hashbag_match_lib.specs.Written.{look_of, numbers_text};
 
 use crate::matching::Row;
-use crate::output::{Layout, numbers_of};
+use crate::output::Layout;
 use crate::shown::Fields;
 use crate::totals::Totals;
 use hashbag_csv::decimals::write_decimal;
@@ -17,70 +21,151 @@ use unicode_width::UnicodeWidthStr;
 static NUMBERS: [&str; 4] = ["ORDERED", "DELIVERED", "MISSING", "SURPLUS"];
 
 // Appends names in capitals.
-fn push_names(alloc: Global, titles: &mut Vec<String>, names: &[&str]) -> Result<(), AllocError> {
+fn push_names(alloc: Global, titles: &mut Vec<String>, names: &[&str]) -> Result<(), AllocError>
+    ensures { OnOk result (cell_bytes titles.new ≡ cell_bytes titles.old ++ map title_of (map (λ n. n.now) names.now)) }
+{
     for name in names {
-        let title = format!(in alloc; "{}", Escaped(name.to_uppercase(alloc)?.as_str()))?;
-        titles.push(title)?;
+        let capitals = name.to_uppercase(alloc)?;
+        titles.push(format!(in alloc; "{}", Escaped(capitals.as_str()))?)?;
     }
     Ok(())
 }
 
-// The titles: the names of the key columns in capitals, then those of the columns that are carried along, then those of the numbers.
-fn titles_of(alloc: Global, layout: Layout<'_>) -> Result<Vec<String>, AllocError> {
+// Appends texts as they are.
+fn push_texts(alloc: Global, cells: &mut Vec<String>, texts: &[&str]) -> Result<(), AllocError>
+    ensures { OnOk result (cell_bytes cells.new ≡ cell_bytes cells.old ++ map (λ t. t.now) texts.now) }
+{
+    for text in texts {
+        cells.push(String::from_str(alloc, *text)?)?;
+    }
+    Ok(())
+}
+
+// Returns the titles: the names of the key columns in capitals, then those of the columns that are carried along, then those of the numbers.
+fn titles_of(alloc: Global, layout: Layout<'_>) -> Result<Vec<String>, AllocError>
+    ensures { IfOk result (λ titles. cell_bytes titles ≡ titles_in (look_of layout.entry)) }
+{
     let mut titles = Vec::new(alloc);
     push_names(alloc, &mut titles, layout.keys)?;
     push_names(alloc, &mut titles, layout.carried)?;
-    for title in &NUMBERS {
-        titles.push(String::from_str(alloc, *title)?)?;
-    }
+    push_texts(alloc, &mut titles, NUMBERS.as_slice())?;
     Ok(titles)
 }
 
 // Appends fields with control characters escaped.
-fn push_fields(
-    alloc: Global,
-    cells: &mut Vec<String>,
-    fields: &[String],
-) -> Result<(), AllocError> {
+fn push_fields(alloc: Global, cells: &mut Vec<String>, fields: &[String]) -> Result<(), AllocError>
+    ensures { OnOk result (cell_bytes cells.new ≡ cell_bytes cells.old ++ escaped_fields fields.now) }
+{
     for field in fields {
         cells.push(format!(in alloc; "{}", Escaped(field.as_str()))?)?;
     }
     Ok(())
 }
 
-// The cells of a row: the fields of its article, and those that are carried along, then its numbers.
-fn cells_of(alloc: Global, row: &Row<Fields<'_>>, scale: Scale) -> Result<Vec<String>, AllocError> {
+// Appends the numbers of a row.
+fn push_numbers<T>(
+    alloc: Global,
+    cells: &mut Vec<String>,
+    row: &Row<T>,
+    scale: Scale,
+) -> Result<(), AllocError>
+    ensures { OnOk result (cell_bytes cells.new ≡ cell_bytes cells.old ++ numbers_text scale row.now) }
+{
+    cells.push(write_decimal(alloc, row.ordered, scale)?)?;
+    cells.push(write_decimal(alloc, row.delivered, scale)?)?;
+    cells.push(write_decimal(alloc, row.missing(), scale)?)?;
+    cells.push(write_decimal(alloc, row.surplus(), scale)?)?;
+    Ok(())
+}
+
+// Returns the cells of a row: the fields of its article, and those that are carried along, then its numbers.
+fn cells_of(alloc: Global, row: &Row<Fields<'_>>, scale: Scale) -> Result<Vec<String>, AllocError>
+    ensures { IfOk result (λ cells. cell_bytes cells ≡ cells_in scale (entry_of row.now)) }
+{
     let mut cells = Vec::new(alloc);
     push_fields(alloc, &mut cells, row.article.article)?;
     push_fields(alloc, &mut cells, row.article.carried)?;
-    for number in numbers_of(alloc, row, scale)? {
-        cells.push(number)?;
-    }
+    push_numbers(alloc, &mut cells, row, scale)?;
     Ok(cells)
 }
 
-// The widths of columns that have these cells too.
+// Returns the width of a cell, and 0 if there is none.
+fn width_at(cells: &Vec<String>, index: usize) -> usize
+    ensures { result ≡ width_of (get_or (cell_bytes cells.now) index []) }
+{
+    if index < cells.len() {
+        return cells[index].as_str().width();
+    }
+    0
+}
+
+// Returns the widths of columns that have these cells too.
 fn widened(
     alloc: Global,
     widths: &Vec<usize>,
     cells: &Vec<String>,
 ) -> Result<Vec<usize>, AllocError>
-    ensures { IfOk result (λ wide. AreWidened widths.now.items (map string_bytes cells.now.items) wide.items) }
+    ensures { IfOk result (λ wide. AreWidened widths.now.items (cell_bytes cells.now) wide.items) }
 {
     let mut wide = Vec::new(alloc);
-    for index in 0..cells.len() {
+    for index in 0..widths.len().max(cells.len()) {
         let width = widths.get(index).copied().unwrap_or(0);
-        wide.push(width.max(cells[index].as_str().width()))?;
+        wide.push(width.max(width_at(cells, index)))?;
     }
     Ok(wide)
 }
 
+// Returns the widths of the columns of the titles and of these rows, of which one row's cells are in memory at a time.
+fn widths_of(
+    alloc: Global,
+    titles: &Vec<String>,
+    rows: &[Row<Fields<'_>>],
+    scale: Scale,
+) -> Result<Vec<usize>, AllocError>
+    ensures { IfOk result (λ widths. AreWidths (cell_bytes titles.now ∷ row_cells scale rows.now) widths.items) }
+{
+    let none = Vec::new(alloc);
+    let mut widths = widened(alloc, &none, titles)?;
+    for row in rows {
+        let cells = cells_of(alloc, row, scale)?;
+        widths = widened(alloc, &widths, &cells)?;
+    }
+    Ok(widths)
+}
+
 // Appends n spaces.
-fn push_spaces(table: &mut String, n: usize) -> Result<(), AllocError> {
-    for _ in 0..n {
+fn push_spaces(table: &mut String, n: usize) -> Result<(), AllocError>
+    ensures { OnOk result (string_bytes table.new ≡ string_bytes table.old ++ spaces n) }
+{
+    let mut written = 0;
+    'spaces: while written < n {
         table.push(' ')?;
+        written += 1;
     }
     Ok(())
+}
+
+// Appends what is before a cell: two spaces, but nothing before the first.
+fn push_gap(table: &mut String, column: usize) -> Result<(), AllocError>
+    ensures { OnOk result (string_bytes table.new ≡ string_bytes table.old ++ gap column) }
+{
+    if column == 0 {
+        return Ok(());
+    }
+    push_spaces(table, 2)
+}
+
+// Appends a cell in a column of this width: a field at the left, a number at the right.
+fn push_cell(table: &mut String, cell: &str, width: usize, is_field: bool) -> Result<(), AllocError>
+    ensures { OnOk result (string_bytes table.new ≡ string_bytes table.old ++ cell_text is_field width cell.now) }
+{
+    let spaces = width.saturating_sub(cell.width());
+    if is_field {
+        table.push_str(cell)?;
+        return push_spaces(table, spaces);
+    }
+    push_spaces(table, spaces)?;
+    table.push_str(cell)
 }
 
 // Appends a line: the first cells, which are fields, at the left of their columns, the others at the right.
@@ -89,67 +174,73 @@ fn push_line(
     cells: &Vec<String>,
     widths: &Vec<usize>,
     fields: usize,
-) -> Result<(), AllocError> {
-    for (index, cell) in cells.iter().enumerate() {
+) -> Result<(), AllocError>
+    ensures { OnOk result (string_bytes table.new
+        ≡ string_bytes table.old ++ line_text (λ k. get_or widths.now.items k 0) fields (cell_bytes cells.now)) }
+{
+    for index in 0..cells.len() {
+        push_gap(table, index)?;
         let width = widths.get(index).copied().unwrap_or(0);
-        let spaces = width.saturating_sub(cell.as_str().width());
-        if index > 0 {
-            push_spaces(table, 2)?;
-        }
-        if index < fields {
-            table.push_str(cell.as_str())?;
-            push_spaces(table, spaces)?;
-        } else {
-            push_spaces(table, spaces)?;
-            table.push_str(cell.as_str())?;
-        }
+        push_cell(table, cells[index].as_str(), width, index < fields)?;
     }
     table.push('\n')
 }
 
-// Appends the last line.
-fn push_totals(
-    alloc: Global,
-    table: &mut String,
-    totals: &Totals,
-    scale: Scale,
-) -> Result<(), AllocError> {
-    let articles = totals.articles;
+// Returns the last line.
+fn sums_of(alloc: Global, totals: &Totals, scale: Scale) -> Result<String, AllocError>
+    ensures { IfOk result (λ text. string_bytes text ≡ sums_text scale totals.now) }
+{
+    if totals.differing == 0 {
+        return format!(in alloc; "no article of {} differs\n", totals.articles);
+    }
     let missing = write_decimal(alloc, totals.missing, scale)?;
     let surplus = write_decimal(alloc, totals.surplus, scale)?;
-    match totals.differing {
-        0 => writeln!(table, "no article of {articles} differs"),
-        1 => writeln!(
-            table,
-            "1 article differs: {missing} missing, {surplus} surplus"
-        ),
-        differing => writeln!(
-            table,
-            "{differing} articles differ: {missing} missing, {surplus} surplus"
-        ),
+    if totals.differing == 1 {
+        return format!(in alloc; "1 article differs: {missing} missing, {surplus} surplus\n");
     }
+    let differing = totals.differing;
+    format!(in alloc; "{differing} articles differ: {missing} missing, {surplus} surplus\n")
+}
+
+// Returns the text of the titles and of the rows, whose first cells are fields. One row's cells are in memory at a time.
+fn lines_text(
+    alloc: Global,
+    titles: &Vec<String>,
+    rows: &[Row<Fields<'_>>],
+    scale: Scale,
+    widths: &Vec<usize>,
+    fields: usize,
+) -> Result<String, AllocError>
+    ensures { IfOk result (λ text. string_bytes text
+        ≡ flat_map (line_text (λ k. get_or widths.now.items k 0) fields) (cell_bytes titles.now ∷ row_cells scale rows.now)) }
+{
+    let mut table = String::new(alloc);
+    push_line(&mut table, titles, widths, fields)?;
+    for row in rows {
+        let cells = cells_of(alloc, row, scale)?;
+        push_line(&mut table, &cells, widths, fields)?;
+    }
+    Ok(table)
 }
 
 /// Returns the rows in columns, articles and what is carried along at the left, and the sums of all rows below them.
+///
+/// # Errors
+///
+/// An allocation fails.
 pub fn table_of(
     alloc: Global,
     rows: &[Row<Fields<'_>>],
     totals: &Totals,
     layout: Layout<'_>,
-) -> Result<Vec<u8>, AllocError> {
-    let fields = layout.keys.len().saturating_add(layout.carried.len());
+) -> Result<Vec<u8>, AllocError>
+    ensures { IfOk result (λ text. text.items ≡ table_text (look_of layout.entry) totals.now (entries_of rows.now)) }
+{
     let titles = titles_of(alloc, layout)?;
-    let mut widths = widened(alloc, &Vec::new(alloc), &titles)?;
-    for row in rows {
-        let cells = cells_of(alloc, row, layout.scale)?;
-        widths = widened(alloc, &widths, &cells)?;
-    }
-    let mut table = String::new(alloc);
-    push_line(&mut table, &titles, &widths, fields)?;
-    for row in rows {
-        let cells = cells_of(alloc, row, layout.scale)?;
-        push_line(&mut table, &cells, &widths, fields)?;
-    }
-    push_totals(alloc, &mut table, totals, layout.scale)?;
+    let fields = titles.len().saturating_sub(NUMBERS.len());
+    let scale = layout.scale;
+    let widths = widths_of(alloc, &titles, rows, scale)?;
+    let mut table = lines_text(alloc, &titles, rows, scale, &widths, fields)?;
+    table.push_str(sums_of(alloc, totals, scale)?.as_str())?;
     Ok(table.into_bytes())
 }

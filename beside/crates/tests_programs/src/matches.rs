@@ -1,4 +1,4 @@
-//! What no clause says of matched lists: how their rows are written. What is wanted was found by hand.
+//! How the rows of matched lists are written. What is wanted was found by hand.
 use crate::texts::are_text;
 use hashbag::{BagError, FixedState};
 use hashbag_csv::delimiter::Delimiter;
