@@ -104,7 +104,7 @@ for byte in 81 8D 8F 90 9D; do
   for how in "" "--skip-bad"; do ends 2 "hashbag_words: bytes:2: not Windows-1252: byte 0x$byte" $how --encoding Windows-1252 bytes; done
 done
 printf 'a\nb \377\n' > bytes && ends 2 "hashbag_words: bytes:2: $not_utf8" --encoding UTF-8 bytes && ends 2 "hashbag_words: bytes:2: $not_utf8" --encoding UTF-8 text bytes
-printf 'a\tb\0\n' > bytes && ends 0 "hashbag_words: bytes: it has NUL bytes; if it is UTF-16, \`--encoding UTF-16LE\`" --encoding Latin-1 bytes
+printf 'a\tb\0\n' > bytes && ends 0 "hashbag_words: bytes: it has NUL bytes; if it is UTF-16, \`--encoding UTF-16LE\` reads it" --encoding Latin-1 bytes
 shows whole "a text in UTF-8 by name" --encoding UTF-8 text
 iconv -t UTF-16LE text > wide && shows whole "UTF-16 in a bound of memory" --encoding UTF-16LE --memory 1K wide
 : > empty && for name in UTF-16 UTF-16LE Latin-1; do shows empty "an empty text in $name" --encoding $name empty; done
@@ -243,9 +243,9 @@ printf '\376\377\0a\0\n' > big.txt
 for name in wide.txt big.txt; do
   ends 2 "hashbag_words: $name: UTF-16; \`--encoding UTF-16\` reads it" $name
 done
-ends 0 "$(printf 'hashbag_words: wide.txt: it has NUL bytes; if it is UTF-16, `--encoding UTF-16LE`\nhashbag_words: wide.txt: bytes replaced in 1 line')" --lossy wide.txt
+ends 0 "$(printf 'hashbag_words: wide.txt: it has NUL bytes; if it is UTF-16, `--encoding UTF-16LE` reads it\nhashbag_words: wide.txt: bytes replaced in 1 line')" --lossy wide.txt
 printf 'a\0 a\0\n' > nul.txt
-ends 0 "hashbag_words: nul.txt: it has NUL bytes; if it is UTF-16, \`--encoding UTF-16LE\`" nul.txt
+ends 0 "hashbag_words: nul.txt: it has NUL bytes; if it is UTF-16, \`--encoding UTF-16LE\` reads it" nul.txt
 ends 5 "hashbag_words: many.tsv:2: total past 2^64-1" merge many.tsv
 printf 'dog\t3\ncat\t1' > cut.tsv
 ends 2 "hashbag_words: cut.tsv:2: no line feed" merge cut.tsv
@@ -427,7 +427,7 @@ lines = [b"".join(random.choices(some, k=random.randint(1, 4))) for _ in range(3
 open("bytes", "wb").write(b"".join(line + b"\n" for line in lines))
 counts = collections.Counter(line.decode("utf-8", "replace").encode() for line in lines)
 open("replaced", "wb").write(b"".join(b"%s\t%d\n" % row for row in sorted(counts.items())))
-open("said", "w").write("hashbag_words: bytes: it has NUL bytes; if it is UTF-16, `--encoding UTF-16LE`\n"
+open("said", "w").write("hashbag_words: bytes: it has NUL bytes; if it is UTF-16, `--encoding UTF-16LE` reads it\n"
     "hashbag_words: bytes: bytes replaced in %d lines\n" % sum(line.decode("utf-8", "replace").encode() != line for line in lines))
 END
 ends 0 "$(cat said)" --by lines --lossy bytes && is out replaced "bytes that are replaced"
@@ -466,8 +466,8 @@ done
 printf 'a B\na b\n' > fields && printf 'b\t2\n' > shown && shows shown "fields, folded" --fold --field 2 fields
 awk '{ print $5 }' text | sort | uniq -c > shown && for how in "" "--memory 1K"; do shows shown "the fifth field: $how" $how --to uniq --field 5 text; done
 ends 2 "hashbag_words: --field: 0: the first field is 1" --field 0 -o none/out none
-for delimiter in '' ',,' é '\n' '\t\t' tab; do
-  ends 2 "hashbag_words: --delimiter: $delimiter: not one ASCII character or \\t" --field 1 --delimiter "$delimiter" -o none/out none
+for delimiter in '' ',,' é '\n' '\t\t' tabs; do
+  ends 2 "hashbag_words: --delimiter: $delimiter: neither one ASCII character nor tab" --field 1 --delimiter "$delimiter" -o none/out none
 done
 for how in "--field x" "--field -1" "--field 1 --by lines" "--field 1 --pattern a" "--delimiter ," "--delimiter , --by lines" "--delimiter , --pattern a" "merge --field 1"; do
   "$program" $how text > out 2> err
@@ -502,7 +502,7 @@ for how in "--memory 1K" "--lossy" "--skip-bad" "--by lines" "--field 1" "--patt
   "$program" --column a $how -o none/out none > out 2> err
   [ $? = 2 ] && [ ! -s out ] && grep -q "cannot be used with" err || fail "no status 2: --column a $how"
 done
-ends 2 "hashbag_words: --delimiter: |: none of , ; and \\t, as --column needs" --column a --delimiter '|' -o none/out none
+ends 2 "hashbag_words: --delimiter: |: none of , ; and tab, as --column needs" --column a --delimiter '|' -o none/out none
 
 # tokens of N characters and more, in each job
 printf 'ä äb\nabc äöü é\n' > lengths
@@ -664,6 +664,27 @@ for shard in 0/3 4/3 1 1/ /1 a/b 1/0 -1/2 1/2/3 ' 1/3' '1/ 3' '1/3 '; do ends 2 
 # no file is opened before all words have a meaning
 ends 2 "hashbag_words: --shard: 0/3: not I/N with I from 1 to N" --shard 0/3 -o none/out none
 ends 2 "hashbag_words: --memory: x: no size" --memory x -o none/out none
+
+# cures fit the input: counts and tokens that aren't shown have no --encoding; a list of names has --null; a name that isn't there may be a job
+iconv -t UTF-16 text > wide.txt
+for words in "merge wide.txt" "--except wide.txt text" "--encoding UTF-16 --except wide.txt text"; do
+  ends 2 "hashbag_words: wide.txt: UTF-16; \`iconv -f UTF-16\` reads it" $words
+done
+printf 'whole\0text\0' > list && ends 2 "hashbag_words: list: a name has a NUL byte; \`--null\` reads names that end in one" merge --files-from list
+for words in "--null" "--null text"; do
+  "$program" $words > out 2> err < text
+  [ $? = 2 ] && [ ! -s out ] && grep -q -e --null -e --files-from err || fail "names aren't read: $words"
+done
+ends 4 "hashbag_words: mrege: No such file or directory (os error 2); is it the job \`merge\`?" mrege whole
+ends 4 "hashbag_words: emu: No such file or directory (os error 2)" emu whole
+
+{ printf '\357\273\277'; cat text; } > marked
+for name in Latin-1 windows-1252; do ends 2 "hashbag_words: marked: UTF-8, by its byte order mark; \`--encoding UTF-8\` reads it" --encoding $name marked; done
+
+# names in another case, a delimiter by its name, and an output behind other text in one file
+shows whole "an encoding in another case" --encoding utf-16 wide.txt
+printf 'a\tb c\nd\tb c\n' > tabs && printf 'b c\t2\n' > wanted && shows wanted "a delimiter by its name" --field 2 --delimiter tab tabs
+(echo before && "$program" -o /dev/stdout text && echo after) > both && (echo before && cat whole && echo after) > wanted && is both wanted "an output behind other text"
 
 # 200,000 words that have one hash under fixed keys: a state with those keys would take minutes
 seq -f 'tffjdgbfaeakkksgP{_!uf:~%08.0f' 0 199999 > flood

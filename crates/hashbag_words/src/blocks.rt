@@ -2,10 +2,12 @@
 ghost use Rattle.hashbag_words_lib.specs.BlockReaders.{begun_in, ended_in, last_in};
 
 use crate::input::Input;
-use hashbag_shell::input::{read_file, said};
+use hashbag_shell::input::{read_file, shown_name};
 use hashbag_shell::progress::Progress;
 use hashbag_shell::status::BAD_INPUT;
+use hashbag_shell::text::{MARKED, is_marked_utf8};
 use hashbag_shell::trouble::{Trouble, plural};
+use hashbag_text::encoding::Encoding;
 use hashbag_words_lib::block_reader::BlockReader;
 use hashbag_words_lib::inputs::Blocks;
 use hashbag_words_lib::lines::LinesRead;
@@ -15,33 +17,63 @@ use hashbag_words_lib::lines::LinesRead;
 pub struct HostBlocks<'s, 'a> {
     rt: &'s HostRuntime,
     progress: Progress,
-    // Whether an input is rejected whose first bytes show another format than UTF-8.
+    // The encoding of the inputs, `None` for UTF-8.
+    encoding: Option<Encoding>,
+    // Whether an input is rejected whose first bytes show another format.
     is_checked: bool,
-    // Whether no block of the input that is open was read.
+    // What reads text in an encoding that is named next, as messages say it.
+    cure: &'static str,
+    // Whether the next block is the first one of the open input.
     is_first: bool,
     // What messages call it.
     name: &'a str,
     reader: BlockReader<'a, Input>,
 }
 
-// Returns the format these first bytes show, if it isn't UTF-8, and a command that converts it.
-fn kind_of(block: &[u8]) -> Option<&'static str> {
+// A format other than the one that is read.
+#[derive(Clone, Copy)]
+enum Kind {
+    Gzip,
+    Utf8,
+    Utf16,
+}
+
+/// What a message puts before the name of an encoding, to say how text in it is read, if it is counted.
+pub const BY_OPTION: &str = "--encoding";
+
+/// The same for text that isn't counted: counts, and tokens that aren't shown.
+pub const BY_COMMAND: &str = "iconv -f";
+
+// Returns the format that these first bytes show, if it isn't the one that is read.
+fn kind_of(encoding: Option<Encoding>, block: &[u8]) -> Option<Kind> {
+    if let Some(encoding) = encoding {
+        return is_marked_utf8(encoding, block).then_some(Kind::Utf8);
+    }
     if block.starts_with(b"\x1f\x8b") {
-        return Some("gzip; `zcat` makes it text");
+        return Some(Kind::Gzip);
     }
     if block.starts_with(b"\xff\xfe") || block.starts_with(b"\xfe\xff") {
-        return Some("UTF-16; `--encoding UTF-16` reads it");
+        return Some(Kind::Utf16);
     }
     None
 }
 
 impl<'s, 'a> HostBlocks<'s, 'a> {
-    /// Returns the inputs, of which none was read. `is_checked` says whether one is rejected whose first bytes show another format than UTF-8.
-    pub fn new(rt: &'s HostRuntime, progress: Progress, is_checked: bool) -> HostBlocks<'s, 'a> {
+    /// Returns the inputs, of which none was read. `is_checked` says whether one is rejected whose first bytes show another format than that
+    /// of the encoding, which is UTF-8 if it is `None`. Messages say that `cure` reads it.
+    pub fn new(
+        rt: &'s HostRuntime,
+        progress: Progress,
+        encoding: Option<Encoding>,
+        is_checked: bool,
+        cure: &'static str,
+    ) -> HostBlocks<'s, 'a> {
         HostBlocks {
             rt,
             progress,
+            encoding,
             is_checked,
+            cure,
             is_first: false,
             name: "",
             reader: BlockReader::new(rt.alloc()),
@@ -53,8 +85,12 @@ impl<'s, 'a> HostBlocks<'s, 'a> {
         if !self.is_checked {
             return None;
         }
-        let kind = kind_of(block)?;
-        let what = format!(in self.rt.alloc(); "{name}: {kind}");
+        let (alloc, cure) = (self.rt.alloc(), self.cure);
+        let what = match kind_of(self.encoding, block)? {
+            Kind::Utf8 => format!(in alloc; "{name}: {MARKED}"),
+            Kind::Gzip => format!(in alloc; "{name}: gzip; `zcat` makes it text"),
+            Kind::Utf16 => format!(in alloc; "{name}: UTF-16; `{cure} UTF-16` reads it"),
+        };
         Some(Trouble::with_status(what, BAD_INPUT))
     }
 
@@ -66,10 +102,13 @@ impl<'s, 'a> HostBlocks<'s, 'a> {
     pub fn read_whole(&mut self, name: &'a str) -> Result<Vec<u8>, Trouble<'a>> {
         let bytes = match read_file(self.rt, &mut self.progress, name) {
             Ok(bytes) => bytes,
-            Err(Trouble::File { error, .. }) => return Err(Trouble::of_file(said(name), error)),
+            Err(Trouble::File { error, .. }) => return Err(Trouble::of_file(
+                shown_name(name),
+                error,
+            )),
             Err(trouble) => return Err(trouble),
         };
-        match self.other_kind(said(name), &bytes) {
+        match self.other_kind(shown_name(name), &bytes) {
             Some(trouble) => Err(trouble),
             None => Ok(bytes),
         }
@@ -91,14 +130,15 @@ impl<'a> Blocks<'a> for HostBlocks<'_, 'a> {
     fn open(&mut self, name: &'a str) -> Result<(), Trouble<'a>> {
         match Input::open(self.rt, name) {
             Ok(input) => self.reader.begin(self.rt.alloc(), name, input)?,
-            Err(error) => return Err(Trouble::of_file(said(name), error)),
+            Err(error) => return Err(Trouble::of_file(shown_name(name), error)),
         }
         self.is_first = true;
-        self.name = said(name);
+        self.name = shown_name(name);
         Ok(())
     }
 
     fn read(&mut self) -> Result<(), Trouble<'a>> {
+        // What the block before has is counted by now.
         let n = self.reader.block().len();
         if n > 0 {
             self.progress.tell(self.rt, self.name, n);
@@ -121,8 +161,9 @@ impl<'a> Blocks<'a> for HostBlocks<'_, 'a> {
 
     fn report_nul(&mut self, name: &str) {
         self.progress.erase(self.rt);
+        let cure = self.cure;
         let _ = eprintln!(self.rt;
-            "hashbag_words: {name}: it has NUL bytes; if it is UTF-16, `--encoding UTF-16LE`"
+            "hashbag_words: {name}: it has NUL bytes; if it is UTF-16, `{cure} UTF-16LE` reads it"
         );
     }
 

@@ -4,7 +4,7 @@ use crate::blocks::HostBlocks;
 use crate::input::Input;
 use hashbag_csv::delimiter::Delimiter;
 use hashbag_csv::fault::in_file;
-use hashbag_shell::input::said;
+use hashbag_shell::input::shown_name;
 use hashbag_shell::text::of_decoding;
 use hashbag_shell::trouble::Trouble;
 use hashbag_text::encoding::Encoding;
@@ -49,7 +49,7 @@ fn read_whole<'a>(rt: &HostRuntime, name: &'a str) -> Result<String, Trouble<'a>
         Ok(mut input) => io::read_to_string(rt.alloc(), &mut input),
         Err(error) => Err(error),
     };
-    read.map_err(|error| of_text(rt.alloc(), said(name), error))
+    read.map_err(|error| of_text(rt.alloc(), shown_name(name), error))
 }
 
 impl<'s, 'a, 'm> Inputs<'s, 'a, 'm> {
@@ -82,7 +82,7 @@ impl<'s, 'a, 'm> Inputs<'s, 'a, 'm> {
         };
         match decode(self.rt.alloc(), encoding, bytes.as_slice()) {
             Ok(text) => Ok(text.into_bytes()),
-            Err(error) => Err(of_decoding(self.rt.alloc(), said(name), error)),
+            Err(error) => Err(of_decoding(self.rt.alloc(), shown_name(name), error)),
         }
     }
 
@@ -102,9 +102,9 @@ impl<'s, 'a, 'm> Inputs<'s, 'a, 'm> {
             let text = self.whole_text(name)?;
             let alloc = self.rt.alloc();
             let counted = count_column(alloc, bag, fold, &text, column, delimiter);
-            in_file(alloc, said(name), counted)?;
+            in_file(alloc, shown_name(name), counted)?;
             if self.encoding.is_none() && memchr(0, &text).is_some() {
-                self.blocks.report_nul(said(name));
+                self.blocks.report_nul(shown_name(name));
             }
         }
         Ok(())
@@ -121,10 +121,10 @@ impl<'s, 'a, 'm> Inputs<'s, 'a, 'm> {
             let state = *counter.bag().hasher();
             match counter.add_tree(state, text.as_str()) {
                 Ok(()) => {
-                    let reading = end(self.rt.alloc(), counter, &mut self.runs, said(name))?;
-                    self.blocks.report(said(name), &reading);
+                    let reading = end(self.rt.alloc(), counter, &mut self.runs, shown_name(name))?;
+                    self.blocks.report(shown_name(name), &reading);
                 }
-                Err(fault) => return Err(of_input(self.rt.alloc(), said(name), 0, fault)),
+                Err(fault) => return Err(of_input(self.rt.alloc(), shown_name(name), 0, fault)),
             }
         }
         Ok(())

@@ -1,10 +1,10 @@
 //! The jobs: each reads its inputs into a bag, and writes the counts of the bag.
 use crate::bag::{Bag, BagRuns, empty};
-use crate::blocks::HostBlocks;
+use crate::blocks::{BY_COMMAND, BY_OPTION, HostBlocks};
 use crate::inputs::Inputs;
 use crate::names::check;
 use crate::output::{Rendered, rows_of, write};
-use crate::runs::Runs;
+use crate::runs::{Runs, runs_of};
 use crate::shown::{show, show_sorted};
 use hashbag::HashBag;
 use hashbag_ops::{keep_common, take_away};
@@ -44,7 +44,7 @@ fn count_by<'a>(
 ///
 /// # Errors
 ///
-/// `Words` if it is no regular expression, or hasn't the group that is to be counted.
+/// `Arguments` if it is no regular expression, or hasn't the group that is to be counted.
 pub fn pattern_of<'a>(alloc: Global, ask: Ask<'_, '_>) -> Result<Option<Regex>, Trouble<'a>> {
     let Ask::Count(tokens, _) = ask else {
         return Ok(None);
@@ -57,7 +57,7 @@ pub fn pattern_of<'a>(alloc: Global, ask: Ask<'_, '_>) -> Result<Option<Regex>, 
         Err(regex::Error::OutOfMemory) => return Err(Trouble::Memory),
         Err(error) => {
             let what = format!(in alloc; "--pattern: {error}")?;
-            return Err(Trouble::Words(what));
+            return Err(Trouble::Arguments(what));
         }
     };
     let groups = pattern.captures_len().saturating_sub(1);
@@ -65,7 +65,7 @@ pub fn pattern_of<'a>(alloc: Global, ask: Ask<'_, '_>) -> Result<Option<Regex>, 
         let groups = groups as u64;
         let s = plural(&groups);
         let what = format!(in alloc; "--group: {group}: the pattern has {groups} group{s}")?;
-        return Err(Trouble::Words(what));
+        return Err(Trouble::Arguments(what));
     }
     Ok(Some(pattern))
 }
@@ -122,8 +122,16 @@ fn is_lossy(ask: Ask<'_, '_>) -> bool {
     }
 }
 
-// Returns the runs that are written when the bag is full, if the memory has a bound. They are in that folder.
-fn runs_of<'s, 'a>(
+// Returns what reads inputs in an encoding that isn't UTF-8.
+fn cure_of(ask: Ask<'_, '_>) -> &'static str {
+    match ask {
+        Ask::Count(..) => BY_OPTION,
+        _ => BY_COMMAND,
+    }
+}
+
+// Returns what keeps the runs that are written when the bag is full, if the memory has a bound. They are in that folder.
+fn runs_in<'s, 'a>(
     rt: &'s HostRuntime,
     gauge: Option<Gauge>,
     names: &'s [&'a str],
@@ -132,8 +140,9 @@ fn runs_of<'s, 'a>(
     if gauge.is_none() {
         return Ok(None);
     }
-    let runs = Runs::new(rt, folder, &names[..0], SourceKind::Run)?;
-    Ok(Some(BagRuns::new(runs)))
+    // No files of counts: only runs.
+    let runs = runs_of(rt, folder, &names[..0], SourceKind::Run)?;
+    Ok(Some(BagRuns { runs }))
 }
 
 // Reads the inputs of a job. Returns `Some` with the output if files were merged line by line. Else the counts are in the bag and the runs.
@@ -168,12 +177,12 @@ fn merged<'a>(
     mut runs: Runs<'_, 'a>,
     bag: &Bag,
 ) -> Result<Option<Rendered<'static>>, Trouble<'a>> {
-    if runs.is_empty() {
+    if runs.has_no_run() {
         return Ok(None);
     }
     if !bag.is_empty() {
         let mut text = run_of(rt.alloc(), bag).map_err(|_refused| Trouble::Memory)?;
-        let _written = runs.write(&mut text)?;
+        runs.write(&mut text)?;
     }
     let made = show(rt, settings, runs)?;
     Ok(Some(made))
@@ -191,7 +200,7 @@ fn read<'s, 'a>(
 ) -> Result<Option<Rendered<'static>>, Trouble<'a>> {
     let memory = settings.ask.many().and_then(|many| many.memory);
     let gauge = memory.map(|memory| Gauge::new(memory));
-    let runs = runs_of(rt, gauge, names, folder)?;
+    let runs = runs_in(rt, gauge, names, folder)?;
     let encoding = settings.ask.encoding();
     let progress = Progress::new(rt, settings.reports, names);
     let mut inputs = Inputs {
@@ -200,7 +209,13 @@ fn read<'s, 'a>(
         names,
         pattern,
         encoding,
-        blocks: HostBlocks::new(rt, progress, encoding.is_none() && !is_lossy(settings.ask)),
+        blocks: HostBlocks::new(
+            rt,
+            progress,
+            encoding,
+            !is_lossy(settings.ask),
+            cure_of(settings.ask),
+        ),
         gauge,
         runs,
     };
@@ -278,7 +293,7 @@ fn lines_of<'a>(
         lossy,
     };
     let lines = rule(Pieces::Lines);
-    let mut counter = TextCounter::new(rt.alloc(), empty(rt)?, lines, BadLines::Refused, None);
+    let mut counter = TextCounter::new(rt.alloc(), empty(rt)?, lines, BadLines::Rejected, None);
     inputs.count_all(&mut counter, &[name])?;
     let mut bag = counter.into_bag();
     bag.finish_carry();
@@ -300,7 +315,13 @@ fn excepted<'s, 'a>(
         names,
         pattern: None,
         encoding: None,
-        blocks: HostBlocks::new(rt, Progress::silent(), !is_lossy(settings.ask)),
+        blocks: HostBlocks::new(
+            rt,
+            Progress::silent(),
+            None,
+            !is_lossy(settings.ask),
+            BY_COMMAND,
+        ),
         gauge: None,
         runs: None,
     };
@@ -330,10 +351,10 @@ pub fn run<'a>(
         ..*settings
     };
     let mut bag = empty(rt)?;
-    let written = read_and_write(rt, &settings, pattern, names, folder, &mut bag);
+    let is_empty = read_and_write(rt, &settings, pattern, names, folder, &mut bag);
     // The program ends soon, and the system then takes all memory back at once.
     mem::forget(bag);
-    Ok(if written? && settings.fail_empty {
+    Ok(if is_empty? && settings.fail_empty {
         DENIED
     } else {
         DONE

@@ -51,11 +51,11 @@ fn do_named(
     let folder = tmp.unwrap_or(folder.as_str());
     match jobs::run(rt, settings, pattern, names, folder) {
         Ok(status) => status,
-        Err(trouble) => trouble.report(rt, PROGRAM),
+        Err(trouble) => names::with_near_job(rt.alloc(), trouble).report(rt, PROGRAM),
     }
 }
 
-// Returns texts as they are lent.
+// Borrows each text.
 fn lent(alloc: Global, texts: &Vec<String>) -> Result<Vec<&str>, AllocError> {
     let mut names = Vec::new(alloc);
     for text in texts {
@@ -102,7 +102,8 @@ fn do_listed(rt: &HostRuntime, settings: &Settings<'_, '_>, pattern: Option<&Reg
     let Some(name) = settings.ask.files_from() else {
         return do_job(rt, settings, pattern, None);
     };
-    match names::read_list(rt, name) {
+    let null = settings.ask.many().is_some_and(|many| many.null);
+    match names::read_list(rt, name, null) {
         Ok(list) => do_job(rt, settings, pattern, Some(&list)),
         Err(trouble) => trouble.report(rt, PROGRAM),
     }

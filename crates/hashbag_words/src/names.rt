@@ -2,23 +2,50 @@
 use crate::folders::is_folder;
 use hashbag_shell::one_file::is_one_file;
 use hashbag_shell::status::{BAD_INPUT, IO_FAILED};
+use hashbag_shell::tips::is_near;
 use hashbag_shell::trouble::Trouble;
+use hashbag_words_args::command::JOBS;
 use hashbag_words_args::settings::{Ask, Settings};
 use hashbag_words_lib::troubles::of_text;
 use std::alloc::{AllocError, Global};
+use std::io::ErrorKind;
 use std::{env, fs, io};
 
 /// Reads the file that `--files-from` names.
 ///
 /// # Errors
 ///
-/// Why the file can't be read: it isn't UTF-8, say. `Memory` if an allocation fails.
-pub fn read_list<'a>(rt: &HostRuntime, name: &'a str) -> Result<String, Trouble<'a>> {
+/// Why the file can't be read: it isn't UTF-8, say, or has a NUL byte, unless names end in one (`null`). `Memory` if an allocation fails.
+pub fn read_list<'a>(rt: &HostRuntime, name: &'a str, null: bool) -> Result<String, Trouble<'a>> {
     let (name, read) = match name {
         "-" => ("standard input", io::read_to_string(rt.alloc(), rt.stdin())),
         _ => (name, fs::read_to_string(rt, name)),
     };
-    read.map_err(|error| of_text(rt.alloc(), name, error))
+    let list = read.map_err(|error| of_text(rt.alloc(), name, error))?;
+    if !null && list.contains('\0') {
+        let what = format!(in rt.alloc();
+            "{name}: a name has a NUL byte; `--null` reads names that end in one"
+        );
+        return Err(Trouble::with_status(what, BAD_INPUT));
+    }
+    Ok(list)
+}
+
+/// If the trouble is that an input isn't there, and its name is near that of a job, returns it with that job as a hint. Else returns it
+/// unchanged.
+pub fn with_near_job<'a>(alloc: Global, trouble: Trouble<'a>) -> Trouble<'a> {
+    let Trouble::File { file, error } = trouble else {
+        return trouble;
+    };
+    if error.kind() == ErrorKind::NotFound {
+        for job in JOBS {
+            if is_near(alloc, file, job).is_ok_and(|near| near) {
+                let what = format!(in alloc; "{file}: {error}; is it the job `{job}`?");
+                return Trouble::with_status(what, IO_FAILED);
+            }
+        }
+    }
+    Trouble::File { file, error }
 }
 
 // Returns the names in a list, one for each line, or each ending in a NUL byte. Empty ones are skipped.
@@ -81,7 +108,7 @@ pub fn temporary_folder<'a>(rt: &HostRuntime) -> Result<String, Trouble<'a>> {
     }
 }
 
-// Returns the trouble of a file of tokens that aren't shown, which is also this.
+// Returns the trouble that the file of `--except` is also `what`: the output, or an input.
 fn excepted_twice<'a>(rt: &HostRuntime, name: &str, what: &str) -> Trouble<'a> {
     let what = format!(in rt.alloc(); "--except: {name}: it is {what}");
     Trouble::with_status(what, BAD_INPUT)
@@ -159,7 +186,7 @@ pub fn check<'a>(
     }
     if reads > 1 {
         let what = "standard input is named twice".to_string(rt.alloc())?;
-        return Err(Trouble::Words(what));
+        return Err(Trouble::Arguments(what));
     }
     check_folders(rt, settings, names)?;
     check_except(rt, settings, names)

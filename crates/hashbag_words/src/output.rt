@@ -59,18 +59,10 @@ fn terminal_width(rt: &HostRuntime) -> usize {
     }
 }
 
-/// Returns how many columns there are for bars, if rows have bars.
-pub fn bar_columns(rt: &HostRuntime, settings: &Settings<'_, '_>) -> Option<usize> {
+/// Returns how counts are written.
+pub fn look_of(rt: &HostRuntime, settings: &Settings<'_, '_>) -> Look {
     if settings.bars {
-        return Some(terminal_width(rt));
-    }
-    None
-}
-
-// Returns how counts that aren't merged are written.
-fn look_of(rt: &HostRuntime, settings: &Settings<'_, '_>) -> Look {
-    if let Some(width) = bar_columns(rt, settings) {
-        return Look::Bars(width);
+        return Look::Bars(terminal_width(rt));
     }
     if settings.share {
         return Look::Shares;

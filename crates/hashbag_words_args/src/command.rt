@@ -19,12 +19,12 @@ GNU parallel:
 Exit status: 0 done; 1 nothing is shown, with --fail-empty; 2 bad arguments or a bad line; 3 an allocation failed; 4 a file can't be
 opened, or a read or a write failed; 5 the counts add up to more than 2^64-1. With 2, 3 and 5 nothing was written.";
 
+/// The names of the jobs.
+pub static JOBS: [&str; 4] = ["count", "merge", "less", "common"];
+
 /// Returns whether the first argument is the name of a job or an option of the whole program. If not, the job is `count`.
 pub fn is_job(word: &str) -> bool {
-    matches!(
-        word,
-        "count" | "merge" | "less" | "common" | "help" | "-h" | "--help" | "-V" | "--version"
-    )
+    JOBS.contains(&word) || matches!(word, "help" | "-h" | "--help" | "-V" | "--version")
 }
 
 // The heading of the options that say what is read.
@@ -52,16 +52,16 @@ fn with_input<'a>(alloc: Global, command: CommandResult<'a>) -> CommandResult<'a
 
 // Adds which counts are shown, and in which order.
 fn with_choice<'a>(alloc: Global, command: CommandResult<'a>) -> CommandResult<'a> {
-    let top = arg!(in alloc; -n --top <K> "Show the K most common alone, the most common first")
+    let top = arg!(in alloc; -n --top <K> "Show only the K most common, the most common first")
         .value_parser(value_parser!(usize))
         .conflicts_with("unsorted");
     let unsorted = arg!(in alloc; --unsorted "Show them in no order, which is faster");
     let least =
-        arg!(in alloc; --least <N> "Show what occurs N times or more often alone").value_parser(
+        arg!(in alloc; --least <N> "Show only what occurs N times or more often").value_parser(
             value_parser!(usize),
         );
     let shortest =
-        arg!(in alloc; --"min-length" <N> "Show tokens of N characters or more alone").value_parser(
+        arg!(in alloc; --"min-length" <N> "Show only tokens of N or more characters").value_parser(
             value_parser!(usize),
         );
     let except = arg!(in alloc; --except <FILE> "Show no token that is a line of this file");
@@ -93,7 +93,7 @@ fn with_form<'a>(alloc: Global, command: CommandResult<'a>) -> CommandResult<'a>
 // Adds which counts are shown, and how they are written. Every job has these options.
 fn with_output<'a>(alloc: Global, command: CommandResult<'a>) -> CommandResult<'a> {
     let shard =
-        arg!(in alloc; --shard <"I/N"> "Show the tokens of the I-th of N parts alone: each token is in one, by a fixed hash");
+        arg!(in alloc; --shard <"I/N"> "Show only the tokens of the I-th of N parts: each token is in one, by a fixed hash");
     let fail_empty = arg!(in alloc; --"fail-empty" "End with status 1 where nothing is shown");
     let command = with(with_choice(alloc, command), Ok(shard));
     with(with_form(alloc, command), Ok(fail_empty))
@@ -125,7 +125,13 @@ fn with_list<'a>(alloc: Global, command: CommandResult<'a>) -> CommandResult<'a>
         arg!(in alloc; -r --recursive "Read all files in folders that are named, or in the current one, but nothing hidden, and follow no links in them");
     let command = with_heading(command, INPUTS);
     let command = with(command, list.conflicts_with("files"));
-    with(with(command, Ok(null)), Ok(recursive))
+    with(
+        with(
+            command,
+            null.requires_arg("files-from")?.conflicts_with("files"),
+        ),
+        Ok(recursive),
+    )
 }
 
 // Adds the field that is counted, and the delimiter of fields.
@@ -137,7 +143,7 @@ fn with_fields<'a>(alloc: Global, command: CommandResult<'a>) -> CommandResult<'
             .conflicts_with("by")?
             .conflicts_with("pattern")?;
     let delimiter =
-        arg!(in alloc; -d --delimiter <CHAR> "What is between fields instead, each time: an ASCII character, or `\\t`; for --column `,`, `;` or `\\t`")
+        arg!(in alloc; -d --delimiter <CHAR> "What is between fields instead, each time: an ASCII character, or `tab`; for --column `,`, `;` or `tab`")
             .conflicts_with("by")?
             .conflicts_with("pattern")?
             .requires_arg("fields");
@@ -179,7 +185,8 @@ fn with_tokens<'a>(alloc: Global, command: CommandResult<'a>) -> CommandResult<'
 fn count<'a>(alloc: Global) -> CommandResult<'a> {
     let files =
         arg!(in alloc; files: [FILE] ... "What is read: standard input where there is none, or for `-`");
-    let fold = arg!(in alloc; -i --fold "Count upper and lower case as one");
+    let fold =
+        arg!(in alloc; -i --fold "Count upper and lower case as one; for --pattern, begin REGEX with `(?i)` too");
     let lossy =
         arg!(in alloc; --lossy "Replace bytes that aren't UTF-8 by U+FFFD, and say in how many lines");
     let command = Command::new(alloc, "count").about("Count what is in text");

@@ -150,9 +150,9 @@ pub struct Settings<'a, 'm> {
     pub fail_empty: bool,
 }
 
-// Returns the one ASCII character of a text, the tab for `\t`, or `None` for any other text.
+// Returns the one ASCII character of a text, the tab for `tab` or `\t`, or `None` for any other text.
 fn delimiter_named(text: &str) -> Option<char> {
-    if text == "\\t" {
+    if text == "\\t" || text == "tab" {
         return Some('\t');
     }
     let mut chars = text.chars();
@@ -170,8 +170,10 @@ fn separator_of<'a>(alloc: Global, given: &ArgMatches<'a>) -> Result<Separator, 
     match delimiter_named(text) {
         Some(c) => Ok(Separator::Char(c)),
         None => {
-            let what = format!(in alloc; "--delimiter: {text}: not one ASCII character or \\t")?;
-            Err(Trouble::Words(what))
+            let what = format!(in alloc;
+                "--delimiter: {text}: neither one ASCII character nor tab"
+            )?;
+            Err(Trouble::Arguments(what))
         }
     }
 }
@@ -187,9 +189,9 @@ fn csv_delimiter_of<'a>(alloc: Global, given: &ArgMatches<'a>) -> Result<Delimit
         Some('\t') => Ok(Delimiter::Tab),
         _ => {
             let what = format!(in alloc;
-                "--delimiter: {text}: none of , ; and \\t, as --column needs"
+                "--delimiter: {text}: none of , ; and tab, as --column needs"
             )?;
-            Err(Trouble::Words(what))
+            Err(Trouble::Arguments(what))
         }
     }
 }
@@ -204,7 +206,7 @@ fn field_of<'a>(
         Some(index) => Ok(By::Field(index, separator_of(alloc, given)?)),
         None => {
             let what = format!(in alloc; "--field: 0: the first field is 1")?;
-            Err(Trouble::Words(what))
+            Err(Trouble::Arguments(what))
         }
     }
 }
@@ -230,8 +232,8 @@ fn by_of<'a>(alloc: Global, given: &ArgMatches<'a>) -> Result<By<'a>, Trouble<'a
 fn order_of(given: &ArgMatches<'_>) -> Order {
     match given.get_one::<usize>("top") {
         Some(k) => Order::MostCommon(k),
-        None if given.get_flag("unsorted") => Order::Open,
-        None => Order::Rising,
+        None if given.get_flag("unsorted") => Order::Unordered,
+        None => Order::Ascending,
     }
 }
 
@@ -241,7 +243,7 @@ fn shard_of<'a>(alloc: Global, text: &str) -> Result<Shard, Trouble<'a>> {
         Some(shard) => Ok(shard),
         None => {
             let what = format!(in alloc; "--shard: {text}: not I/N with I from 1 to N")?;
-            Err(Trouble::Words(what))
+            Err(Trouble::Arguments(what))
         }
     }
 }
@@ -270,7 +272,7 @@ fn memory_of<'a>(alloc: Global, given: &ArgMatches<'a>) -> Result<Option<usize>,
         Some(bytes) => Ok(Some(bytes)),
         None => {
             let what = format!(in alloc; "--memory: {text}: no size")?;
-            Err(Trouble::Words(what))
+            Err(Trouble::Arguments(what))
         }
     }
 }
@@ -284,13 +286,13 @@ fn format_of(given: &ArgMatches<'_>) -> Format {
 }
 
 // Returns whether this option is given. It adds a column, which only `tsv` has.
-fn column_of<'a>(alloc: Global, given: &ArgMatches<'a>, name: &str) -> Result<bool, Trouble<'a>> {
+fn adds_column<'a>(alloc: Global, given: &ArgMatches<'a>, name: &str) -> Result<bool, Trouble<'a>> {
     match given.get_str("to") {
         Some(form) if form != "tsv" && given.get_flag(name) => {
             let what = format!(in alloc;
                 "--{name}: {form} has no column for it; leave out --to {form}"
             )?;
-            Err(Trouble::Words(what))
+            Err(Trouble::Arguments(what))
         }
         _ => Ok(given.get_flag(name)),
     }
@@ -343,7 +345,7 @@ fn ask_of<'a, 'm>(
         "merge" if given.get_flag("sorted") => {
             let Some(form) = rows_of(given) else {
                 let what = format!(in alloc; "--sorted: JSON has no lines")?;
-                return Err(Trouble::Words(what));
+                return Err(Trouble::Arguments(what));
             };
             Ok(Ask::MergeSorted(form, many_of(alloc, given)?))
         }
@@ -359,7 +361,7 @@ impl<'a, 'm> Settings<'a, 'm> {
     ///
     /// # Errors
     ///
-    /// `Words` if the value of `--memory`, `--shard`, `--field` or `--delimiter` has no meaning, if JSON is to be merged line by line, or
+    /// `Arguments` if the value of `--memory`, `--shard`, `--field` or `--delimiter` has no meaning, if JSON is to be merged line by line, or
     /// if shares or bars are asked for in another form than `tsv`. `Memory` if an allocation fails.
     pub fn of(
         alloc: Global,
@@ -369,7 +371,7 @@ impl<'a, 'm> Settings<'a, 'm> {
         let bad_lines = if given.get_flag("skip-bad") {
             BadLines::Skipped
         } else {
-            BadLines::Refused
+            BadLines::Rejected
         };
         Ok(Settings {
             ask: ask_of(alloc, name, given)?,
@@ -378,18 +380,10 @@ impl<'a, 'm> Settings<'a, 'm> {
             choice: choice_of(alloc, given)?,
             except: given.get_str("except"),
             format: format_of(given),
-            share: column_of(alloc, given, "share")?,
-            bars: column_of(alloc, given, "bars")?,
+            share: adds_column(alloc, given, "share")?,
+            bars: adds_column(alloc, given, "bars")?,
             output: given.get_str("output"),
             fail_empty: given.get_flag("fail-empty"),
         })
-    }
-
-    /// Returns how counts are written whose total is `total`.
-    pub fn format_with(&self, total: usize) -> Format {
-        if self.share {
-            return Format::Shares(total);
-        }
-        self.format
     }
 }

@@ -16,7 +16,7 @@ use Rattle.hashbag_words_lib.specs.Runs.{unmarked}
 use Rattle.hashbag_words_lib.specs.Sorted.{of_row, times_in}
 use Rattle.hashbag_words_lib.specs.Tokens.{without_mark}
 use Rattle.hashbag_words_lib.specs.declared.lines.BadLines.{BadLines}
-use Rattle.hashbag_words_lib.specs.declared.lines.BadLines.TheVariants.{Refused, Skipped}
+use Rattle.hashbag_words_lib.specs.declared.lines.BadLines.TheVariants.{Rejected, Skipped}
 use Rattle.hashbag_words_lib.specs.declared.lines.LinesRead.{LinesRead}
 use Rattle.hashbag_words_lib.specs.declared.rows.RowForm.{RowForm}
 use Rattle.hashbag_words_lib.proofs.CountedLemmas.{ended_lines, ended_with, ends_push, nil_first}
@@ -157,7 +157,7 @@ module _ {S : Type 0} where
 
   -- the line that ended is no row, and bad lines are rejected
   pub Added-bad : (form : RowForm) (before : List (List ℕ × ℕ)) (runs : List (List (List ℕ × ℕ))) (bag : Bag (String Global) S) (partial rest line : List ℕ) (first after : LinesRead) (text more : List ℕ) → NoLineFeed rest
-      → line ≡ strip_carriage_return (partial ++ rest) → (first.bad_lines ≡ Refused) × IsNoRow form (line_at first.line line) → after.bad_lines ≡ first.bad_lines → after.line ≡ min (first.line + 1) (2 ^ 64 - 1)
+      → line ≡ strip_carriage_return (partial ++ rest) → (first.bad_lines ≡ Rejected) × IsNoRow form (line_at first.line line) → after.bad_lines ≡ first.bad_lines → after.line ≡ min (first.line + 1) (2 ^ 64 - 1)
       → Added form before runs bag partial first text → IsFirstNoRow form ((text ++ (rest ++ 10 ∷ [])) ++ more) after
   Added-bad form before runs bag partial rest line first after text more none is bad same next h =
       let part = partial ++ rest in
@@ -219,7 +219,7 @@ module _ {S : Type 0} where
       subst (HaveRows runs bag) (ap (λ (l : List (List ℕ × ℕ)). before ++ l) rows ∙ append-nil before) h.counts
 
   -- the file ends, and what was kept was skipped
-  pub Added-all : (form : RowForm) (before : List (List ℕ × ℕ)) (runs : List (List (List ℕ × ℕ))) (bag : Bag (String Global) S) (partial : List ℕ) (reading : LinesRead) (text : List ℕ) → (reading.bad_lines ≡ Refused → partial ≡ [])
+  pub Added-all : (form : RowForm) (before : List (List ℕ × ℕ)) (runs : List (List (List ℕ × ℕ))) (bag : Bag (String Global) S) (partial : List ℕ) (reading : LinesRead) (text : List ℕ) → (reading.bad_lines ≡ Rejected → partial ≡ [])
       → Added form before runs bag partial reading text → (rows : List (List ℕ × ℕ)) × AreRowsOf form reading.bad_lines text rows × HaveRows runs bag (before ++ rows)
   Added-all form before runs bag partial reading text whole h = (
     h.rows,

@@ -18,7 +18,7 @@ use Rattle.hashbag_words_lib.specs.Tokens.{is_bad, is_replaced, tokens_of, token
 use Rattle.hashbag_words_lib.specs.declared.errors.BadLine.{BadLine}
 use Rattle.hashbag_words_lib.specs.declared.errors.InputFault.{InputFault}
 use Rattle.hashbag_words_lib.specs.declared.errors.InputFault.TheVariants.{Line}
-use Rattle.hashbag_words_lib.specs.declared.lines.BadLines.TheVariants.{Refused}
+use Rattle.hashbag_words_lib.specs.declared.lines.BadLines.TheVariants.{Rejected}
 use Rattle.hashbag_words_lib.specs.declared.lines.LinesRead.{LinesRead}
 use Rattle.hashbag_words_lib.specs.declared.rule.Rule.{Rule}
 use Rattle.hashbag_words_lib.proofs.LineLemmas.{lines-cut, lines-append}
@@ -138,7 +138,7 @@ told_same (Err e) given same h = λ bad is. h bad (sym same ∙ is)
 
 -- what a line that was read does to the reading
 pub record Read (rule : Rule) (before after : LinesRead) (bytes : List ℕ) : Type 0 where
-  pub passed : before.bad_lines ≡ Refused → is_bad rule bytes ≡ false
+  pub passed : before.bad_lines ≡ Rejected → is_bad rule bytes ≡ false
   pub kept : is_bad rule bytes ≡ false → after.skipped ≡ before.skipped
   pub skipped : is_bad rule bytes ≡ true → after.skipped ≡ min (before.skipped + 1) (2 ^ 64 - 1)
   pub plain : is_replaced rule bytes ≡ false → after.replaced ≡ before.replaced
@@ -147,7 +147,7 @@ pub record Read (rule : Rule) (before after : LinesRead) (bytes : List ℕ) : Ty
   pub line : after.line ≡ min (before.line + 1) (2 ^ 64 - 1)
 
 -- the same from clauses one by one
-pub read_ok : {X E : Type 0} (r : Result X E) (rule : Rule) (before after : LinesRead) (line : List ℕ) → OnOk r (before.bad_lines ≡ Refused → is_bad rule line ≡ false)
+pub read_ok : {X E : Type 0} (r : Result X E) (rule : Rule) (before after : LinesRead) (line : List ℕ) → OnOk r (before.bad_lines ≡ Rejected → is_bad rule line ≡ false)
     → (is_bad rule line ≡ false → after.skipped ≡ before.skipped) → (is_bad rule line ≡ true → OnOk r (after.skipped ≡ min (before.skipped + 1) (2 ^ 64 - 1)))
     → (is_replaced rule line ≡ false → after.replaced ≡ before.replaced) → (is_replaced rule line ≡ true → OnOk r (after.replaced ≡ min (before.replaced + 1) (2 ^ 64 - 1)))
     → after.bad_lines ≡ before.bad_lines → after.line ≡ min (before.line + 1) (2 ^ 64 - 1) → OnOk r (Read rule before after line)
@@ -294,7 +294,7 @@ module _ {S : Type 0} where
 
   -- the line that ended is bad, and is rejected
   pub Counted-bad : (rule : Rule) (before : List (List ℕ)) (runs : List (List (List ℕ × ℕ))) (bag : Bag (String Global) S) (partial rest line : List ℕ) (first after : LinesRead) (text more : List ℕ) → NoLineFeed rest
-      → line ≡ strip_carriage_return (partial ++ rest) → (first.bad_lines ≡ Refused) × (is_bad rule line ≡ true) → after.bad_lines ≡ first.bad_lines → after.line ≡ min (first.line + 1) (2 ^ 64 - 1)
+      → line ≡ strip_carriage_return (partial ++ rest) → (first.bad_lines ≡ Rejected) × (is_bad rule line ≡ true) → after.bad_lines ≡ first.bad_lines → after.line ≡ min (first.line + 1) (2 ^ 64 - 1)
       → Counted rule before runs bag partial first text → IsFirstBad rule ((text ++ (rest ++ 10 ∷ [])) ++ more) after
   Counted-bad rule before runs bag partial rest line first after text more none is bad same next h =
       let part = partial ++ rest in
@@ -316,7 +316,7 @@ module _ {S : Type 0} where
 
   -- the last line is bad, and is rejected
   pub Counted-bad-last : (rule : Rule) (before : List (List ℕ)) (runs : List (List (List ℕ × ℕ))) (bag : Bag (String Global) S) (partial line : List ℕ) (first after : LinesRead) (text : List ℕ) → 0 < length partial
-      → line ≡ partial → (first.bad_lines ≡ Refused) × (is_bad rule line ≡ true) → after.bad_lines ≡ first.bad_lines → after.line ≡ min (first.line + 1) (2 ^ 64 - 1)
+      → line ≡ partial → (first.bad_lines ≡ Rejected) × (is_bad rule line ≡ true) → after.bad_lines ≡ first.bad_lines → after.line ≡ min (first.line + 1) (2 ^ 64 - 1)
       → Counted rule before runs bag partial first text → IsFirstBad rule text after
   Counted-bad-last rule before runs bag partial line first after text some is bad same next h =
       let so_far : first.line ≡ min (length (lines h.ended)) (2 ^ 64 - 1) = h.line in

@@ -14,7 +14,7 @@ use Rattle.std.proofs.lemmas.List.Sorted.{All-permutation, IsNonDecreasingBy-dro
 use Rattle.std.proofs.Math.ListN.{get_or-map}
 use borrow.Author.Tests.{ltb-true, ltb-false}
 use native.Mathlib.Nat.{mul_assoc, mul_comm}
-use Rattle.hashbag_words_lib.specs.Prefix.{lead, bare_row, number_of, row_cmp, HasWord, SortsRuns, Starts}
+use Rattle.hashbag_words_lib.specs.Prefix.{lead, bare_row, number_of, row_cmp, HasWord, SortsBlocks, Starts}
 use Rattle.hashbag_words_lib.proofs.PrefixLemmas.{bound, lead_rises, AreBytes}
 
 pub drop_none : (text : List ℕ) → drop 0 text ≡ text
@@ -219,8 +219,8 @@ short_sorted rows few k d low high =
 
 -- rows whose numbers are below a number are sorted first, and then the others
 pub cut_sorts : (from least cut : ℕ) (rows between after : List Numbered) → cut ≤ length rows → drop cut between ≡ drop cut rows → take cut after ≡ take cut between
-    → SortsRuns from (take cut rows) (take cut between) → SortsRuns from (drop cut between) (drop cut after)
-    → (IsNonDecreasingBy number_of rows → IsPartitionPoint (λ p. ltb p.0 least ≡ true) (λ p. ltb p.0 least ≡ false) rows cut) → SortsRuns from rows after
+    → SortsBlocks from (take cut rows) (take cut between) → SortsBlocks from (drop cut between) (drop cut after)
+    → (IsNonDecreasingBy number_of rows → IsPartitionPoint (λ p. ltb p.0 least ≡ true) (λ p. ltb p.0 least ≡ false) rows cut) → SortsBlocks from rows after
 cut_sorts from least cut rows between after fits same_rest same_first first rest parted = record {
   permutation = subst (λ l. IsPermutation (map bare_row rows) (map bare_row l)) (sym whole)
       (parts_permuted rows (take cut rows) (drop cut rows) (take cut between) (drop cut after) (sym (take-append-drop cut rows)) first.permutation others.permutation);
@@ -235,5 +235,5 @@ cut_sorts from least cut rows between after fits same_rest same_first first rest
     whole : after ≡ take cut between ++ drop cut after
     whole = sym (take-append-drop cut after) ∙ ap (λ l. l ++ drop cut after) same_first
 
-    others : SortsRuns from (drop cut rows) (drop cut after)
-    others = subst (λ l. SortsRuns from l (drop cut after)) same_rest rest
+    others : SortsBlocks from (drop cut rows) (drop cut after)
+    others = subst (λ l. SortsBlocks from l (drop cut after)) same_rest rest

@@ -1,5 +1,5 @@
 -- Numbered texts that are taken to be merged, and what is written of them.
-use Rattle.std.proofs.Common.{◌≡◌, ◌⊎◌, inl, inr, ℕ, ◌+◌, ◌<◌, List, [], ◌∷◌, ◌++◌, length, get_or, map, sum_by, All, Option, None, Some, refl, sym, ◌∙◌, ap, subst, arith, append_assoc, length-append}
+use Rattle.std.proofs.Common.{◌≡◌, ◌⊎◌, inl, inr, ℕ, ◌+◌, ◌<◌, List, [], ◌∷◌, ◌++◌, length, get_or, map, sum_by, All, Option, None, Some, IfSome, Result, Ok, Err, IfOk, refl, sym, ◌∙◌, ap, subst, arith, append_assoc, length-append}
 use Rattle.std.proofs.lemmas.Bool.{cases_eq}
 use Rattle.std.proofs.lemmas.List.{append-nil, get_or_append_left, get_or-append-add}
 use Rattle.std.proofs.lemmas.List.Elements.{All-nil, All-append, All-cons, All-from_get_or, All-head, All-tail}
@@ -7,10 +7,21 @@ use Rattle.std.proofs.lemmas.List.Sums.{sum_by-append, sum_by-cons, sum_by_push}
 use Rattle.std.proofs.Math.Seq.{get_or-append_seam}
 use Rattle.std.specs.Global.{Vec}
 use Rattle.std.specs.Prelude.{IsSomeAnd, MatchOption}
-use Rattle.hashbag_words_lib.specs.KeptRuns.{times_of, AreKept, WritesRun}
+use Rattle.hashbag_words_lib.specs.Choice.{shows}
+use Rattle.hashbag_words_lib.specs.KeptRuns.{times_of, AreKept, TakesKind, TakesMerge, TakesOneMerge, WritesRun}
+use Rattle.hashbag_words_lib.specs.MergedTexts.{look_in, look_of, AreAll, BeginsOf, IsRunLayout, WritesAsRun}
 use Rattle.hashbag_words_lib.specs.Shown.{CountTexts}
 use Rattle.hashbag_words_lib.specs.Sorted.{times_in, IsMergeOf}
+use Rattle.hashbag_words_lib.specs.declared.choice.Choice.{Choice}
+use Rattle.hashbag_words_lib.specs.declared.choice.Order.{Order}
+use Rattle.hashbag_words_lib.specs.declared.choice.Order.TheVariants.{Ascending, Unordered, MostCommon}
+use Rattle.hashbag_words_lib.specs.declared.kept_runs.KeptRuns.{KeptRuns}
 use Rattle.hashbag_words_lib.specs.declared.merged_text.MergedText.{MergedText}
+use Rattle.hashbag_words_lib.specs.declared.merged_text.RowLayout.{RowLayout}
+use Rattle.hashbag_words_lib.specs.declared.row_source.SourceKind.{SourceKind}
+use Rattle.hashbag_words_lib.specs.declared.shown_text.Look.{Look}
+use Rattle.hashbag_words_lib.specs.declared.shown_text.Look.TheVariants.{Rows as InRows, Shares as WithShares, Bars as WithBars}
+use Rattle.hashbag_words_lib.specs.declared.writing.Format.{Format}
 
 -- ---- what all of a list have
 
@@ -152,3 +163,39 @@ module _ (made : ℕ) (rows : ℕ → List (List ℕ × ℕ)) (fed : List (List 
       → MatchOption full (AreKept [] left made rows fed) (λ text. AreKept text.batch.numbers.items left made rows fed)
   taken_numbers numbers left None is kept = absurd is
   taken_numbers numbers left (Some text) is kept = subst (λ (v : Vec ℕ). AreKept v.items left made rows fed) (sym is) kept
+
+-- ---- a merge of texts that were taken
+
+-- two facts of one result
+pub both_ok : {A E : Type 0} (r : Result A E) (P Q R : A → Type 0) → ((x : A) → P x → Q x → R x) → IfOk r P → IfOk r Q → IfOk r R
+both_ok (Ok x) P Q R both p q = both x p q
+both_ok (Err e) P Q R both p q = tt
+
+-- the merge is of what was taken
+pub merge_of : (numbers : Vec ℕ) (kind : SourceKind) (old new : KeptRuns) → TakesKind kind numbers.items old new → (text : MergedText) → text.batch.numbers ≡ numbers → BeginsOf kind text → TakesMerge text old new
+merge_of numbers kind old new takes text is begins = (kind, begins, subst (λ (v : Vec ℕ). TakesKind kind v.items old new) (sym is) takes)
+
+pub one_merge : (numbers : Vec ℕ) (kind : SourceKind) (old new : KeptRuns) → TakesKind kind numbers.items old new → (full : Option MergedText) → IsSomeAnd full (λ text. text.batch.numbers ≡ numbers) → IfSome full (BeginsOf kind) → TakesOneMerge full old new
+one_merge numbers kind old new takes None is begins = absurd is
+one_merge numbers kind old new takes (Some text) is begins = merge_of numbers kind old new takes text is begins
+
+format_in : Format → Look → Format
+format_in other (InRows format) = format
+format_in other WithShares = other
+format_in other (WithBars width) = other
+
+-- rows that are all written have one format
+same_format : (f g : Format) (order : Order) (bars bars' : Option ℕ) → AreAll order → look_of f order bars ≡ look_of g order bars' → f ≡ g
+unfolding format_in
+same_format f g Ascending bars bars' all looks = ap (format_in g) looks
+same_format f g Unordered bars bars' all looks = ap (format_in g) looks
+same_format f g (MostCommon k) bars bars' all looks = absurd all
+
+-- a merge that was begun in the layout of a run is written as a run
+pub as_run : (layout : RowLayout) (text : MergedText) → IsRunLayout layout → text.rows.choice ≡ layout.choice → look_of text.rows.sink.format text.rows.choice.order text.bars ≡ look_in layout → WritesAsRun text
+as_run layout text run choice look = record {
+  all = λ row. ap (λ (c : Choice). shows c row) choice ∙ run.all row;
+  tsv = same_format text.rows.sink.format layout.format layout.choice.order text.bars layout.bars run.order
+      (ap (λ (c : Choice). look_of text.rows.sink.format c.order text.bars) (sym choice) ∙ look) ∙ run.tsv;
+  order = subst (λ (c : Choice). AreAll c.order) (sym choice) run.order;
+}

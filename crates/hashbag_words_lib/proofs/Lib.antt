@@ -12,10 +12,13 @@ pub mod InputLemmas
 pub mod KeptRunsLemmas
 pub mod LineLemmas
 pub mod MatchLemmas
+pub mod MergeAgainLemmas
 pub mod MergedLemmas
 pub mod MergedTextLemmas
 pub mod MergeLemmas
+pub mod MergingRunsLemmas
 pub mod NumberedLemmas
+pub mod OrderLemmas
 pub mod PrefixLemmas
 pub mod ReadLemmas
 pub mod ReadsLemmas

@@ -1,10 +1,10 @@
 -- What is read of numbered texts and given to their merge.
-use Rattle.std.proofs.Common.{◌≡◌, ◌≢◌, ◌⊎◌, inl, inr, ℕ, zero, suc, ◌<◌, List, [], ◌∷◌, ◌++◌, length, get_or, set, Option, None, Some, refl, sym, ◌∙◌, ap, subst, arith, append_assoc}
+use Rattle.std.proofs.Common.{◌≡◌, ◌≢◌, ◌⊎◌, inl, inr, ℕ, zero, suc, ◌<◌, List, [], ◌∷◌, ◌++◌, length, get_or, set, All, Option, None, Some, refl, sym, ◌∙◌, ap, subst, arith, append_assoc}
 use Rattle.std.specs.Io.KnownBytes.{Appends}
 use Rattle.std.proofs.lemmas.Bool.{cases_eq}
 use Rattle.std.proofs.lemmas.List.{append-nil, get_or-map}
 use Rattle.hashbag_words_lib.specs.Batches.{IsWanted}
-use Rattle.hashbag_words_lib.specs.MergedTexts.{GivesText, HasGivenAndTaken, KeepsGivenAndTaken, PutsNext, TakesPart}
+use Rattle.hashbag_words_lib.specs.MergedTexts.{GivesText, HasGivenAndTaken, KeepsGivenAndTaken, KeepsLayout, PutsNext, TakesPart}
 use Rattle.hashbag_words_lib.specs.Numbered.{read_of, AreUnlike, HasRead, IsNext, ReadsText, Wanted}
 use Rattle.hashbag_words_lib.specs.declared.merged_text.MergedText.{MergedText}
 use Rattle.hashbag_words_lib.specs.declared.merged_text.Wants.{Wants}
@@ -112,6 +112,14 @@ read_next kind read taken old new wants same next has = (
 
 pub block_wanted : (kind : SourceKind) (read : ℕ → List ℕ) (taken : List ℕ) (number : ℕ) (text : MergedText) → IsNext kind read taken (Block number) text → Wanted number text
 block_wanted kind read taken number text next = record { going = next.1.1; wanted = next.1.2; is = next.1.3 }
+
+-- a text that isn't among these is not the one that is wanted
+pub other_wanted : (number k : ℕ) (text : MergedText) (xs : List ℕ) → text.batch.numbers.items ≡ xs → Wanted number text → All (λ n. n ≢ k) xs → k ≢ number
+other_wanted number k text xs same wanted none is = subst (All (λ n. n ≢ k)) (sym same) none text.batch.wanted number wanted.wanted.within (sym wanted.is ∙ sym is)
+
+-- what is shown and how is the same as before
+pub layout_both : (first middle last : MergedText) → KeepsLayout first middle → KeepsLayout middle last → KeepsLayout first last
+layout_both first middle last one two = (two.0 ∙ one.0, two.1 ∙ one.1, two.2 ∙ one.2)
 
 -- the part was taken
 pub take_read : (kind : SourceKind) (read : ℕ → List ℕ) (taken : List ℕ) (old new : MergedText) → TakesPart old new → new.batch.numbers ≡ old.batch.numbers → HasRead kind read old taken

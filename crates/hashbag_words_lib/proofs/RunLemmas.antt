@@ -11,7 +11,7 @@ use Rattle.hashbag_words_lib.specs.Sorted.{row_of}
 use Rattle.hashbag_words_lib.specs.Sources.{Gives}
 use Rattle.hashbag_words_lib.specs.Tokens.{without_mark}
 use Rattle.hashbag_words_lib.specs.declared.lines.BadLines.{BadLines}
-use Rattle.hashbag_words_lib.specs.declared.lines.BadLines.TheVariants.{Refused, Skipped}
+use Rattle.hashbag_words_lib.specs.declared.lines.BadLines.TheVariants.{Rejected, Skipped}
 use Rattle.hashbag_words_lib.specs.declared.row_source.Next.{Next}
 use Rattle.hashbag_words_lib.specs.declared.row_source.Next.TheVariants.{Row, Wants, End}
 use Rattle.hashbag_words_lib.specs.declared.rows.RowForm.{RowForm}
@@ -50,14 +50,14 @@ marked_line false line = line
 
 -- it was taken as a row
 pub gives_row : (form : RowForm) (bad_lines : BadLines) (marked : Bool) (front rest : List ℕ) (row : String Global × ℕ) → NoLineFeed front
-    → (form ≡ Tsv → bad_lines ≡ Refused → read_as (marked_line marked (strip_carriage_return front)) ≡ Some (row_of row))
+    → (form ≡ Tsv → bad_lines ≡ Rejected → read_as (marked_line marked (strip_carriage_return front)) ≡ Some (row_of row))
     → Gives (rows_left form bad_lines marked (front ++ 10 ∷ rest)) (Row row) (rows_left form bad_lines false rest)
-gives_row Tsv Refused false front rest row none is = (
+gives_row Tsv Rejected false front rest row none is = (
   rows_in rest,
   ap (filter_map read_as) (lines-cut front rest none) ∙ ap (λ (o : Option (List ℕ × ℕ)). cons_option o (rows_in rest)) (is refl refl),
   refl,
 )
-gives_row Tsv Refused true front rest row none is = (
+gives_row Tsv Rejected true front rest row none is = (
   rows_in rest,
   ap (λ (all : List (List ℕ)). filter_map read_as (unmarked all)) (lines-cut front rest none) ∙ ap (λ (o : Option (List ℕ × ℕ)). cons_option o (rows_in rest)) (is refl refl),
   refl,
@@ -67,8 +67,8 @@ gives_row Uniq bad_lines marked front rest row none is = tt
 
 -- none is left at the end
 pub gives_end : (form : RowForm) (bad_lines : BadLines) (marked : Bool) → Gives (rows_left form bad_lines marked []) End (rows_left form bad_lines marked [])
-gives_end Tsv Refused false = (refl, refl)
-gives_end Tsv Refused true = (refl, refl)
+gives_end Tsv Rejected false = (refl, refl)
+gives_end Tsv Rejected true = (refl, refl)
 gives_end Tsv Skipped marked = tt
 gives_end Uniq bad_lines marked = tt
 
@@ -80,13 +80,13 @@ gives_none (Some rows) = refl
 -- ---- lines that are passed over
 
 -- of known rows none is, since bad lines are rejected
-pub none_passed : (form : RowForm) (bad_lines : BadLines) (marked : Bool) (bytes : List ℕ) → (form ≡ Tsv → bad_lines ≡ Refused → ⊥) → IsSome (rows_left form bad_lines marked bytes) → ⊥
-none_passed Tsv Refused marked bytes never known = never refl refl
+pub none_passed : (form : RowForm) (bad_lines : BadLines) (marked : Bool) (bytes : List ℕ) → (form ≡ Tsv → bad_lines ≡ Rejected → ⊥) → IsSome (rows_left form bad_lines marked bytes) → ⊥
+none_passed Tsv Rejected marked bytes never known = never refl refl
 none_passed Tsv Skipped marked bytes never known = absurd (cc)
 none_passed Uniq bad_lines marked bytes never known = absurd (cc)
 
-pub known_refused : (form : RowForm) (bad_lines : BadLines) (marked : Bool) (bytes : List ℕ) → IsSome (rows_left form bad_lines marked bytes) → bad_lines ≡ Refused
-known_refused Tsv Refused marked bytes known = refl
+pub known_refused : (form : RowForm) (bad_lines : BadLines) (marked : Bool) (bytes : List ℕ) → IsSome (rows_left form bad_lines marked bytes) → bad_lines ≡ Rejected
+known_refused Tsv Rejected marked bytes known = refl
 known_refused Tsv Skipped marked bytes known = absurd (cc)
 known_refused Uniq bad_lines marked bytes known = absurd (cc)
 

@@ -10,7 +10,7 @@ use Rattle.std.specs.String.{string_eq_equiv}
 use Rattle.std.proofs.lemmas.Fmt.{decimal_is_IsNumeral}
 use Rattle.std.proofs.lemmas.Str.Parse.{without_leading_plus_none}
 use Rattle.std.proofs.lemmas.List.{append-nil}
-use Rattle.std.proofs.lemmas.List.Elements.{All-nil, All-cons, All-append, All-get_or}
+use Rattle.std.proofs.lemmas.List.Elements.{All-nil, All-cons, All-append, All-get_or, All-head, All-tail}
 use Rattle.std.proofs.lemmas.List.Sums.{sum_by-cons}
 use Rattle.hashbag.specs.Bag.{Bag, occurrences}
 use Rattle.hashbag.specs.Occurrences.{greatest_total}
@@ -95,6 +95,15 @@ row_again token n fits =
         fits = fits;
       };
     })
+
+-- rows are read again as they were written
+pub again : (rows : List (List ℕ × ℕ)) → All (λ r. r.1 < 2 ^ 64) rows → rows_in (run_text rows) ≡ rows
+again [] fits = refl
+again (r ∷ rows) fits =
+    let one : r.1 < 2 ^ 64 = All-head (λ (r : List ℕ × ℕ). r.1 < 2 ^ 64) r rows fits in
+    ap (filter_map read_as) (line_again r.0 (run_text rows) r.1 one)
+    ∙ ap (λ (o : Option (List ℕ × ℕ)). cons_option o (rows_in (run_text rows))) (row_again r.0 r.1 one)
+    ∙ ap (λ (l : List (List ℕ × ℕ)). r ∷ l) (again rows (All-tail (λ (r : List ℕ × ℕ). r.1 < 2 ^ 64) r rows fits))
 
 rows_again : (pairs : List (String Global × ℕ)) → sum_by (λ p. p.1) pairs < 2 ^ 64 → rows_in (run_text (map row_of pairs)) ≡ map row_of pairs
 rows_again [] fits = refl

@@ -18,7 +18,7 @@ use Rattle.hashbag_words_lib.specs.Sorted.{row_of, text_cmp}
 use Rattle.hashbag_words_lib.specs.Writing.{text_of}
 use Rattle.hashbag_words_lib.specs.declared.choice.Choice.{Choice}
 use Rattle.hashbag_words_lib.specs.declared.choice.Order.{Order}
-use Rattle.hashbag_words_lib.specs.declared.choice.Order.TheVariants.{Rising, Open, MostCommon}
+use Rattle.hashbag_words_lib.specs.declared.choice.Order.TheVariants.{Ascending, Unordered, MostCommon}
 use Rattle.hashbag_words_lib.specs.declared.writing.Format.{Format}
 use Rattle.hashbag_words_lib.proofs.RunTextLemmas.{rows_rise, sum_of_rows}
 use Rattle.hashbag_words_lib.proofs.TextLemmas.{same_by}
@@ -54,8 +54,8 @@ module _ {S : Type 0} (choice : Choice) (bag : Bag (String Global) S) (texts : L
   }
 
   are_shown : (order : Order) (pairs : List (String Global × ℕ)) → IsShown order bag pairs → AreShown order choice texts (map row_of pairs)
-  are_shown Rising pairs shown = (has_shown pairs shown.0, rows_rise pairs shown.1)
-  are_shown Open pairs shown = has_shown pairs shown
+  are_shown Ascending pairs shown = (has_shown pairs shown.0, rows_rise pairs shown.1)
+  are_shown Unordered pairs shown = has_shown pairs shown
   are_shown (MostCommon k) pairs shown =
       (map row_of shown.0, has_shown shown.0 shown.1, ranked_rows shown.0 shown.2, ap (map row_of) shown.3 ∙ take_rows k shown.0)
 

@@ -21,7 +21,7 @@ use Rattle.hashbag_words_lib.specs.Sorted.{numbers, of_row, text_cmp, times_in, 
 use Rattle.hashbag_words_lib.specs.Top.{most_common, ranked}
 use Rattle.hashbag_words_lib.specs.declared.choice.Choice.{Choice}
 use Rattle.hashbag_words_lib.specs.declared.choice.Order.{Order}
-use Rattle.hashbag_words_lib.specs.declared.choice.Order.TheVariants.{Rising, Open, MostCommon}
+use Rattle.hashbag_words_lib.specs.declared.choice.Order.TheVariants.{Ascending, Unordered, MostCommon}
 use Rattle.hashbag_words_lib.specs.declared.writing.Format.{Format}
 use Rattle.hashbag_words_lib.proofs.TopLemmas.{ranked_is, ranked_rises}
 
@@ -156,12 +156,12 @@ module _ (choice : Choice) (inputs : List (List (List ℕ × ℕ))) (rows : List
 
   written_in : (format : Format) (order : Order) (bars : Option ℕ) (bytes : List ℕ) → choice.order ≡ order → BeginsAs (look_of format order bars) format → bytes ≡ whole_text format order bars shown
       → IsWritten choice (look_of format order bars) texts bytes
-  written_in format Rising bars bytes order begun is = record {
+  written_in format Ascending bars bytes order begun is = record {
     rows = shown;
     shown = subst (λ (o : Order). AreShown o choice texts shown) (sym order) (has_shown, rises);
     is = is;
   }
-  written_in format Open bars bytes order begun is = record {
+  written_in format Unordered bars bytes order begun is = record {
     rows = shown;
     shown = subst (λ (o : Order). AreShown o choice texts shown) (sym order) has_shown;
     is = is;

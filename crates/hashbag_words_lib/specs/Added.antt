@@ -13,7 +13,7 @@ use Rattle.hashbag_words_lib.specs.Runs.{unmarked, IsRunOf}
 use Rattle.hashbag_words_lib.specs.Sorted.{times_in}
 use Rattle.hashbag_words_lib.specs.Tokens.{without_mark}
 use Rattle.hashbag_words_lib.specs.declared.lines.BadLines.{BadLines}
-use Rattle.hashbag_words_lib.specs.declared.lines.BadLines.TheVariants.{Refused, Skipped}
+use Rattle.hashbag_words_lib.specs.declared.lines.BadLines.TheVariants.{Rejected, Skipped}
 use Rattle.hashbag_words_lib.specs.declared.lines.LinesRead.{LinesRead}
 use Rattle.hashbag_words_lib.specs.declared.row_counter.RowCounter.{RowCounter}
 use Rattle.hashbag_words_lib.specs.declared.rows.RowForm.{RowForm}
@@ -65,7 +65,7 @@ pub record AreRowsOf (form : RowForm) (bad_lines : BadLines) (text : List ℕ) (
   pub ends : EndsLine ended
   pub unended : NoLineFeed rest
   pub read : AreReadAs form bad_lines (unmarked (lines ended)) rows
-  pub whole : bad_lines ≡ Refused → rest ≡ []
+  pub whole : bad_lines ≡ Rejected → rest ≡ []
 
 -- the counter has added the rows `before` and then this whole file; `runs` were written of what it added
 abbrev pub HasAddedAll : {S H : Type 0} → List (List ℕ × ℕ) → List (List (List ℕ × ℕ)) → BadLines → List ℕ → RowCounter S H → Type 0
@@ -85,10 +85,10 @@ pub record IsFirstNoRow (form : RowForm) (text : List ℕ) (reading : LinesRead)
   pub rest : List (List ℕ)
   pub rows : List (List ℕ × ℕ)
   pub cut : unmarked (lines text) ≡ front ++ bad ∷ rest
-  pub read : AreReadAs form Refused front rows
+  pub read : AreReadAs form Rejected front rows
   pub is : IsNoRow form bad
   pub line : reading.line ≡ min (length front + 1) (2 ^ 64 - 1)
-  pub refused : reading.bad_lines ≡ Refused
+  pub refused : reading.bad_lines ≡ Rejected
 
 -- the line is read in this form; the new bag has the rows of the old bag and those of the line
 abbrev pub AddsRowsOfLine : {S : Type 0} → Bag (String Global) S → Bag (String Global) S → RowForm → LinesRead → List ℕ → Type 0

@@ -14,13 +14,13 @@ use Rattle.hashbag_words_lib.specs.Counts.{texts_in}
 use Rattle.hashbag_words_lib.specs.Shards.{is_shown}
 use Rattle.hashbag_words_lib.specs.declared.choice.Choice.{Choice}
 use Rattle.hashbag_words_lib.specs.declared.choice.Order.{Order}
-use Rattle.hashbag_words_lib.specs.declared.choice.Order.TheVariants.{Rising, Open, MostCommon}
+use Rattle.hashbag_words_lib.specs.declared.choice.Order.TheVariants.{Ascending, Unordered, MostCommon}
 
 -- these pairs are shown of the bag: each text once, with its count, in ascending order of bytes or in no particular order; or the first k
 -- of these pairs, the most common first
 abbrev pub IsShown : {S : Type 0} → Order → Bag (String Global) S → List (String Global × ℕ) → Type 0
-IsShown Rising bag pairs = IsSetWalkOf string_eq bag pairs × IsStrictlySortedBy string_cmp (keys_of pairs)
-IsShown Open bag pairs = IsSetWalkOf string_eq bag pairs
+IsShown Ascending bag pairs = IsSetWalkOf string_eq bag pairs × IsStrictlySortedBy string_cmp (keys_of pairs)
+IsShown Unordered bag pairs = IsSetWalkOf string_eq bag pairs
 IsShown (MostCommon k) bag pairs =
     (W : List (String Global × ℕ)) × IsSetWalkOf string_eq bag W × IsStrictlySortedBy (rank string_cmp) W × (pairs ≡ take k W)
 

@@ -13,7 +13,7 @@ use Rattle.hashbag_words_lib.specs.Tokens.{is_bad, is_replaced, tokens_of}
 use Rattle.hashbag_words_lib.specs.declared.counter.Fed.{Fed}
 use Rattle.hashbag_words_lib.specs.declared.counter.Fed.TheVariants.{Whole, Full}
 use Rattle.hashbag_words_lib.specs.declared.counter.TextCounter.{TextCounter}
-use Rattle.hashbag_words_lib.specs.declared.lines.BadLines.TheVariants.{Refused}
+use Rattle.hashbag_words_lib.specs.declared.lines.BadLines.TheVariants.{Rejected}
 use Rattle.hashbag_words_lib.specs.declared.lines.LinesRead.{LinesRead}
 use Rattle.hashbag_words_lib.specs.declared.rule.Rule.{Rule}
 
@@ -38,9 +38,9 @@ pub record IsFirstBad (rule : Rule) (text : List ℕ) (reading : LinesRead) : Ty
   pub good : NoneIsBad rule front
   pub is : is_bad rule bad ≡ true
   pub line : reading.line ≡ min (length front + 1) (2 ^ 64 - 1)
-  pub refused : reading.bad_lines ≡ Refused
+  pub refused : reading.bad_lines ≡ Rejected
 
--- each text is as often in the bag and the runs together as in the list
+-- each token is as often in the bag and the runs together as in the list
 abbrev pub HaveTogether : {S : Type 0} → List (List (List ℕ × ℕ)) → Bag (String Global) S → List (List ℕ) → Type 0
 HaveTogether runs bag tokens = (text : List ℕ) → count bytes_eq text (texts_in bag) + sum_by (times_in text) runs ≡ count bytes_eq text tokens
 
@@ -55,7 +55,7 @@ pub record Counted {S : Type 0} (rule : Rule) (before : List (List ℕ)) (runs :
   pub line : reading.line ≡ min (length (lines ended)) (2 ^ 64 - 1)
   pub skipped : reading.skipped ≡ min (how_many (is_bad rule) (lines ended)) (2 ^ 64 - 1)
   pub replaced : reading.replaced ≡ min (how_many (is_replaced rule) (lines ended)) (2 ^ 64 - 1)
-  pub passed : reading.bad_lines ≡ Refused → NoneIsBad rule (lines ended)
+  pub passed : reading.bad_lines ≡ Rejected → NoneIsBad rule (lines ended)
 
 -- the counter has counted the tokens `before` and then this text so far; `runs` were written of what it counted
 abbrev pub HasCounted : {S H : Type 0} → List (List ℕ) → List (List (List ℕ × ℕ)) → TextCounter S H → List ℕ → Type 0
@@ -66,7 +66,7 @@ pub record IsReadingOf (rule : Rule) (text : List ℕ) (reading : LinesRead) : T
   pub line : reading.line ≡ min (length (lines text)) (2 ^ 64 - 1)
   pub skipped : reading.skipped ≡ min (how_many (is_bad rule) (lines text)) (2 ^ 64 - 1)
   pub replaced : reading.replaced ≡ min (how_many (is_replaced rule) (lines text)) (2 ^ 64 - 1)
-  pub passed : reading.bad_lines ≡ Refused → NoneIsBad rule (lines text)
+  pub passed : reading.bad_lines ≡ Rejected → NoneIsBad rule (lines text)
 
 -- the counter has counted the tokens `before` and then this whole text; `runs` were written of what it counted
 abbrev pub HasEnded : {S H : Type 0} → Rule → List (List ℕ) → List (List (List ℕ × ℕ)) → TextCounter S H → List ℕ → Type 0

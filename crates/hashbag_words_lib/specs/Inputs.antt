@@ -20,7 +20,7 @@ abbrev pub left_in : Option Decoder → List ℕ → Option (List ℕ)
 left_in None bytes = Some bytes
 left_in (Some decoder) bytes = left_of decoder bytes
 
--- whatever bytes come behind a block, it brings this text
+-- the block brings this text, whatever bytes come behind it
 abbrev pub Decodes : Option Decoder → List ℕ → List ℕ → Option Decoder → Type 0
 Decodes old block text new = (bytes : List ℕ) → left_in old (block ++ bytes) ≡ behind text (left_in new bytes)
 
@@ -59,8 +59,8 @@ module _ {C : Type 0} (has : C → List (List (List ℕ × ℕ)) → List (List 
       pub decoded : map (λ (input : List ℕ × List ℕ). text_in encoding input.1) inputs ≡ map (λ (text : List ℕ). Some text) texts
       pub counts : CountsTexts has old new kept kept' texts
 
--- ---- the same of what has the inputs, of a counter, and of what keeps its runs, if something does. `kept` says which texts it kept, and
--- `ended` which inputs were read to their ends
+-- ---- the same, said of a `Blocks`, a `Counter` and an optional `KeepsRuns`: `kept` says which texts that one kept, and `ended` which inputs
+-- were read to their ends
 
 module _ {C R : Type 0} (has : C → List (List (List ℕ × ℕ)) → List (List ℕ) → List ℕ → Type 0) (kept : R → List (List ℕ)) where
   abbrev pub FeedsNext : C → C → Option R → Option R → Option Decoder → List ℕ → Option Decoder → Type 0

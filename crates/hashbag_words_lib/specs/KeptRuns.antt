@@ -1,10 +1,14 @@
 -- The numbered texts that are to be merged, and what their rows count.
-use Rattle.std.specs.Prelude.{◌≡◌, ◌⊎◌, ℕ, ◌+◌, ◌<◌, List, [], ◌∷◌, ◌++◌, All, map, sum_by, Option, MatchOption}
+use Rattle.std.specs.Prelude.{◌≡◌, ◌⊎◌, ℕ, ◌+◌, ◌<◌, ◌≤◌, List, [], ◌∷◌, ◌++◌, All, map, sum_by, Option, MatchOption}
 use Rattle.hashbag_words_lib.specs.Levels.{runs_in}
+use Rattle.hashbag_words_lib.specs.MergedTexts.{BeginsOf}
+use Rattle.hashbag_words_lib.specs.Numbered.{AreUnlike}
 use Rattle.hashbag_words_lib.specs.Shown.{CountTexts}
 use Rattle.hashbag_words_lib.specs.Sorted.{times_in, IsMergeOf}
 use Rattle.hashbag_words_lib.specs.declared.kept_runs.KeptRuns.{KeptRuns}
 use Rattle.hashbag_words_lib.specs.declared.merged_text.MergedText.{MergedText}
+use Rattle.hashbag_words_lib.specs.declared.row_source.SourceKind.{SourceKind}
+use Rattle.hashbag_words_lib.specs.declared.row_source.SourceKind.TheVariants.{Run}
 
 -- the numbers of the files and runs that weren't taken
 abbrev pub left_in : KeptRuns → List ℕ
@@ -14,7 +18,7 @@ left_in kept = kept.files.items ++ runs_in kept.kept
 abbrev pub times_of : (ℕ → List (List ℕ × ℕ)) → List ℕ → List ℕ → ℕ
 times_of rows text numbers = sum_by (λ n. times_in text (rows n)) numbers
 
--- the texts of the numbers `left` and `taken` count each text together as often as all rows that were fed; these numbers are below the next one
+-- the rows of the numbers `left` and `taken` together count each token as often as all rows that were fed; these numbers are below the next one
 pub record AreKept (taken left : List ℕ) (next : ℕ) (rows : ℕ → List (List ℕ × ℕ)) (fed : List (List (List ℕ × ℕ))) : Type 0 where
   pub counts : (text : List ℕ) → times_of rows text left + times_of rows text taken ≡ sum_by (times_in text) fed
   pub left_below : All (λ n. n < next) left
@@ -27,6 +31,10 @@ HasKeptWith taken kept rows fed = AreKept taken (left_in kept) kept.next_number 
 -- the same if none are taken
 abbrev pub HasKept : KeptRuns → (ℕ → List (List ℕ × ℕ)) → List (List (List ℕ × ℕ)) → Type 0
 HasKept kept rows fed = HasKeptWith [] kept rows fed
+
+-- the files have their own rows, and nothing else was fed
+abbrev pub HasFiles : KeptRuns → Type 0
+HasFiles kept = (rows : ℕ → List (List ℕ × ℕ)) → HasKept kept rows (map rows kept.files.items)
 
 -- a text of the number n was written, which has the rows of a run; those of lower numbers are the same
 abbrev pub WritesRun : ℕ → List (List ℕ × ℕ) → (ℕ → List (List ℕ × ℕ)) → (ℕ → List (List ℕ × ℕ)) → Type 0
@@ -54,11 +62,58 @@ TakesTexts full old new =
     (rows : ℕ → List (List ℕ × ℕ)) → (fed : List (List (List ℕ × ℕ))) → HasKept old rows fed
     → MatchOption full (HasKept new rows fed) (λ text. HasKeptWith text.batch.numbers.items new rows fed)
 
+-- ---- the numbers themselves
+
+-- no number is twice among those that weren't taken; first come those of files, then those of runs, and all are below the next one
+pub record AreInOrder (kept : KeptRuns) : Type 0 where
+  pub unlike : AreUnlike (left_in kept)
+  pub files : All (λ n. n < kept.first_run) kept.files.items
+  pub runs : All (λ n. kept.first_run ≤ n) (runs_in kept.kept)
+  pub below : All (λ n. n < kept.next_number) (left_in kept)
+  pub later : kept.first_run ≤ kept.next_number
+
+-- what the files are is the same, and the number of the first run
+abbrev pub KeepsKinds : KeptRuns → KeptRuns → Type 0
+KeepsKinds old new = (new.kind ≡ old.kind) × (new.first_run ≡ old.first_run)
+
+-- a run has the next number
+pub record AddsNumber (old new : KeptRuns) : Type 0 where
+  pub files : new.files.items ≡ old.files.items
+  pub runs : runs_in new.kept ≡ runs_in old.kept ++ old.next_number ∷ []
+  pub next : new.next_number ≡ old.next_number + 1
+  pub kinds : KeepsKinds old new
+
+-- files of these numbers were taken
+pub record TakesFiles (numbers : List ℕ) (old new : KeptRuns) : Type 0 where
+  pub files : old.files.items ≡ numbers ++ new.files.items
+  pub runs : runs_in new.kept ≡ runs_in old.kept
+  pub next : new.next_number ≡ old.next_number
+  pub kinds : KeepsKinds old new
+
+-- runs of these numbers were taken
+pub record TakesRuns (numbers : List ℕ) (old new : KeptRuns) : Type 0 where
+  pub files : new.files.items ≡ old.files.items
+  pub runs : runs_in old.kept ≡ runs_in new.kept ++ numbers
+  pub next : new.next_number ≡ old.next_number
+  pub kinds : KeepsKinds old new
+
+-- texts of this kind and of these numbers were taken
+abbrev pub TakesKind : SourceKind → List ℕ → KeptRuns → KeptRuns → Type 0
+TakesKind kind numbers old new = ((kind ≡ old.kind) × TakesFiles numbers old new) ⊎ ((kind ≡ Run) × TakesRuns numbers old new)
+
+-- the texts of this merge were taken, and nothing was given of them
+abbrev pub TakesMerge : MergedText → KeptRuns → KeptRuns → Type 0
+TakesMerge text old new = (kind : SourceKind) × BeginsOf kind text × TakesKind kind text.batch.numbers.items old new
+
+-- the texts of this merge were taken, if there is one; else none was
+abbrev pub TakesOneMerge : Option MergedText → KeptRuns → KeptRuns → Type 0
+TakesOneMerge full old new = MatchOption full (TakesFiles [] old new) (λ text. TakesMerge text old new)
+
 -- there are no files, or no runs
 abbrev pub AreAlike : KeptRuns → Type 0
 AreAlike kept = (kept.files.items ≡ []) ⊎ (runs_in kept.kept ≡ [])
 
--- whatever tokens the rows that were fed count, all of them together, the texts of these numbers count the same
+-- the rows of these numbers together count the same tokens as all rows that were fed
 abbrev pub MergesAll : List ℕ → KeptRuns → Type 0
 MergesAll taken kept =
     (rows : ℕ → List (List ℕ × ℕ)) → (fed : List (List (List ℕ × ℕ))) → HasKept kept rows fed → (tokens : List (List ℕ)) → CountTexts fed tokens

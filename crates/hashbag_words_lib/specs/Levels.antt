@@ -12,7 +12,7 @@ runs_in kept = kept.runs.items
 abbrev pub levels_in : {R : Type 0} → Levels R → List ℕ
 levels_in kept = kept.levels.items
 
--- the last sixteen levels are this one; never without a level
+-- the last sixteen levels are this one; false for `None`
 abbrev pub end_with : List ℕ → Option ℕ → Bool
 end_with levels None = false
 end_with levels (Some level) = ends_with nat_eq levels (replicate 16 level)

@@ -17,6 +17,7 @@ pub mod LineEnds
 pub mod Merged
 pub mod MergedTexts
 pub mod Merging
+pub mod MergingRuns
 pub mod Numbered
 pub mod Prefix
 pub mod Reads

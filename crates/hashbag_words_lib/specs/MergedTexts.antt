@@ -12,7 +12,7 @@ use Rattle.hashbag_words_lib.specs.Writing.{head_text, text_of}
 use Rattle.hashbag_words_lib.specs.declared.batch.Batch.{Batch}
 use Rattle.hashbag_words_lib.specs.declared.choice.Choice.{Choice}
 use Rattle.hashbag_words_lib.specs.declared.choice.Order.{Order}
-use Rattle.hashbag_words_lib.specs.declared.choice.Order.TheVariants.{Rising, Open, MostCommon}
+use Rattle.hashbag_words_lib.specs.declared.choice.Order.TheVariants.{Ascending, Unordered, MostCommon}
 use Rattle.hashbag_words_lib.specs.declared.merged_text.MergedText.{MergedText}
 use Rattle.hashbag_words_lib.specs.declared.merged_text.RowLayout.{RowLayout}
 use Rattle.hashbag_words_lib.specs.declared.merged_text.Wants.{Wants}
@@ -24,11 +24,12 @@ use Rattle.hashbag_words_lib.specs.declared.shown_rows.TopRows.{TopRows}
 use Rattle.hashbag_words_lib.specs.declared.shown_text.Look.{Look}
 use Rattle.hashbag_words_lib.specs.declared.shown_text.Look.TheVariants.{Rows as InRows, Shares as WithShares, Bars as WithBars}
 use Rattle.hashbag_words_lib.specs.declared.writing.Format.{Format}
+use Rattle.hashbag_words_lib.specs.declared.writing.Format.TheVariants.{Tsv}
 
 -- all rows are shown that are chosen, in the order in which they come
 abbrev pub AreAll : Order → Type 0
-AreAll Rising = Unit {0}
-AreAll Open = Unit {0}
+AreAll Ascending = Unit {0}
+AreAll Unordered = Unit {0}
 AreAll (MostCommon k) = ⊥
 
 -- the rows that are shown
@@ -42,14 +43,14 @@ top_text format (Some width) rows = head_text format ++ bars_text width rows
 
 -- what is written of rows that are shown: all, as they come; or the k most common of them, with bars if there are columns for bars
 abbrev pub whole_text : Format → Order → Option ℕ → List (List ℕ × ℕ) → List ℕ
-whole_text format Rising bars rows = text_of format rows
-whole_text format Open bars rows = text_of format rows
+whole_text format Ascending bars rows = text_of format rows
+whole_text format Unordered bars rows = text_of format rows
 whole_text format (MostCommon k) bars rows = top_text format bars (most_common k rows)
 
 -- how the rows of a merge look: in this format; or with bars, if the most common are written and there are columns for bars
 abbrev pub look_of : Format → Order → Option ℕ → Look
-look_of format Rising bars = InRows format
-look_of format Open bars = InRows format
+look_of format Ascending bars = InRows format
+look_of format Unordered bars = InRows format
 look_of format (MostCommon k) None = InRows format
 look_of format (MostCommon k) (Some width) = WithBars width
 
@@ -96,20 +97,36 @@ BeginsOf kind text = HasGivenAndTaken (map (λ n. (kind, [])) text.batch.numbers
 abbrev pub KeepsBatchAndLayout : MergedText → MergedText → Type 0
 KeepsBatchAndLayout old new = (new.batch ≡ old.batch) × (new.rows.choice ≡ old.rows.choice) × (new.rows.sink.format ≡ old.rows.sink.format) × (new.bars ≡ old.bars)
 
+-- what is shown, and how it is written, is the same
+abbrev pub KeepsLayout : MergedText → MergedText → Type 0
+KeepsLayout old new = (new.rows.choice ≡ old.rows.choice) × (new.rows.sink.format ≡ old.rows.sink.format) × (new.bars ≡ old.bars)
+
+-- all rows are shown, as `tsv`: as in a run
+pub record ShowsRun (choice : Choice) (format : Format) : Type 0 where
+  pub all : (row : List ℕ × ℕ) → shows choice row ≡ true
+  pub tsv : format ≡ Tsv
+  pub order : AreAll choice.order
+
+abbrev pub IsRunLayout : RowLayout → Type 0
+IsRunLayout layout = ShowsRun layout.choice layout.format
+
+abbrev pub WritesAsRun : MergedText → Type 0
+WritesAsRun text = ShowsRun text.rows.choice text.rows.sink.format
+
 -- the bytes are the text of what is shown of the merge of all rows of these texts
 pub record IsMergedText (choice : Choice) (format : Format) (bars : Option ℕ) (inputs : List (List (List ℕ × ℕ))) (bytes : List ℕ) : Type 0 where
   pub rows : List (List ℕ × ℕ)
   pub merged : IsMergeOf inputs rows
   pub is : bytes ≡ whole_text format choice.order bars (shown_in choice rows)
 
--- these bytes are the text of the merge of all rows of these texts; and whatever texts they count, they are what is written of these
+-- these bytes are the text of the merge of all rows of these texts; and whatever tokens the texts count, the bytes are what is written of them
 abbrev pub EndsWith : List (List (List ℕ × ℕ)) → List ℕ → MergedText → Type 0
 EndsWith inputs bytes text =
     IsMergedText text.rows.choice text.rows.sink.format text.bars inputs bytes
     × WritesTogether text.rows.choice (look_of text.rows.sink.format text.rows.choice.order text.bars) inputs text.batch.merger.total bytes
 
 -- what is wanted next: bytes of a text; or that the part is taken; or nothing, and what was taken is the text of the merge of all texts as they were
--- given: what is written of the texts that they count
+-- given: what is written of the tokens that they count
 abbrev pub PutsNext : List (SourceKind × List ℕ) → List ℕ → Wants → MergedText → Type 0
 PutsNext given taken (Block number) new = HasGivenAndTaken given new taken × (new.is_over ≡ false) × IsWanted new.batch × (number ≡ slice_index_or new.batch.numbers.items new.batch.wanted number)
 PutsNext given taken Part new = HasGivenAndTaken given new taken

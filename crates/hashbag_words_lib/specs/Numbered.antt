@@ -1,6 +1,5 @@
 -- What is read of numbered texts, given to their merge, and written of it.
-use Rattle.std.specs.Prelude.{◌≡◌, ◌≢◌, ℕ, ◌<◌, false, List, ◌++◌, length, map, slice_index_or, Option}
-use Rattle.std.specs.Io.KnownBytes.{Appends}
+use Rattle.std.specs.Prelude.{◌≡◌, ◌≢◌, ℕ, ◌<◌, false, List, ◌++◌, All, length, map, slice_index_or}
 use Rattle.hashbag_words_lib.specs.Batches.{IsWanted}
 use Rattle.hashbag_words_lib.specs.MergedTexts.{HasGivenAndTaken, PutsNext}
 use Rattle.hashbag_words_lib.specs.declared.merged_text.MergedText.{MergedText}
@@ -40,14 +39,18 @@ GivesRead number before old after new =
 abbrev pub IsNext : SourceKind → (ℕ → List ℕ) → List ℕ → Wants → MergedText → Type 0
 IsNext kind read taken wants text = AreUnlike text.batch.numbers.items × PutsNext (read_of kind read text.batch.numbers.items) taken wants text
 
+-- of the texts of other numbers nothing was read
+abbrev pub ReadsOnly : List ℕ → (ℕ → List ℕ) → (ℕ → List ℕ) → Type 0
+ReadsOnly numbers before after = (k : ℕ) → All (λ n. n ≢ k) numbers → after k ≡ before k
+
 -- what was read was given, until this is wanted
 abbrev pub ReadsOn : (ℕ → List ℕ) → MergedText → Wants → (ℕ → List ℕ) → MergedText → Type 0
 ReadsOn before old wants after new =
-    (kind : SourceKind) → (taken : List ℕ) → HasRead kind before old taken → IsNext kind after taken wants new × (new.batch.numbers ≡ old.batch.numbers)
+    (kind : SourceKind) → (taken : List ℕ) → HasRead kind before old taken
+    → IsNext kind after taken wants new × (new.batch.numbers ≡ old.batch.numbers) × ReadsOnly old.batch.numbers.items before after
 
--- what was written behind what was taken before is the rest of the text: nothing more is wanted. `read` says what was read of the texts, and `contents`
--- what was written
-abbrev pub WritesMerge : {T W : Type 0} → (T → ℕ → List ℕ) → (W → Option (List ℕ)) → Wants → T → MergedText → W → T → MergedText → W → Type 0
-WritesMerge read contents first texts old was later new is =
+-- these bytes were written behind what was taken before, and are the rest of the text: nothing more is wanted. `read` says what was read of the texts
+abbrev pub WritesMerge : {T : Type 0} → (T → ℕ → List ℕ) → Wants → T → MergedText → T → MergedText → List ℕ → Type 0
+WritesMerge read first texts old later new bytes =
     (kind : SourceKind) → (taken : List ℕ) → IsNext kind (read texts) taken first old
-    → (rest : List ℕ) × Appends (contents was) (contents is) rest × IsNext kind (read later) (taken ++ rest) End new × (new.batch.numbers ≡ old.batch.numbers)
+    → IsNext kind (read later) (taken ++ bytes) End new × (new.batch.numbers ≡ old.batch.numbers) × ReadsOnly old.batch.numbers.items (read texts) (read later)

@@ -54,6 +54,6 @@ pub record SortsFrom (from : ℕ) (rows sorted_rows : List (ℕ × (Bor (String 
 
 -- the rows are the same in another order; sorted, if their tokens agreed before place `from` and were in order by the eight bytes from
 -- there on
-pub record SortsRuns (from : ℕ) (rows sorted_rows : List (ℕ × (Bor (String Global) × ℕ))) : Type 0 where
+pub record SortsBlocks (from : ℕ) (rows sorted_rows : List (ℕ × (Bor (String Global) × ℕ))) : Type 0 where
   pub permutation : IsPermutation (map bare_row rows) (map bare_row sorted_rows)
   pub sorted : (number : ℕ) → AreRising from rows → All (Starts from number) rows → IsSorted row_cmp (map bare_row sorted_rows)

@@ -12,7 +12,7 @@ use Rattle.hashbag_words_lib.specs.Rows.{row, unescaped}
 use Rattle.hashbag_words_lib.specs.Sorted.{times_in, Rises}
 use Rattle.hashbag_words_lib.specs.Tokens.{without_mark}
 use Rattle.hashbag_words_lib.specs.declared.lines.BadLines.{BadLines}
-use Rattle.hashbag_words_lib.specs.declared.lines.BadLines.TheVariants.{Refused, Skipped}
+use Rattle.hashbag_words_lib.specs.declared.lines.BadLines.TheVariants.{Rejected, Skipped}
 use Rattle.hashbag_words_lib.specs.declared.rows.RowForm.{RowForm}
 use Rattle.hashbag_words_lib.specs.declared.rows.RowForm.TheVariants.{Tsv, Uniq}
 
@@ -37,8 +37,8 @@ rows_of_file bytes = filter_map read_as (unmarked (lines bytes))
 -- the rows of the bytes that are left; `None` if the form isn't `tsv`, or bad lines are skipped. The flag says whether the first line may
 -- begin with a byte order mark
 abbrev pub rows_left : RowForm → BadLines → Bool → List ℕ → Option (List (List ℕ × ℕ))
-rows_left Tsv Refused false bytes = Some (rows_in bytes)
-rows_left Tsv Refused true bytes = Some (rows_of_file bytes)
+rows_left Tsv Rejected false bytes = Some (rows_in bytes)
+rows_left Tsv Rejected true bytes = Some (rows_of_file bytes)
 rows_left Tsv Skipped marked bytes = None
 rows_left Uniq bad_lines marked bytes = None
 

@@ -16,7 +16,7 @@ use Rattle.hashbag_words_lib.specs.Sorted.{text_cmp, times_in, Rises}
 use Rattle.hashbag_words_lib.specs.Writing.{text_of}
 use Rattle.hashbag_words_lib.specs.declared.choice.Choice.{Choice}
 use Rattle.hashbag_words_lib.specs.declared.choice.Order.{Order}
-use Rattle.hashbag_words_lib.specs.declared.choice.Order.TheVariants.{Rising, Open, MostCommon}
+use Rattle.hashbag_words_lib.specs.declared.choice.Order.TheVariants.{Ascending, Unordered, MostCommon}
 use Rattle.hashbag_words_lib.specs.declared.shown_text.Look.{Look}
 use Rattle.hashbag_words_lib.specs.declared.shown_text.Look.TheVariants.{Rows as InRows, Shares as WithShares, Bars as WithBars}
 use Rattle.hashbag_words_lib.specs.declared.shown_text.Shown.{Shown}
@@ -32,46 +32,46 @@ pub record HasShown (choice : Choice) (texts : List (List ℕ)) (rows : List (Li
 -- these rows are shown, in that order: tokens in ascending order, or as they come; or the first k of them, the most common first, and tokens that
 -- are equally common in ascending order
 abbrev pub AreShown : Order → Choice → List (List ℕ) → List (List ℕ × ℕ) → Type 0
-AreShown Rising choice texts rows = HasShown choice texts rows × Rises rows
-AreShown Open choice texts rows = HasShown choice texts rows
+AreShown Ascending choice texts rows = HasShown choice texts rows × Rises rows
+AreShown Unordered choice texts rows = HasShown choice texts rows
 AreShown (MostCommon k) choice texts rows =
     (all : List (List ℕ × ℕ)) × HasShown choice texts all × IsStrictlySortedBy (rank text_cmp) all × (rows ≡ take k all)
 
--- the bytes are what is written of these texts
+-- the bytes are what is written of these tokens
 pub record IsShownText (choice : Choice) (format : Format) (texts : List (List ℕ)) (bytes : List ℕ) : Type 0 where
   pub rows : List (List ℕ × ℕ)
   pub shown : AreShown choice.order choice texts rows
   pub is : bytes ≡ text_of format rows
 
--- whatever texts the bag was made of, if it has what is shown of them, the bytes are what is written of them
+-- for any list of tokens of which the bag has exactly those that are shown, with their counts: the bytes are what is written of the list
 abbrev pub IsTextOfKept : {S : Type 0} → Choice → Format → Bag (String Global) S → List ℕ → Type 0
 IsTextOfKept choice format bag bytes = (texts : List (List ℕ)) → AreKept choice texts bag → IsShownText choice format texts bytes
 
--- the bytes are what is written of these texts with bars, on a terminal of that width
+-- the bytes are what is written of these tokens with bars, on a terminal of that width
 pub record IsShownBars (choice : Choice) (width : ℕ) (texts : List (List ℕ)) (bytes : List ℕ) : Type 0 where
   pub rows : List (List ℕ × ℕ)
   pub shown : AreShown choice.order choice texts rows
   pub is : bytes ≡ bars_text width rows
 
--- whatever texts the bag was made of, if it has what is shown of them, the bytes are what is written of them with bars
+-- for any list of tokens of which the bag has exactly those that are shown: the bytes are what is written of the list with bars
 abbrev pub AreBarsOfKept : {S : Type 0} → Choice → ℕ → Bag (String Global) S → List ℕ → Type 0
 AreBarsOfKept choice width bag bytes = (texts : List (List ℕ)) → AreKept choice texts bag → IsShownBars choice width texts bytes
 
--- the bytes are what is written of these texts in this look. A share is of all of them, shown or not
+-- the bytes are what is written of these tokens in this look. A share is of all of them, shown or not
 abbrev pub IsWritten : Choice → Look → List (List ℕ) → List ℕ → Type 0
 IsWritten choice (InRows format) texts bytes = IsShownText choice format texts bytes
 IsWritten choice WithShares texts bytes = IsShownText choice (Shares (length texts)) texts bytes
 IsWritten choice (WithBars width) texts bytes = IsShownBars choice width texts bytes
 
--- whatever texts the bag was made of, the bytes are what is written of them
+-- the bytes are what is written of the tokens that the bag has
 abbrev pub ShowsCounted : {S : Type 0} → Choice → Look → Bag (String Global) S → List ℕ → Type 0
 ShowsCounted choice look bag bytes = (texts : List (List ℕ)) → HaveTogether [] bag texts → IsWritten choice look texts bytes
 
--- these texts are what the inputs count, together
+-- these tokens are what the inputs count, together
 abbrev pub CountTexts : List (List (List ℕ × ℕ)) → List (List ℕ) → Type 0
 CountTexts inputs texts = (text : List ℕ) → sum_by (times_in text) inputs ≡ count bytes_eq text texts
 
--- whatever texts the inputs count, wherever these were cut: the bytes are what is written of the texts, and the total is how many texts there are
+-- whatever tokens the inputs count, however their counts are divided among these: the bytes are what is written of the tokens, and the total is how many there are
 abbrev pub WritesTogether : Choice → Look → List (List (List ℕ × ℕ)) → ℕ → List ℕ → Type 0
 WritesTogether choice look inputs total bytes =
     (texts : List (List ℕ)) → CountTexts inputs texts → IsWritten choice look texts bytes × (total ≡ length texts)

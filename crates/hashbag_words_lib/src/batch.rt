@@ -50,8 +50,8 @@ impl Batch {
     }
 
     /// Returns the numbers of the texts.
-    pub fn numbers(&self) -> &[usize]
-        ensures { result.now ≡ self.now.numbers.items }
+    pub fn numbers(&self) -> &Vec<usize>
+        ensures { result.now ≡ self.now.numbers }
     {
         &self.numbers
     }

@@ -19,9 +19,9 @@ use std::hash::{BuildHasher, RandomState};
 #[derive(Clone, Copy, Debug, PartialEq, Eq)]
 pub enum Order {
     /// All tokens, in ascending order of their bytes.
-    Rising,
+    Ascending,
     /// All tokens, in no particular order.
-    Open,
+    Unordered,
     /// The k most common tokens: in descending order of counts, and tokens with equal counts in ascending order of their bytes.
     MostCommon(usize),
 }
@@ -125,8 +125,8 @@ pub fn chosen<'a, S: BuildHasher + Drop>(
     ensures { IfOk result (λ rows. IsShown order bag.now (map seen rows.items)) }
 {
     match order {
-        Order::Rising => rising(alloc, bag),
-        Order::Open => counts(alloc, bag),
+        Order::Ascending => rising(alloc, bag),
+        Order::Unordered => counts(alloc, bag),
         Order::MostCommon(k) => most_common(alloc, bag, k),
     }
 }

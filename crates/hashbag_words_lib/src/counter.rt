@@ -61,7 +61,7 @@ pub(crate) fn without_return(line: &[u8]) -> &[u8]
     &line[..n - 1]
 }
 
-// Returns the fault of a failed allocation. Counts the line that hasn't ended as read.
+// Returns the fault of a failed allocation, and counts the line at which it happened as read.
 pub(crate) fn no_memory(reading: &mut LinesRead) -> InputFault
     ensures fault { result ≡ InputFault.Bag BagError.Memory }
     ensures bad_lines { reading.new.bad_lines ≡ reading.old.bad_lines }
@@ -166,8 +166,8 @@ impl<'r, S: BuildHasher + Drop> TextCounter<'r, S> {
 
     /// Counts the lines that end in these bytes. The bytes after the last line feed are kept.
     ///
-    /// Returns `Fed::Whole`, or `Fed::Full(n)` if the bag was full when it was measured. Then only the first `n` bytes were fed, to the end
-    /// of the line after which the bag was measured. With a gauge the bag is measured after every 16 lines.
+    /// Returns `Fed::Whole`, or `Fed::Full(n)` if the bag was full when that was asked. Then only the first `n` bytes were fed, to the end of the
+    /// line after which it was asked. With a gauge it is asked after every 16 lines.
     ///
     /// # Errors
     ///

@@ -282,8 +282,8 @@ fn add_other<S: BuildHasher + Drop>(
 ) -> Result<(), InputFault>
     requires { is_utf8 line.now ≡ false }
     ensures counts { OnOk result (AddsTexts bag.old bag.new (tokens_of_lines rule.now (line.now ∷ []))) }
-    ensures passed { OnOk result (reading.old.bad_lines ≡ BadLines.Refused → is_bad rule.now line.now ≡ false) }
-    ensures bad { OnBadLine result ((reading.old.bad_lines ≡ BadLines.Refused) × (is_bad rule.now line.now ≡ true)) }
+    ensures passed { OnOk result (reading.old.bad_lines ≡ BadLines.Rejected → is_bad rule.now line.now ≡ false) }
+    ensures bad { OnBadLine result ((reading.old.bad_lines ≡ BadLines.Rejected) × (is_bad rule.now line.now ≡ true)) }
     ensures kept { is_bad rule.now line.now ≡ false → reading.new.skipped ≡ reading.old.skipped }
     ensures skipped { is_bad rule.now line.now ≡ true → OnOk result (reading.new.skipped ≡ min (reading.old.skipped + 1) (2 ^ 64 - 1)) }
     ensures plain { is_replaced rule.now line.now ≡ false → reading.new.replaced ≡ reading.old.replaced }
@@ -310,8 +310,8 @@ pub(crate) fn add_bytes<S: BuildHasher + Drop>(
     ensures counts { OnOk result (AddsTexts bag.old bag.new (tokens_of_lines rule.now (line.now ∷ []))) }
 
     // If bad lines are rejected, each bad line fails. Only a bad line fails with `InputFault::Line`.
-    ensures passed { OnOk result (reading.old.bad_lines ≡ BadLines.Refused → is_bad rule.now line.now ≡ false) }
-    ensures bad { OnBadLine result ((reading.old.bad_lines ≡ BadLines.Refused) × (is_bad rule.now line.now ≡ true)) }
+    ensures passed { OnOk result (reading.old.bad_lines ≡ BadLines.Rejected → is_bad rule.now line.now ≡ false) }
+    ensures bad { OnBadLine result ((reading.old.bad_lines ≡ BadLines.Rejected) × (is_bad rule.now line.now ≡ true)) }
 
     // A bad line that is skipped raises `skipped` by 1, up to `u64::MAX`. A line whose bytes are replaced raises `replaced` likewise.
     ensures kept { is_bad rule.now line.now ≡ false → reading.new.skipped ≡ reading.old.skipped }

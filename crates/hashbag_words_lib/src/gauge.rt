@@ -11,7 +11,7 @@ const TOKEN: usize = 32;
 // With less room than this the next lines may need more slots.
 const LITTLE_ROOM: usize = 1024;
 
-// How many lines are counted between two measures.
+// After how many lines it is asked whether the bag is full.
 const STEP: usize = 16;
 
 /// How many bytes a bag of texts may take, and an upper bound of the bytes that it takes.
@@ -20,7 +20,7 @@ pub struct Gauge {
     most: usize,
     // An upper bound of the bytes of the bag's texts.
     texts: usize,
-    // The lines that were counted since the last measure.
+    // The lines that were counted since that was asked.
     lines: usize,
 }
 
@@ -85,7 +85,8 @@ impl Gauge {
         bytes_of(bag, self.texts) >= self.most - self.most / 8
     }
 
-    /// Returns whether the bag is full after one more line, of `read` bytes. The bag is measured after every 16 lines, and else isn't full.
+    /// Returns whether the bag is full after one more line, of `read` bytes. Only after each 16th line this is asked, as by
+    /// [`Gauge::is_full`]; after the others the bag isn't full.
     pub fn is_full_after_line<S: BuildHasher + Drop>(
         &mut self,
         bag: &HashBag<String, S>,

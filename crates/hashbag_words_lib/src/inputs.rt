@@ -1,11 +1,11 @@
-//! Counting all inputs of a call, which are read block by block. What has them is a [`Blocks`], so the clauses hold whatever they have.
+//! Counting all inputs of a call, which are read block by block. They come from any [`Blocks`], so the clauses hold for any bytes.
 ghost use Rattle.std.specs.Prelude.{◌≡◌, ℕ, List, [], ◌∷◌, ◌++◌, Option, None, Some, map, OnOk, IfOk};
 ghost use Rattle.hashbag_text.specs.Encodings.{text_in};
 ghost use Rattle.hashbag_words_lib.specs.Inputs.{left_in, Counts, FeedsNext, Reads, ReadsBlock, Takes};
 
 use crate::feeding::{Counter, KeepsRuns, end, feed};
 use crate::lines::LinesRead;
-use hashbag_shell::input::said;
+use hashbag_shell::input::shown_name;
 use hashbag_shell::text::of_decoding;
 use hashbag_shell::trouble::Trouble;
 use hashbag_text::decoder::Decoder;
@@ -89,20 +89,20 @@ impl<'a> Decoding<'a> {
     // Counts the text that the next block brings.
     fn feed<C: Counter, R: KeepsRuns<'a>>(
         &mut self,
-        tally: &mut C,
+        counter: &mut C,
         runs: &mut Option<R>,
         block: &[u8],
     ) -> Result<(), Trouble<'a>>
-        ensures { OnOk result (FeedsNext C.has R.kept tally.old tally.new runs.old runs.new self.old.decoder block.now self.new.decoder) }
+        ensures { OnOk result (FeedsNext C.has R.kept counter.old counter.new runs.old runs.new self.old.decoder block.now self.new.decoder) }
     {
         let Some(decoder) = &mut self.decoder else {
-            feed(self.alloc, tally, runs, self.name, block)?;
+            feed(self.alloc, counter, runs, self.name, block)?;
             self.has_nul = self.has_nul || memchr(0, block).is_some();
             return Ok(());
         };
         self.text.clear();
         let pushed = decoder.push(block, &mut self.text);
-        feed(self.alloc, tally, runs, self.name, self.text.as_bytes())?;
+        feed(self.alloc, counter, runs, self.name, self.text.as_bytes())?;
         if let Err(error) = pushed {
             return Err(of_decoding(self.alloc, self.name, error));
         }
@@ -128,22 +128,22 @@ impl<'a> Decoding<'a> {
 fn read_input<'a, B: Blocks<'a>, C: Counter, R: KeepsRuns<'a>>(
     alloc: Global,
     inputs: &mut B,
-    tally: &mut C,
+    counter: &mut C,
     runs: &mut Option<R>,
     name: &'a str,
     encoding: Option<Encoding>,
 ) -> Result<bool, Trouble<'a>>
-    ensures { OnOk result (Reads C.has R.kept B.ended encoding name.now inputs.old inputs.new tally.old tally.new runs.old runs.new) }
+    ensures { OnOk result (Reads C.has R.kept B.ended encoding name.now inputs.old inputs.new counter.old counter.new runs.old runs.new) }
 {
     inputs.open(name)?;
-    let mut decoding = Decoding::new(alloc, said(name), encoding);
+    let mut decoding = Decoding::new(alloc, shown_name(name), encoding);
     'steps: for _block in 0..u64::MAX {
         inputs.read()?;
         let block = inputs.block();
         if block.is_empty() {
             return decoding.end();
         }
-        decoding.feed(tally, runs, block)?;
+        decoding.feed(counter, runs, block)?;
     }
     Err(Trouble::Memory)
 }
@@ -152,19 +152,19 @@ fn read_input<'a, B: Blocks<'a>, C: Counter, R: KeepsRuns<'a>>(
 fn count_named<'a, B: Blocks<'a>, C: Counter, R: KeepsRuns<'a>>(
     alloc: Global,
     inputs: &mut B,
-    tally: &mut C,
+    counter: &mut C,
     runs: &mut Option<R>,
     name: &'a str,
     encoding: Option<Encoding>,
 ) -> Result<(), Trouble<'a>>
-    ensures { OnOk result (Takes C.has R.kept B.ended encoding name.now inputs.old inputs.new tally.old tally.new runs.old runs.new) }
+    ensures { OnOk result (Takes C.has R.kept B.ended encoding name.now inputs.old inputs.new counter.old counter.new runs.old runs.new) }
 {
-    let has_nul = read_input(alloc, inputs, tally, runs, name, encoding)?;
+    let has_nul = read_input(alloc, inputs, counter, runs, name, encoding)?;
     if has_nul {
-        inputs.report_nul(said(name));
+        inputs.report_nul(shown_name(name));
     }
-    let reading = end(alloc, tally, runs, said(name))?;
-    inputs.report(said(name), &reading);
+    let reading = end(alloc, counter, runs, shown_name(name))?;
+    inputs.report(shown_name(name), &reading);
     Ok(())
 }
 
@@ -176,16 +176,16 @@ fn count_named<'a, B: Blocks<'a>, C: Counter, R: KeepsRuns<'a>>(
 pub fn count_all<'a, B: Blocks<'a>, C: Counter, R: KeepsRuns<'a>>(
     alloc: Global,
     inputs: &mut B,
-    tally: &mut C,
+    counter: &mut C,
     runs: &mut Option<R>,
     encoding: Option<Encoding>,
     names: &[&'a str],
 ) -> Result<(), Trouble<'a>>
     // Exactly these inputs were read to their ends, each is text in the encoding, and the counter and all runs have what is counted of all texts.
-    ensures { OnOk result (Counts C.has R.kept B.ended encoding names.now inputs.old inputs.new tally.old tally.new runs.old runs.new) }
+    ensures { OnOk result (Counts C.has R.kept B.ended encoding names.now inputs.old inputs.new counter.old counter.new runs.old runs.new) }
 {
     for name in names {
-        count_named(alloc, inputs, tally, runs, *name, encoding)?;
+        count_named(alloc, inputs, counter, runs, *name, encoding)?;
     }
     Ok(())
 }

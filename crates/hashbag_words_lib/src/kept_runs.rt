@@ -1,12 +1,11 @@
 //! Which numbered texts are merged with which.
 //!
-//! A [`KeptRuns`] holds no file: each file of counts and each run has a number, and it says the numbers of those that are merged. So no clause
-//! depends on where they are. In the clauses `rows` has the rows of the text of each number, and `fed` are the rows of all files and runs that were
+//! A [`KeptRuns`] holds no file: it knows files of counts and runs by their numbers, and says which numbers are merged. In the clauses `rows` has the rows of the text of each number, and `fed` are the rows of all files and runs that were
 //! added.
-ghost use Rattle.std.specs.Prelude.{◌≡◌, ◌≢◌, ◌↔◌, true, ℕ, ◌<◌, [], List, length, map, slice_index_or, IfOk, IfSome, IsSomeAnd, OnOk, None};
-ghost use Rattle.hashbag_words_lib.specs.KeptRuns.{AddsMerged, AddsRun, AreAlike, HasKept, MergesAll, TakesTexts, TakesThese};
+ghost use Rattle.std.specs.Prelude.{◌≡◌, ◌≢◌, ◌↔◌, true, ℕ, ◌<◌, [], length, slice_index_or, IfOk, IfSome, IsSomeAnd, OnOk, None};
+ghost use Rattle.hashbag_words_lib.specs.KeptRuns.{left_in, AddsMerged, AddsNumber, AddsRun, AreAlike, AreInOrder, HasFiles, MergesAll, TakesMerge, TakesOneMerge, TakesTexts, TakesThese};
 ghost use Rattle.hashbag_words_lib.specs.Levels.{runs_in};
-ghost use Rattle.hashbag_words_lib.specs.MergedTexts.{look_in, look_of, BeginsOf};
+ghost use Rattle.hashbag_words_lib.specs.MergedTexts.{look_in, look_of, BeginsOf, IsRunLayout, WritesAsRun};
 
 use crate::levels::{FAN, Levels};
 use crate::merged_text::{MergedText, RowLayout, run_layout};
@@ -18,9 +17,10 @@ use std::mem;
 #[derive(Drop)]
 pub struct KeptRuns {
     alloc: Global,
-    // What each file is, and the numbers of those that weren't taken.
+    // What each file is, and the numbers of those that weren't taken. The numbers of files are below that of the first run.
     kind: SourceKind,
     files: Vec<usize>,
+    first_run: usize,
     // The numbers of the runs that weren't taken.
     kept: Levels<usize>,
     // The number of the next run, and its level.
@@ -50,12 +50,15 @@ impl KeptRuns {
         // Each number below `files` is that of a file.
         ensures many { IfOk result (λ kept. length kept.files.items ≡ files) }
         ensures each { IfOk result (λ kept. (i : ℕ) → i < files → (d : ℕ) → slice_index_or kept.files.items i d ≡ i) }
-        ensures kept { IfOk result (λ kept. (rows : ℕ → List (List ℕ × ℕ)) → HasKept kept rows (map rows kept.files.items)) }
+        ensures order { IfOk result AreInOrder }
+        ensures next { IfOk result (λ kept. kept.next_number ≡ files) }
+        ensures kept { IfOk result HasFiles }
     {
         Ok(KeptRuns {
             alloc,
             kind,
             files: numbers_below(alloc, files)?,
+            first_run: files,
             kept: Levels::new(alloc),
             next_number: files,
             next_level: 0,
@@ -63,10 +66,17 @@ impl KeptRuns {
     }
 
     /// Returns whether no run is kept.
-    pub fn is_empty(&self) -> bool
+    pub fn has_no_run(&self) -> bool
         ensures { (result ≡ true) ↔ (runs_in self.now.kept ≡ []) }
     {
         self.kept.is_empty()
+    }
+
+    /// Returns the number of the run that is added next.
+    pub fn next_number(&self) -> usize
+        ensures { result ≡ self.now.next_number }
+    {
+        self.next_number
     }
 
     /// Adds a run, whose text has the next number. Numbers are given in order, from 0: to the files, and then to each run that is added.
@@ -78,6 +88,7 @@ impl KeptRuns {
         // `fed`: if the run has new rows, they are fed. `merged`: if it is the merge of what was taken, nothing more is fed.
         ensures fed { OnOk result (AddsRun self.old self.new) }
         ensures merged { OnOk result (AddsMerged self.old self.new) }
+        ensures added { OnOk result (AddsNumber self.old self.new) }
     {
         let Some(next) = self.next_number.checked_add(1) else {
             return Err(AllocError);
@@ -96,6 +107,7 @@ impl KeptRuns {
     ) -> Result<Option<MergedText<'static>>, AllocError>
         ensures numbers { IfOk result (λ full. IsSomeAnd full (λ text. text.batch.numbers ≡ numbers)) }
         ensures begins { IfOk result (λ full. IfSome full (BeginsOf kind)) }
+        ensures run { IfOk result (λ full. IfSome full WritesAsRun) }
     {
         let text = MergedText::new(self.alloc, kind, numbers, run_layout())?;
         Ok(Some(text))
@@ -106,6 +118,8 @@ impl KeptRuns {
         // What is taken is no longer kept, and nothing else is taken.
         ensures taken { IfOk result (λ full. TakesTexts full self.old self.new) }
         ensures begins { IfOk result (λ full. IfSome full (BeginsOf SourceKind.Run)) }
+        ensures numbers { IfOk result (λ full. TakesOneMerge full self.old self.new) }
+        ensures run { IfOk result (λ full. IfSome full WritesAsRun) }
         ensures next { self.new.next_number ≡ self.old.next_number }
     {
         let level = self.kept.last_level().saturating_add(1);
@@ -124,6 +138,8 @@ impl KeptRuns {
         // What is taken is no longer kept, and nothing else is taken. At the end there are files or runs, and not both.
         ensures taken { IfOk result (λ full. TakesTexts full self.old self.new) }
         ensures begins { IfOk result (λ full. IfSome full (BeginsOf self.old.kind)) }
+        ensures numbers { IfOk result (λ full. TakesOneMerge full self.old self.new) }
+        ensures run { IfOk result (λ full. IfSome full WritesAsRun) }
         ensures end { IfOk result (λ full. full ≡ None → AreAlike self.new) }
         ensures next { self.new.next_number ≡ self.old.next_number }
     {
@@ -147,6 +163,9 @@ impl KeptRuns {
         // Nothing was given of them. They are runs, if there are any, and else files.
         ensures files { runs_in self.old.kept ≡ [] → IfOk result (BeginsOf self.old.kind) }
         ensures runs { runs_in self.old.kept ≢ [] → IfOk result (BeginsOf SourceKind.Run) }
+        ensures numbers { IfOk result (λ text. TakesMerge text self.old self.new) }
+        ensures left { OnOk result (AreAlike self.old → left_in self.new ≡ []) }
+        ensures run { IsRunLayout layout.entry → IfOk result WritesAsRun }
         ensures next { self.new.next_number ≡ self.old.next_number }
     {
         if self.kept.is_empty() {

@@ -5,7 +5,7 @@
 //! - [`rows`] reads a line of counts. [`row_counter`] adds up files of counts that arrive in blocks, and [`merging`] JSON texts.
 //! - [`gauge`] decides when a bag is full. [`runs`] returns the run that is then written. [`levels`] decides which runs are merged,
 //!   [`row_source`] reads their rows, and [`sorted_merge`] merges the rows. [`numbered`] reads the texts of a merge and writes it, and [`reads`]
-//!   records what was read, for contracts.
+//!   records what was read, for contracts. [`kept_runs`] says which texts are merged, and [`merging_runs`] merges them.
 //! - [`choice`] selects the counts that are shown. [`writing`], [`row_text`] and [`row_parts`] build their text. [`shards`] divides all
 //!   tokens by a fixed hash, [`shares`] writes a count as percent of a total, and [`bars`] writes rows with bars for a terminal.
 #![tactic(auto)]
@@ -28,6 +28,7 @@ pub mod levels;
 pub mod lines;
 pub mod merged_text;
 pub mod merging;
+pub mod merging_runs;
 pub mod numbered;
 pub mod reads;
 pub mod row_counter;

@@ -7,7 +7,7 @@ use crate::errors::{BadLine, InputFault};
 #[derive(Clone, Copy, Debug, PartialEq, Eq)]
 pub enum BadLines {
     /// A bad line is an error.
-    Refused,
+    Rejected,
     /// A bad line is skipped, and the skipped lines are counted.
     Skipped,
 }
@@ -61,8 +61,8 @@ impl LinesRead {
 
     // Skips a bad line if bad lines are skipped, else returns it as an error.
     pub(crate) fn pass_over(&mut self, bad: BadLine) -> Result<(), InputFault>
-        ensures rejected { self.old.bad_lines ≡ BadLines.Refused → result ≡ Err (InputFault.Line bad) }
-        ensures only_rejected { IfErr result (λ _. self.old.bad_lines ≡ BadLines.Refused) }
+        ensures rejected { self.old.bad_lines ≡ BadLines.Rejected → result ≡ Err (InputFault.Line bad) }
+        ensures only_rejected { IfErr result (λ _. self.old.bad_lines ≡ BadLines.Rejected) }
         ensures passed { self.old.bad_lines ≡ BadLines.Skipped → IsOk result }
         ensures only_passed { OnOk result (self.old.bad_lines ≡ BadLines.Skipped) }
         ensures skipped { OnOk result (self.new.skipped ≡ min (self.old.skipped + 1) (2 ^ 64 - 1)) }
@@ -71,7 +71,7 @@ impl LinesRead {
         ensures bad_lines { self.new.bad_lines ≡ self.old.bad_lines }
     {
         match self.bad_lines {
-            BadLines::Refused => Err(InputFault::Line(bad)),
+            BadLines::Rejected => Err(InputFault::Line(bad)),
             BadLines::Skipped => {
                 self.skipped = self.skipped.saturating_add(1);
                 Ok(())

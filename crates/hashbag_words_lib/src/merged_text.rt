@@ -7,7 +7,7 @@ ghost use Rattle.hashbag.specs.Walks.{seen};
 ghost use Rattle.hashbag_words_lib.specs.Bars.{bars_text};
 ghost use Rattle.hashbag_words_lib.specs.Batches.{EndsWanted, IsWanted};
 ghost use Rattle.hashbag_words_lib.specs.Choice.{shows};
-ghost use Rattle.hashbag_words_lib.specs.MergedTexts.{look_in, look_of, AreAll, BeginsAs, BuildsEnd, EndsText, GivesText, HasGivenAndTaken, IsTopOf, KeepsBatchAndLayout, KeepsGivenAndTaken, PutsRow, TakesPart, WantsNext};
+ghost use Rattle.hashbag_words_lib.specs.MergedTexts.{look_in, look_of, AreAll, BeginsAs, BuildsEnd, EndsText, GivesText, HasGivenAndTaken, IsTopOf, KeepsBatchAndLayout, KeepsGivenAndTaken, KeepsLayout, PutsRow, TakesPart, WantsNext};
 ghost use Rattle.hashbag_words_lib.specs.RowParts.{BuildsAll};
 ghost use Rattle.hashbag_words_lib.specs.Sorted.{row_of};
 ghost use Rattle.hashbag_words_lib.specs.Top.{kept_row};
@@ -56,7 +56,7 @@ pub fn run_layout() -> RowLayout<'static>
     ensures order { AreAll result.choice.order }
 {
     let choice = Choice {
-        order: Order::Rising,
+        order: Order::Ascending,
         least: 0,
         shortest: 0,
         shard: None,
@@ -82,7 +82,7 @@ pub struct MergedText<'e> {
     is_over: bool,
 }
 
-// Returns the format in which the text begins: with bars, one that has no text before all rows.
+// Returns the format in which the text begins: with bars `Tsv`, which writes nothing before the first row.
 fn rows_format(layout: RowLayout<'_>) -> Format
     ensures look { look_of result layout.entry.choice.order layout.entry.bars ≡ look_in layout.entry }
     ensures begins { BeginsAs (look_of result layout.entry.choice.order layout.entry.bars) result }
@@ -92,8 +92,8 @@ fn rows_format(layout: RowLayout<'_>) -> Format
             Some(_) => Format::Tsv,
             None => layout.format,
         },
-        Order::Rising => layout.format,
-        Order::Open => layout.format,
+        Order::Ascending => layout.format,
+        Order::Unordered => layout.format,
     }
 }
 
@@ -197,8 +197,8 @@ impl<'e> MergedText<'e> {
     }
 
     /// Returns the numbers of the texts.
-    pub fn numbers(&self) -> &[usize]
-        ensures { result.now ≡ self.now.batch.numbers.items }
+    pub fn numbers(&self) -> &Vec<usize>
+        ensures { result.now ≡ self.now.batch.numbers }
     {
         self.batch.numbers()
     }
@@ -215,11 +215,11 @@ impl<'e> MergedText<'e> {
         self.batch.total()
     }
 
-    /// Returns whether no row is in the text so far. Of the most common rows, none is before the end is built.
-    pub fn is_empty(&self) -> bool
+    /// Returns whether no row is in the text so far. With `MostCommon` none is until the end is built.
+    pub fn has_no_text(&self) -> bool
         ensures { result ≡ self.now.rows.sink.is_empty }
     {
-        self.rows.sink.is_empty()
+        self.rows.sink.has_no_text()
     }
 
     /// Returns how many bytes of the wanted text it keeps: those that were given and haven't been read.
@@ -238,6 +238,7 @@ impl<'e> MergedText<'e> {
         ensures wants { OnOk result (IsWanted self.old.batch → IsWanted self.new.batch) }
         ensures same { (self.new.batch.wanted ≡ self.old.batch.wanted) × (self.new.is_over ≡ self.old.is_over) }
         ensures numbers { self.new.batch.numbers ≡ self.old.batch.numbers }
+        ensures layout { KeepsLayout self.old self.new }
     {
         self.batch.give(block)
     }
@@ -251,24 +252,26 @@ impl<'e> MergedText<'e> {
         ensures merged { EndsWanted self.old.batch self.new.batch }
         ensures opening { length self.old.batch.merger.sources.items ≤ self.old.batch.wanted → self.new.batch.rows.is_ended ≡ true }
         ensures numbers { self.new.batch.numbers ≡ self.old.batch.numbers }
+        ensures layout { KeepsLayout self.old self.new }
     {
         self.batch.end();
     }
 
     /// Returns the part: what was built and not taken.
-    pub fn part(&self) -> &[u8]
-        ensures { result.now ≡ self.now.rows.sink.part.items }
+    pub fn part(&self) -> &Vec<u8>
+        ensures { result.now ≡ self.now.rows.sink.part }
     {
         self.rows.sink.part()
     }
 
     /// Takes the part: the next one begins.
     #[tactic(auto, using(crate::proofs::MergedTextLemmas::take_put))]
-    pub fn take(&mut self)
+    pub fn clear_part(&mut self)
         ensures taken { TakesPart self.old self.new }
         ensures numbers { self.new.batch.numbers ≡ self.old.batch.numbers }
+        ensures layout { KeepsLayout self.old self.new }
     {
-        self.rows.sink.take();
+        self.rows.sink.clear_part();
     }
 
     // Puts a row, if it is shown.
@@ -321,9 +324,10 @@ impl<'e> MergedText<'e> {
     /// Same as [`Merger::next_row`]; `Stop::Memory` if an allocation fails. Then the merge is of no use.
     pub fn next(&mut self) -> Result<Wants, Stop>
         // A text wants bytes, or a part is built; or the parts that were taken are the text of the merge, which is what is written of the tokens that
-        // all texts count, wherever these were cut (`IsWritten`, as for a bag).
+        // all texts count, however their counts are divided among these (`IsWritten` of specs/Shown).
         ensures next { IfOk result (λ wants. WantsNext self.old wants self.new) }
         ensures numbers { OnOk result (self.new.batch.numbers ≡ self.old.batch.numbers) }
+        ensures layout { OnOk result (KeepsLayout self.old self.new) }
     {
         if self.is_over {
             return Ok(self.after_end());

@@ -1,17 +1,24 @@
 //! Texts that have numbers, and their merge as it is written.
 //!
-//! What has the texts is a [`NumberedTexts`]. In the clauses `bytes_read` has what was read of the text of each number so far, and `taken` is what was
+//! They are in any [`NumberedTexts`]. In the clauses `bytes_read` has what was read of the text of each number so far, and `taken` is what was
 //! written of the merge.
 ghost use Rattle.std.specs.Prelude.{◌≡◌, ◌≢◌, ◌⊎◌, ◌≤◌, ℕ, List, length, take, IfOk, OnOk};
+ghost use Rattle.std.specs.Io.KnownBytes.{Appends};
+ghost use Rattle.hashbag_words_lib.specs.MergedTexts.{KeepsLayout};
 ghost use Rattle.hashbag_words_lib.specs.Numbered.{GivesRead, ReadsOn, ReadsText, Wanted, WritesMerge};
 
+use crate::lines::LinesRead;
 use crate::merged_text::{MergedText, Wants};
 use crate::sorted_merge::Stop;
+use crate::tape::Tape;
 use hashbag_shell::trouble::Trouble;
 use std::io::Write;
 
 /// Texts that have numbers: files of counts, and runs.
 pub trait NumberedTexts<'a> {
+    /// The file of a run.
+    type File: Write + Drop;
+
     /// The bytes that were read of the text of each number so far.
     ghost bytes_read: { Self → ℕ → List ℕ };
 
@@ -33,6 +40,31 @@ pub trait NumberedTexts<'a> {
 
     /// Returns why the text of a merge wasn't written.
     fn unwritten(&self, error: std::io::Error) -> Trouble<'a>;
+
+    /// Reports how the lines of the text of that number were read.
+    fn report(&self, number: usize, reading: &LinesRead);
+
+    /// Creates the file of a run, which is empty.
+    ///
+    /// # Errors
+    ///
+    /// Why it isn't created.
+    fn create(&self) -> Result<Self::File, Trouble<'a>>;
+
+    /// Goes to the beginning of a file.
+    ///
+    /// # Errors
+    ///
+    /// Why that fails.
+    fn rewind(&self, file: &mut Self::File) -> Result<(), Trouble<'a>>;
+
+    /// Keeps a file as the text of that number. It will be read from its beginning.
+    ///
+    /// # Errors
+    ///
+    /// An allocation fails.
+    fn keep(&mut self, number: usize, file: Self::File) -> Result<(), Trouble<'a>>
+        ensures { OnOk result (bytes_read self.new ≡ bytes_read self.old) };
 }
 
 // Reads the next block of the text of that number, which a merge wants, and gives it to the merge; at its end the text is ended. Returns how many
@@ -46,6 +78,8 @@ fn give_block<'a, T: NumberedTexts<'a>>(
     // What is read is given, all of it and once.
     ensures given { OnOk result (GivesRead number (T.bytes_read texts.old) text.old (T.bytes_read texts.new) text.new) }
     ensures numbers { OnOk result (text.new.batch.numbers ≡ text.old.batch.numbers) }
+    ensures layout { OnOk result (KeepsLayout text.old text.new) }
+    ensures others { OnOk result ((k : ℕ) → k ≢ number → T.bytes_read texts.new k ≡ T.bytes_read texts.old k) }
 
     // The text is still wanted, unless its end was read.
     ensures more { IfOk result (λ n. n ≢ 0 → Wanted number text.old → Wanted number text.new) }
@@ -60,8 +94,8 @@ fn give_block<'a, T: NumberedTexts<'a>>(
     Ok(n)
 }
 
-// Gives a merge the next bytes of the text that it wants: at least as many as it keeps of a line. So the line is searched for its end few times,
-// however long it is.
+// Gives a merge the next bytes of the text that it wants: at least as many as are kept of a line that hasn't ended. So what is
+// kept doubles each time, and a long line is searched few times.
 fn give<'a, T: NumberedTexts<'a>>(
     texts: &mut T,
     block: &mut Vec<u8>,
@@ -71,6 +105,8 @@ fn give<'a, T: NumberedTexts<'a>>(
     // What is read is given, all of it and once.
     ensures given { OnOk result (GivesRead number (T.bytes_read texts.old) text.old (T.bytes_read texts.new) text.new) }
     ensures numbers { OnOk result (text.new.batch.numbers ≡ text.old.batch.numbers) }
+    ensures layout { OnOk result (KeepsLayout text.old text.new) }
+    ensures others { OnOk result ((k : ℕ) → k ≢ number → T.bytes_read texts.new k ≡ T.bytes_read texts.old k) }
 
     // The text is still wanted, or its end was read.
     ensures more { OnOk result (Wanted number text.old → T.is_read texts.new number ⊎ Wanted number text.new) }
@@ -100,7 +136,9 @@ pub fn read_on<'a, T: NumberedTexts<'a>>(
     block: &mut Vec<u8>,
     text: &mut MergedText<'_>,
 ) -> Result<Wants, Trouble<'a>>
-    ensures { IfOk result (λ wants. ReadsOn (T.bytes_read texts.old) text.old wants (T.bytes_read texts.new) text.new) }
+    // Only its own texts are read.
+    ensures reads { IfOk result (λ wants. ReadsOn (T.bytes_read texts.old) text.old wants (T.bytes_read texts.new) text.new) }
+    ensures layout { OnOk result (KeepsLayout text.old text.new) }
 {
     'texts: for _ in 0..u64::MAX {
         match text.next() {
@@ -114,7 +152,7 @@ pub fn read_on<'a, T: NumberedTexts<'a>>(
     Err(Trouble::Memory)
 }
 
-/// Writes the text of a merge, of which `first` is wanted now, as [`read_on`] returned it.
+/// Writes the text of a merge. `first` is what the merge wants now: what [`read_on`] returned. Returns what was written.
 ///
 /// # Errors
 ///
@@ -125,19 +163,25 @@ pub fn write_merged<'a, T: NumberedTexts<'a>, W: Write>(
     text: &mut MergedText<'_>,
     first: Wants,
     to: &mut W,
-) -> Result<(), Trouble<'a>>
-    // All is written behind what was taken before: the merge of the texts as they were read.
-    ensures { OnOk result (WritesMerge T.bytes_read W.contents first texts.old text.old to.old texts.new text.new to.new) }
+) -> Result<Tape, Trouble<'a>>
+    // The tape is the rest of the merge's text, behind the parts that were taken before. The merge is that of the texts as they were read, and
+    // no other text is read.
+    ensures merges { IfOk result (λ tape. WritesMerge T.bytes_read first texts.old text.old texts.new text.new tape) }
+    ensures written { IfOk result (λ tape. Appends (W.contents to.old) (W.contents to.new) tape) }
+    ensures layout { OnOk result (KeepsLayout text.old text.new) }
 {
     let mut wants = first;
+    let mut tape = Tape::empty();
     'parts: for _ in 0..u64::MAX {
         if let Wants::End = wants {
-            return Ok(());
+            return Ok(tape);
         }
-        match to.write_all(text.part()) {
-            Ok(()) => text.take(),
+        let part = text.part();
+        match to.write_all(part) {
+            Ok(()) => tape.push(part, part.len()),
             Err(error) => return Err(texts.unwritten(error)),
         }
+        text.clear_part();
         wants = read_on(texts, block, text)?;
     }
     // Never: there aren't as many parts.

@@ -7,7 +7,7 @@ use std::marker::Model;
 use std::mem;
 use std::snapshot::Snapshot;
 
-// The reads before, and one behind them, if there is one: of the text of that number, which gave the first `n` bytes of the block.
+// A read of the text `number`, which gave the first `n` bytes of `block`, and the reads before it. Without a block it is no read.
 #[derive(Drop)]
 struct OneRead {
     before: Option<Snapshot<OneRead>>,

@@ -58,7 +58,7 @@ fn add_line<S: BuildHasher + Drop>(
     reading: &mut LinesRead,
 ) -> Result<(), InputFault>
     ensures rows { OnOk result (AddsRowsOfLine bag.old bag.new form reading.old line.now) }
-    ensures bad { OnBadLine result ((reading.old.bad_lines ≡ BadLines.Refused) × IsNoRow form (line_at reading.old.line line.now)) }
+    ensures bad { OnBadLine result ((reading.old.bad_lines ≡ BadLines.Rejected) × IsNoRow form (line_at reading.old.line line.now)) }
     ensures bad_lines { reading.new.bad_lines ≡ reading.old.bad_lines }
     ensures line { reading.new.line ≡ min (reading.old.line + 1) (2 ^ 64 - 1) }
 {
@@ -144,8 +144,8 @@ impl<S: BuildHasher + Drop> RowCounter<S> {
 
     /// Adds the rows of the lines that end in these bytes. The bytes after the last line feed are kept.
     ///
-    /// Returns `Fed::Whole`, or `Fed::Full(n)` if the bag was full when it was measured. Then only the first `n` bytes were fed, to the end
-    /// of the line after which the bag was measured. With a gauge the bag is measured after every 16 lines.
+    /// Returns `Fed::Whole`, or `Fed::Full(n)` if the bag was full when that was asked. Then only the first `n` bytes were fed, to the end of the
+    /// line after which it was asked. With a gauge it is asked after every 16 lines.
     ///
     /// # Errors
     ///

@@ -65,21 +65,21 @@ impl RowParts {
     }
 
     /// Returns whether no row was appended, and no text by `push_text`.
-    pub fn is_empty(&self) -> bool
+    pub fn has_no_text(&self) -> bool
         ensures { result ≡ self.now.is_empty }
     {
         self.is_empty
     }
 
     /// Returns the part: the text that was built and not yet taken.
-    pub fn part(&self) -> &[u8]
-        ensures { result.now ≡ self.now.part.items }
+    pub fn part(&self) -> &Vec<u8>
+        ensures { result.now ≡ self.now.part }
     {
-        self.part.as_slice()
+        &self.part
     }
 
     /// Takes the part: empties it. The caller has read it by [`RowParts::part`], and the next part begins.
-    pub fn take(&mut self)
+    pub fn clear_part(&mut self)
         // The rows so far are unchanged. What was taken of their text now also has this part.
         ensures built { TakesPart self.old self.new }
         ensures emptied { self.new.part.items ≡ [] }

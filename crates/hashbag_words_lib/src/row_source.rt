@@ -71,7 +71,7 @@ fn read_line(
     line: &[u8],
     reading: &mut LinesRead,
 ) -> Result<Option<(String, usize)>, InputFault>
-    ensures row { form ≡ RowForm.Tsv → reading.old.bad_lines ≡ BadLines.Refused → IfOk result (λ row. IsRowReadFrom line.now row) }
+    ensures row { form ≡ RowForm.Tsv → reading.old.bad_lines ≡ BadLines.Rejected → IfOk result (λ row. IsRowReadFrom line.now row) }
     ensures bad_lines { reading.new.bad_lines ≡ reading.old.bad_lines }
 {
     let Ok(text) = str::from_utf8(line) else {
@@ -110,7 +110,7 @@ impl RowSource {
         ensures not_ended { result.is_ended ≡ false }
     {
         match kind {
-            SourceKind::Run => RowSource::of_lines(alloc, RowForm::Tsv, BadLines::Refused, false),
+            SourceKind::Run => RowSource::of_lines(alloc, RowForm::Tsv, BadLines::Rejected, false),
             SourceKind::File(form, bad_lines) => RowSource::of_lines(alloc, form, bad_lines, true),
         }
     }

@@ -27,7 +27,7 @@ pub fn run_of<'b, S: BuildHasher + Drop>(
     // `rows` are the bag's texts with their counts, in ascending order of tokens. They are read again as they were written.
     ensures { IfOk result (λ text. (rows : List (List ℕ × ℕ)) × IsRunOf bag.now rows × (bytes_left text ≡ run_text rows)) }
 {
-    let rows = chosen(alloc, bag, Order::Rising)?;
+    let rows = chosen(alloc, bag, Order::Ascending)?;
     let text = RowText::new(alloc, Format::Tsv, rows)?;
     Ok(text)
 }

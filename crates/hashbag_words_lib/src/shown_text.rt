@@ -38,7 +38,7 @@ fn shown_text<'b, S: BuildHasher + Drop>(
     choice: Choice<'_>,
     format: Format,
 ) -> Result<RowText<'b>, BagError>
-    // Whatever texts the bag was made of: if it has what is shown of them, this is what is written of them.
+    // For any list of tokens of which the bag has exactly those that are shown: the text is what is written of the list.
     ensures { IfOk result (λ text. IsTextOfKept choice.entry format bag.now (bytes_left text)) }
 {
     let rows = chosen(alloc, bag, choice.order)?;
@@ -53,7 +53,7 @@ fn shown_bars<S: BuildHasher + Drop>(
     choice: Choice<'_>,
     width: usize,
 ) -> Result<Vec<u8>, BagError>
-    // Whatever texts the bag was made of: if it has what is shown of them, this is what is written of them.
+    // For any list of tokens of which the bag has exactly those that are shown: the text is what is written of the list.
     ensures { IfOk result (λ text. AreBarsOfKept choice.entry width bag.now text.items) }
 {
     let order = choice.order;
@@ -77,7 +77,7 @@ pub fn shown_of<'b, S: BuildHasher + Drop>(
     choice: Choice<'_>,
     look: Look,
 ) -> Result<Shown<'b>, BagError>
-    // Whatever the bag was made of, the text is what is written of that: what isn't shown is left out, and a share is of all of it.
+    // The text is what is written of any list of the tokens that the bag counts: what isn't shown is left out, and a share is of all of it.
     ensures { IfOk result (λ shown. ShowsCounted choice.entry look bag.old (bytes_of shown)) }
 {
     let total = keep_shown(bag, choice);

@@ -29,7 +29,8 @@ pub trait Sink {
 pub enum Merged {
     /// A row: its token and its count.
     Row((String, usize)),
-    /// No row yet: the source with this index has to be given more bytes, or ended, first.
+    /// No row yet: a source has to be given more bytes, or ended, first. From a [`Merger`] this is its index, from a `Batch` the number of
+    /// its text.
     Wants(usize),
     /// No row: all rows are merged.
     End,
@@ -254,8 +255,8 @@ impl Merger {
 
         // At the end, if the sources are runs that are read again as they were written, `out` is their merge.
         ensures runs { IfOk result (λ next. next ≡ Merged.End → HasMergedItsRuns self.old) }
-    // A bound that shows that the loop ends: there are never 2^64 rows.
     {
+        // A bound that shows that the loop ends: there are never 2^64 rows.
         'rows: for _row in 0..u64::MAX {
             match take_least(&mut self.sources, &mut self.total)? {
                 Merged::Row(row) => {

@@ -5,7 +5,7 @@
 //! each token of a block once, however many rows the block has.
 ghost use Rattle.std.specs.Prelude.{◌≡◌, ℕ, ◌+◌, ◌*◌, ◌<◌, ◌≤◌, ◌^◌, length, take, drop, map, slice_index, All, IfOk};
 ghost use Rattle.std.specs.List.Sorted.{IsNonDecreasingBy, IsPermutation, IsSorted};
-ghost use Rattle.hashbag_words_lib.specs.Prefix.{lead, row_cmp, bare_row, number_of, HasWord, IsPrefixOf, IsWordAt, SortsFrom, SortsRuns};
+ghost use Rattle.hashbag_words_lib.specs.Prefix.{lead, row_cmp, bare_row, number_of, HasWord, IsPrefixOf, IsWordAt, SortsFrom, SortsBlocks};
 
 use std::alloc::{AllocError, Global};
 
@@ -93,14 +93,14 @@ fn sort_from(rows: &mut [(u64, (&String, usize))], from: usize, steps: usize)
     ensures { SortsFrom from rows.old rows.new }
 {
     sort_by_words(rows, from);
-    sort_runs(rows, from, steps);
+    sort_blocks(rows, from, steps);
 }
 
 // Sorts rows whose tokens agree before place `from`, and whose numbers are the eight bytes from `from` on, in ascending order.
 #[cycle(sorts)]
-fn sort_runs(rows: &mut [(u64, (&String, usize))], from: usize, steps: usize)
+fn sort_blocks(rows: &mut [(u64, (&String, usize))], from: usize, steps: usize)
     requires { from + 8 * steps < 2 ^ 63 }
-    ensures { SortsRuns from rows.old rows.new }
+    ensures { SortsBlocks from rows.old rows.new }
 {
     let n = rows.len();
     if n < 2 {
@@ -125,37 +125,37 @@ fn sort_runs(rows: &mut [(u64, (&String, usize))], from: usize, steps: usize)
     sort_cut(rows, least, from, steps - 1);
 }
 
-// Splits the rows into those whose number is below `least` and the others, and sorts each part as `sort_runs` does.
+// Splits the rows into those whose number is below `least` and the others, and sorts each part as `sort_blocks` does.
 #[cycle(sorts)]
 fn sort_cut(rows: &mut [(u64, (&String, usize))], least: u64, from: usize, steps: usize)
     requires { from + 8 * steps < 2 ^ 63 }
-    ensures { SortsRuns from rows.old rows.new }
+    ensures { SortsBlocks from rows.old rows.new }
 {
     let cut = rows.partition_point(|row| row.0 < least);
     sort_first(rows, cut, from, steps);
     sort_rest(rows, cut, from, steps);
 }
 
-// Sorts the first `cut` rows as `sort_runs` does.
+// Sorts the first `cut` rows as `sort_blocks` does.
 #[cycle(sorts)]
 fn sort_first(rows: &mut [(u64, (&String, usize))], cut: usize, from: usize, steps: usize)
     requires cut { cut ≤ length rows.old }
     requires steps { from + 8 * steps < 2 ^ 63 }
     ensures same { drop cut rows.new ≡ drop cut rows.old }
-    ensures sorts { SortsRuns from (take cut rows.old) (take cut rows.new) }
+    ensures sorts { SortsBlocks from (take cut rows.old) (take cut rows.new) }
 {
-    sort_runs(&mut rows[..cut], from, steps);
+    sort_blocks(&mut rows[..cut], from, steps);
 }
 
-// Sorts the rows after the first `cut` as `sort_runs` does.
+// Sorts the rows after the first `cut` as `sort_blocks` does.
 #[cycle(sorts)]
 fn sort_rest(rows: &mut [(u64, (&String, usize))], cut: usize, from: usize, steps: usize)
     requires cut { cut ≤ length rows.old }
     requires steps { from + 8 * steps < 2 ^ 63 }
     ensures same { take cut rows.new ≡ take cut rows.old }
-    ensures sorts { SortsRuns from (drop cut rows.old) (drop cut rows.new) }
+    ensures sorts { SortsBlocks from (drop cut rows.old) (drop cut rows.new) }
 {
-    sort_runs(&mut rows[cut..], from, steps);
+    sort_blocks(&mut rows[cut..], from, steps);
 }
 
 // Returns the rows, each with a number before it.

@@ -32,6 +32,7 @@ pub fn of_input<'a>(alloc: Global, file: &'a str, lines: u64, fault: InputFault)
             let what = format!(in alloc; "{file}: total past its limit, {limit}");
             Trouble::with_status(what, TOTAL_TOO_LARGE)
         }
+        // `lines` includes the line that failed.
         InputFault::Bag(BagError::Memory) => Trouble::MemoryIn {
             file,
             lines: lines.saturating_sub(1),

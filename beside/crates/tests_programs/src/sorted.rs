@@ -76,7 +76,7 @@ fn file_of(form: RowForm, skips: bool) -> SourceKind {
     let bad_lines = if skips {
         BadLines::Skipped
     } else {
-        BadLines::Refused
+        BadLines::Rejected
     };
     SourceKind::File(form, bad_lines)
 }
@@ -316,7 +316,7 @@ const TOPS: [(usize, usize, &str); 4] = [
 // The choice of rows that count `least` or more, except those of a bag.
 fn choice_of<'e>(least: usize, except: Option<&'e HashBag<String, RandomState>>) -> Choice<'e> {
     Choice {
-        order: Order::Rising,
+        order: Order::Ascending,
         least,
         shortest: 0,
         shard: None,
@@ -387,8 +387,8 @@ fn written(alloc: Global, format: Format, rows: &[(&str, usize)]) -> Result<Stri
     for (token, count) in rows {
         parts.push(*token, *count)?;
     }
-    if parts.is_empty() != rows.is_empty() {
-        return Err(Fail::new("is_empty is wrong"));
+    if parts.has_no_text() != rows.is_empty() {
+        return Err(Fail::new("has_no_text is wrong"));
     }
     ended(alloc, &mut parts)
 }
@@ -469,7 +469,7 @@ fn is_spilled(
 #[test]
 fn a_bag_is_spilled(rt: HostRuntime) -> Result<(), Fail> {
     let bag = HashBag::with_limit(rt.alloc(), RandomState::new(&rt)?, 9);
-    let mut counter = TextCounter::new(rt.alloc(), bag, by_words(), BadLines::Refused, None);
+    let mut counter = TextCounter::new(rt.alloc(), bag, by_words(), BadLines::Rejected, None);
     for (part, run, limit) in &PARTS {
         is_spilled(rt.alloc(), &mut counter, part, run, *limit)?;
     }
@@ -486,7 +486,7 @@ fn a_bag_is_full(rt: HostRuntime) -> Result<(), Fail> {
     for (most, wanted) in [(1, Fed::Full(WIDE.len() - 1)), (1 << 20, Fed::Whole)] {
         let bag = HashBag::with_hasher(rt.alloc(), RandomState::new(&rt)?);
         let gauge = Some(Gauge::new(most));
-        let mut counter = TextCounter::new(rt.alloc(), bag, by_words(), BadLines::Refused, gauge);
+        let mut counter = TextCounter::new(rt.alloc(), bag, by_words(), BadLines::Rejected, gauge);
         assert_eq!(rt; counter.feed(b"a")?, Fed::Whole);
         let mut rest = String::from_str(rt.alloc(), &WIDE[1..])?;
         rest.push_str("7 8\n")?;

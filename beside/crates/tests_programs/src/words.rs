@@ -136,7 +136,7 @@ fn written<S: BuildHasher + Drop>(
     bag: &HashBag<String, S>,
     format: Format,
 ) -> Result<String, Fail> {
-    let rows = chosen(alloc, bag, Order::Rising)?;
+    let rows = chosen(alloc, bag, Order::Ascending)?;
     let mut out = Vec::new(alloc);
     let _bytes = io::copy(&mut RowText::new(alloc, format, rows)?, &mut out)?;
     Ok(String::from_utf8(out)?)
@@ -173,7 +173,7 @@ fn counted_by<S: BuildHasher + Drop>(
         lossy,
     };
     let bag = HashBag::with_hasher(alloc, state);
-    let mut counter = TextCounter::new(alloc, bag, rule, BadLines::Refused, None);
+    let mut counter = TextCounter::new(alloc, bag, rule, BadLines::Rejected, None);
     counter.feed(input.as_bytes())?;
     counter.end_text()?;
     written(alloc, counter.bag(), Format::Tsv)
@@ -237,7 +237,7 @@ fn merged<S: BuildHasher + Drop>(
     let bad_lines = if is_skipped {
         BadLines::Skipped
     } else {
-        BadLines::Refused
+        BadLines::Rejected
     };
     let mut counter = RowCounter::new(alloc, bag, form, bad_lines, None);
     match add_file(&mut counter, file) {
@@ -335,7 +335,7 @@ fn counter_of(alloc: Global, how: &str) -> TextCounter<'static, FixedState> {
     };
     let bad_lines = match how {
         "skipped" => BadLines::Skipped,
-        _ => BadLines::Refused,
+        _ => BadLines::Rejected,
     };
     let bag = HashBag::with_hasher(alloc, FixedState::new());
     TextCounter::new(alloc, bag, rule, bad_lines, None)

@@ -13,5 +13,5 @@ returns g c =
       | then-has_nul w ↦ ap ended w.inputs-is ∙ w.report_nul.ensures
       | else-has_nul w ↦ ap ended w.inputs-is
     ] in
-    input_counted g.C.Counter.has c.args.encoding c.args.name.now (ended c.args.inputs.now) (ended c.read_input.new.inputs) (ended c.report.new.self) c.args.tally.now c.read_input.new.tally c.end.new.counter
+    input_counted g.C.Counter.has c.args.encoding c.args.name.now (ended c.args.inputs.now) (ended c.read_input.new.inputs) (ended c.report.new.self) c.args.counter.now c.read_input.new.counter c.end.new.counter
     (kept c.args.runs.now) (kept c.read_input.new.runs) (kept c.end.new.runs) c.in_ok-has_nul.ensures c.in_ok-reading.ensures (c.report.ensures ∙ same)

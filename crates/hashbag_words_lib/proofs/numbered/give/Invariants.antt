@@ -1,4 +1,5 @@
-use Rattle.std.proofs.Common.{◌≡◌}
+use Rattle.std.proofs.Common.{◌≡◌, ◌≢◌, ℕ}
+use Rattle.hashbag_words_lib.specs.MergedTexts.{KeepsLayout}
 use Rattle.hashbag_words_lib.specs.Numbered.{GivesRead, Wanted}
 use Rattle.hashbag_words_lib.proofs.numbered.give.Given as goal
 
@@ -8,4 +9,6 @@ invariant-reads g l = record {
   given : GivesRead l.number (g.T.NumberedTexts.bytes_read l.fn.texts) l.fn.text (g.T.NumberedTexts.bytes_read l.texts) l.text;
   wanted : Wanted l.number l.fn.text → Wanted l.number l.text;
   numbers : l.text.batch.numbers ≡ l.fn.text.batch.numbers;
+  layout : KeepsLayout l.fn.text l.text;
+  others : (k : ℕ) → k ≢ l.number → g.T.NumberedTexts.bytes_read l.texts k ≡ g.T.NumberedTexts.bytes_read l.fn.texts k;
 }

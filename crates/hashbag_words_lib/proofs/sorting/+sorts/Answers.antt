@@ -9,19 +9,19 @@ use Rattle.hashbag_words_lib.proofs.sorting.+sorts.Goals as goal
 pub sort_from-returns : goal.sort_from-returns
 sort_from-returns t c =
     let words = c.sort_by_words.ensures in
-    let runs = c.sort_runs.ensures in record {
+    let runs = c.sort_blocks.ensures in record {
       permutation = IsPermutation-trans _ _ _ words.permutation runs.permutation;
       sorted = λ number starts. runs.sorted number (words.words, words.rising) (moved_starts c.args.from number _ _ words.permutation starts);
     }
 
-pub sort_runs-returns-then-n-lt2 : goal.sort_runs-returns-then-n-lt2
-sort_runs-returns-then-n-lt2 t c = record {
+pub sort_blocks-returns-then-n-lt2 : goal.sort_blocks-returns-then-n-lt2
+sort_blocks-returns-then-n-lt2 t c = record {
   permutation = IsPermutation-refl _;
   sorted = λ number rising starts. short_sorted c.args.rows.now (omega arith);
 }
 
-pub sort_runs-returns-then-steps-eq0 : goal.sort_runs-returns-then-steps-eq0
-sort_runs-returns-then-steps-eq0 t c =
+pub sort_blocks-returns-then-steps-eq0 : goal.sort_blocks-returns-then-steps-eq0
+sort_blocks-returns-then-steps-eq0 t c =
     let moved = c.sort_unstable.ensures.permutation in record {
       permutation = IsPermutation-map bare_row _ _ moved;
       sorted = λ number rising starts.
@@ -29,8 +29,8 @@ sort_runs-returns-then-steps-eq0 t c =
     }
 
 -- rows of one number agree in eight more bytes
-pub sort_runs-returns-then-first-rows : goal.sort_runs-returns-then-first-rows
-sort_runs-returns-then-first-rows t c =
+pub sort_blocks-returns-then-first-rows : goal.sort_blocks-returns-then-first-rows
+sort_blocks-returns-then-first-rows t c =
     let rows = c.args.rows.now in
     let d0 = c.index-rows-0.result in
     let d1 = c.index-rows-n.result in

@@ -4,8 +4,8 @@ use Rattle.hashbag_words_lib.proofs.sorting.+sorts.Given as goal
 abbrev pub decreases-sort_from : goal.decreases-sort_from
 decreases-sort_from l = 4 * l.steps + 1
 
-abbrev pub decreases-sort_runs : goal.decreases-sort_runs
-decreases-sort_runs l = 4 * l.steps
+abbrev pub decreases-sort_blocks : goal.decreases-sort_blocks
+decreases-sort_blocks l = 4 * l.steps
 
 abbrev pub decreases-sort_cut : goal.decreases-sort_cut
 decreases-sort_cut l = 4 * l.steps + 2

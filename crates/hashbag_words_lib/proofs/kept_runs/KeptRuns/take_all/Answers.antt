@@ -1,9 +1,10 @@
-use Rattle.std.proofs.Common.{◌≡◌, ℕ, List, [], ◌++◌, sym, ◌∙◌, ap}
+use Rattle.std.proofs.Common.{◌≡◌, ℕ, List, [], ◌++◌, inl, inr, refl, sym, ◌∙◌, ap}
 use Rattle.std.proofs.lemmas.Bool.{false≢true}
 use Rattle.std.proofs.lemmas.List.{append-nil}
 use Rattle.std.proofs.lemmas.Result.{IfOk-weaker}
 use Rattle.hashbag_words_lib.specs.Levels.{runs_in}
-use Rattle.hashbag_words_lib.proofs.KeptRunsLemmas.{all_of, only_runs}
+use Rattle.hashbag_words_lib.specs.declared.row_source.SourceKind.TheVariants.{Run}
+use Rattle.hashbag_words_lib.proofs.KeptRunsLemmas.{all_of, both_ok, merge_of, only_runs}
 use Rattle.hashbag_words_lib.proofs.kept_runs.KeptRuns.take_all.Goals as goal
 
 -- all are files
@@ -30,3 +31,32 @@ returns-clause-all c =
     ap (λ (l : List ℕ). l ++ runs_in self.kept) none ∙ ap (λ k. runs_in k) (sym c.replace.ensures.value) ∙ sym c.into_runs-runs.ensures ∙ ap (λ v. v.items) (sym is) in
     all_of self.next_number rows fed text.batch.numbers.items (files ++ runs_in self.kept) tokens all kept counted v)
     c.new-2.ensures.numbers
+
+-- nothing but these was taken
+pub returns-then-is_empty-clause-numbers : goal.returns-then-is_empty-clause-numbers
+returns-then-is_empty-clause-numbers c =
+    let self = c.args.self.now in
+    let none : c.replace-files.new.dest.items ≡ [] = ap (λ v. v.items) c.replace-files.ensures.after ∙ c.new-none.ensures.items in
+    both_ok c.new.result _ _ _ (merge_of c.replace-files.result self.kind self _ (inl (
+      refl,
+      record {
+        files = ap (λ v. v.items) (sym c.replace-files.ensures.value) ∙ sym (append-nil c.replace-files.result.items) ∙ ap (λ (l : List ℕ). c.replace-files.result.items ++ l) (sym none);
+        runs = refl;
+        next = refl;
+        kinds = (refl, refl);
+      },
+    ))) c.new.ensures.numbers c.new.ensures.begins
+
+pub returns-clause-numbers : goal.returns-clause-numbers
+returns-clause-numbers c =
+    let self = c.args.self.now in
+    let none : runs_in c.replace.new.dest ≡ [] = ap (λ k. runs_in k) c.replace.ensures.after ∙ c.new-none-2.ensures in
+    both_ok c.new-2.result _ _ _ (merge_of c.into_runs-runs.result Run self _ (inr (
+      refl,
+      record {
+        files = refl;
+        runs = ap (λ k. runs_in k) (sym c.replace.ensures.value) ∙ sym c.into_runs-runs.ensures ∙ ap (λ (l : List ℕ). l ++ c.into_runs-runs.result.items) (sym none);
+        next = refl;
+        kinds = (refl, refl);
+      },
+    ))) c.new-2.ensures.numbers c.new-2.ensures.begins

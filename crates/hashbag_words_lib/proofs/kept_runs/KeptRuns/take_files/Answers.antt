@@ -1,9 +1,9 @@
-use Rattle.std.proofs.Common.{◌≡◌, ℕ, List, [], ◌++◌, take, drop, sym, ◌∙◌, ap, subst, append_assoc}
+use Rattle.std.proofs.Common.{◌≡◌, ℕ, List, [], ◌++◌, take, drop, inl, refl, sym, ◌∙◌, ap, subst, append_assoc}
 use Rattle.std.proofs.lemmas.List.{take-append-drop}
 use Rattle.std.proofs.lemmas.Result.{IfOk-weaker}
 use Rattle.hashbag_words_lib.specs.KeptRuns.{AreKept}
 use Rattle.hashbag_words_lib.specs.Levels.{runs_in}
-use Rattle.hashbag_words_lib.proofs.KeptRunsLemmas.{kept_first, taken_numbers}
+use Rattle.hashbag_words_lib.proofs.KeptRunsLemmas.{both_ok, kept_first, one_merge, taken_numbers}
 use Rattle.hashbag_words_lib.proofs.kept_runs.KeptRuns.take_files.Goals as goal
 
 -- the first ones are taken
@@ -24,3 +24,15 @@ returns-clause-taken c =
     taken_numbers self.next_number rows fed numbers (later ++ runs) full is
     (kept_first self.next_number rows fed numbers.items (later ++ runs) (subst (λ (l : List ℕ). AreKept [] l self.next_number rows fed) all kept)))
     c.run_of.ensures.numbers
+
+pub returns-clause-numbers : goal.returns-clause-numbers
+returns-clause-numbers c =
+    let self = c.args.self.now in
+    let numbers = c.replace-numbers.result in
+    let later = c.replace-numbers.new.dest.items in
+    let first : numbers.items ≡ take c.min.result self.files.items = ap (λ v. v.items) c.replace-numbers.ensures.value ∙ c.in_ok-later.ensures.items in
+    let files : self.files.items ≡ numbers.items ++ later =
+    sym (take-append-drop c.min.result self.files.items)
+    ∙ ap (λ (l : List ℕ). l ++ drop c.min.result self.files.items) (sym first)
+    ∙ ap (λ (l : List ℕ). numbers.items ++ l) (sym (ap (λ v. v.items) c.replace-numbers.ensures.after ∙ c.in_ok-later.ensures.tail)) in
+    both_ok c.run_of.result _ _ _ (one_merge numbers self.kind self _ (inl (refl, record { files = files; runs = refl; next = refl; kinds = (refl, refl) }))) c.run_of.ensures.numbers c.run_of.ensures.begins

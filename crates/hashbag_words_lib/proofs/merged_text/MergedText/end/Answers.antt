@@ -1,3 +1,4 @@
+use Rattle.std.proofs.Common.{refl}
 use Rattle.hashbag_words_lib.proofs.MergedTextLemmas.{put_as}
 use Rattle.hashbag_words_lib.proofs.merged_text.MergedText.end.Goals as goal
 
@@ -9,4 +10,5 @@ returns c = record {
   merged = c.end.ensures.merged;
   opening = c.end.ensures.opening;
   numbers = c.end.ensures.same;
+  layout = (refl, refl, refl);
 }

@@ -5,7 +5,7 @@ use Rattle.hashbag_words_lib.specs.Sorted.{row_of}
 use Rattle.hashbag_words_lib.specs.Sources.{Gives}
 use Rattle.hashbag_words_lib.specs.Tokens.{without_mark}
 use Rattle.hashbag_words_lib.specs.declared.lines.BadLines.{BadLines}
-use Rattle.hashbag_words_lib.specs.declared.lines.BadLines.TheVariants.{Refused}
+use Rattle.hashbag_words_lib.specs.declared.lines.BadLines.TheVariants.{Rejected}
 use Rattle.hashbag_words_lib.specs.declared.row_source.Next.TheVariants.{Row}
 use Rattle.hashbag_words_lib.specs.declared.rows.RowForm.TheVariants.{Tsv}
 use Rattle.hashbag_words_lib.proofs.CountedLemmas.{one_found}
@@ -32,7 +32,7 @@ returns-in-Some-read-clause-meets c = λ more may.
     let whole : self.unread ++ more ≡ front ++ 10 ∷ rest = ap (λ (l : List ℕ). l ++ more) (sym c.bytes-bytes.ensures ∙ found.1) ∙ append_assoc front (10 ∷ drop (at + 1) bytes) more in
     let left : c.skip.new.self ++ more ≡ rest = ap (λ (l : List ℕ). l ++ more) (c.skip.ensures ∙ ap (drop (at + 1)) (sym c.bytes-bytes.ensures)) in
     let same : c.read_line.new.reading.bad_lines ≡ bad = c.read_line.ensures.bad_lines ∙ c.count_line.ensures.bad_lines in
-    let is : form ≡ Tsv → bad ≡ Refused → read_as (marked_line marked (strip_carriage_return front)) ≡ Some (row_of row) = λ tsv refused.
+    let is : form ≡ Tsv → bad ≡ Rejected → read_as (marked_line marked (strip_carriage_return front)) ≡ Some (row_of row) = λ tsv refused.
     let read = subst (λ o. IsSomeAnd o (λ r. read_as c.unmarked-line.result.now ≡ Some (row_of r))) c.in-Some-read.is (c.in_ok-read.ensures.row tsv (c.count_line.ensures.bad_lines ∙ refused)) in
     let shown : marked_line marked (strip_carriage_return front) ≡ c.unmarked-line.result.now =
     by_mark marked (strip_carriage_return front) c.unmarked-line.result.now (λ no_mark. c.unmarked-line.ensures.plain no_mark ∙ c.without_return.ensures) (λ mark. c.unmarked-line.ensures.marked mark ∙ ap without_mark c.without_return.ensures) in

@@ -1,7 +1,7 @@
 use Rattle.std.proofs.Common.{◌≡◌, List, ℕ, [], ◌++◌, sym, ◌∙◌, ap, subst}
 use Rattle.hashbag_words_lib.specs.Runs.{rows_left}
 use Rattle.hashbag_words_lib.specs.Sources.{Gives}
-use Rattle.hashbag_words_lib.specs.declared.lines.BadLines.TheVariants.{Refused, Skipped}
+use Rattle.hashbag_words_lib.specs.declared.lines.BadLines.TheVariants.{Rejected, Skipped}
 use Rattle.hashbag_words_lib.specs.declared.row_source.Next.TheVariants.{End}
 use Rattle.hashbag_words_lib.proofs.CountedLemmas.{nil_of}
 use Rattle.hashbag_words_lib.proofs.RunLemmas.{gives_end, known_refused}
@@ -20,6 +20,6 @@ returns-then-n-eq0-clause-meets c = λ more may.
 pub returns-clause-meets : goal.returns-clause-meets
 returns-clause-meets c = λ more may known.
     let self = c.args.self.now in
-    let refused : self.reading.bad_lines ≡ Refused = known_refused self.form self.reading.bad_lines self.may_be_marked (self.unread ++ more) known in
+    let refused : self.reading.bad_lines ≡ Rejected = known_refused self.form self.reading.bad_lines self.may_be_marked (self.unread ++ more) known in
     let skipped : self.reading.bad_lines ≡ Skipped = sym c.count_line.ensures.bad_lines ∙ c.in_ok-pass_over.ensures.only_passed in
-    let both : Refused ≡ Skipped = sym refused ∙ skipped in absurd (cc)
+    let both : Rejected ≡ Skipped = sym refused ∙ skipped in absurd (cc)

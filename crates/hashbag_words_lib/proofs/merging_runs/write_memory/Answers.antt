@@ -1,0 +1,16 @@
+use Rattle.std.proofs.Common.{◌≡◌, ◌∙◌, ℕ, List, [], ◌++◌, sym, ap, subst, rules}
+use Rattle.hashbag_words_lib.specs.MergingRuns.{WritesText}
+use Rattle.hashbag_words_lib.proofs.MergingRunsLemmas.{text_written}
+use Rattle.hashbag_words_lib.proofs.NumberedLemmas.{layout_both}
+use Rattle.hashbag_words_lib.proofs.merging_runs.write_memory.Goals as goal
+
+-- what was read was merged and written
+pub returns-clause-writes : goal.returns-clause-writes
+returns-clause-writes g c =
+    let none : c.new-shown.result.items ≡ [] = search rules in
+    subst (λ (l : List ℕ). WritesText g.T.NumberedTexts.bytes_read l c.args.texts.now c.args.text.now c.write_merged.new.texts c.write_merged.new.text) (sym (c.in_ok-_written.ensures.written ∙ ap (λ (l : List ℕ). l ++ c.in_ok-_written._written) none))
+    (text_written g.T.NumberedTexts.bytes_read c.args.texts.now c.read_on.new.texts c.write_merged.new.texts c.args.text.now c.read_on.new.text c.write_merged.new.text c.in_ok-first.first c.in_ok-_written._written
+    c.in_ok-first.ensures.reads c.in_ok-_written.ensures.merges)
+
+pub returns-clause-layout : goal.returns-clause-layout
+returns-clause-layout g c = layout_both c.args.text.now c.read_on.new.text c.write_merged.new.text c.in_ok-first.ensures.layout c.in_ok-_written.ensures.layout
