@@ -431,7 +431,7 @@ on_a_stock() {
     refuse_kept 0 s.db undo --db s.db 2 && refuse_kept 0 new.db close --db s.db --into new.db &&
     fail_kept 1 s.db enter --db s.db tuesday.csv && fail_kept 1 new.db enter --db new.db monday.csv &&
     fail_kept 0 s.db undo --db s.db 2 && fail_kept 0 new.db close --db s.db --into new.db &&
-    refuse_kept 1 s.db take --db s.db nut 41 && refuse_kept 0 new.db put --db new.db nut 1 &&
+    refuse_kept 1 s.db take --db s.db nut 41 && refuse_kept 0 s.db put --db s.db nut 1 &&
     refuse_kept 1 s.db enter --db s.db --date day --note why dated.csv && shows 0 balance --db s.db --at 2026-01-02 &&
     refuse_kept 0 s.db count --db s.db --all counted.csv && fail_kept 0 s.db count --db s.db --all counted.csv &&
     shows 0 balance --db s.db nut && shows 0 history --db s.db bolt && shows 0 batches --db s.db && shows 0 verify --db s.db &&

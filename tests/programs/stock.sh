@@ -55,7 +55,7 @@ is s.db 'select batch, sum(change), count(*) from movement where movement not in
 printf 'article,change\nGröße,3\n' > moves.utf8 && printf 'article,number\nGröße,4\n' | iconv -f UTF-8 -t CP1252 > start.csv
 iconv -f UTF-8 -t UTF-16 moves.utf8 > wide.csv
 ends 0 '' enter --quiet --db e.db --from start.csv --start-encoding Windows-1252 --encoding UTF-16 wide.csv
-ends 6 "$p: wide.csv: entered before, as batch 2 (wide.csv)" enter --quiet --db e.db --encoding UTF-16 wide.csv
+ends 6 "$p: wide.csv: entered before, as batch 2 (wide.csv); \`enter --again\` enters it again" enter --quiet --db e.db --encoding UTF-16 wide.csv
 ends 0 '' enter --quiet --db e.db moves.utf8
 ends 2 "$p: moves.utf8:1: not UTF-16: no byte order mark; UTF-16LE and UTF-16BE need none" enter --quiet --again --db e.db --encoding UTF-16 moves.utf8
 ends 0 '' balance --db e.db
@@ -82,7 +82,7 @@ ends 0 '' verify --db e.db
 # Once: a file whose bytes were entered before is rejected, under another name too, and nothing else is entered
 cp monday.csv again.csv
 printf 'article,change\nbolt,1\n' > more.csv
-ends 6 "$p: again.csv: entered before, as batch 2 (monday.csv)" enter --quiet --db s.db more.csv again.csv
+ends 6 "$p: again.csv: entered before, as batch 2 (monday.csv); \`enter --again\` enters it again" enter --quiet --db s.db more.csv again.csv
 cp more.csv twice.csv
 ends 6 "$p: twice.csv: the same bytes as more.csv" enter --quiet --db s.db more.csv twice.csv
 ends 0 '' balance --db s.db bolt
@@ -173,7 +173,7 @@ ends 0 "$(printf 'sunday.csv: batch 4, 0 movements\nmonday2.csv: batch 5, 0 move
 printf 'article,change\nnut,1\n' > ../line
 input=../line ends 0 '-: batch 6, 1 movement' enter --db said.db
 input=../line ends 0 '-: batch 7, 1 movement' enter --db said.db -
-ends 6 "$p: b.csv: entered before, as batch 2 (b.csv)" enter --db said.db sunday.csv b.csv
+ends 6 "$p: b.csv: entered before, as batch 2 (b.csv); \`enter --again\` enters it again" enter --db said.db sunday.csv b.csv
 
 # The last batch is undone, or that of a file; each undo says so
 ends 0 '-: batch 8, 1 movement, the opposites of batch 7' undo --db said.db --last
@@ -198,8 +198,10 @@ ends 0 '' show --db show.db -o shown.csv --delimiter ';' 1
 has shown.csv 'line;date;article;change;outcome;number;note\n2;;bolt;10;entered;10;\n3;;nut;40;entered;40;\n4;;washer;3;entered;3;\n' "the movements of a batch in a file"
 ends 2 "$p: show.db: no batch 9" show --db show.db 9
 
-# One movement that is typed is a batch, like one on standard input
-ends 0 '-: batch 1, 1 movement' put --db typed.db bolt 5
+# One movement that is typed is a batch, like one on standard input. Only enter makes a database, so a misspelt name makes none
+for job in take put; do ends 4 "$p: typed.db: no such file" $job --db typed.db bolt 5; done
+[ ! -e typed.db ] || fail "a database of a movement that is typed"
+printf 'article,change\nbolt,5\n' > ../line && input=../line ends 0 '-: batch 1, 1 movement' enter --db typed.db
 ends 0 '-: batch 2, 1 movement' take --db typed.db bolt 2
 ends 1 "$(printf -- '-:2: refused: out 4 of "bolt", 3 there\n-: batch 3, 1 movement, 1 refused')" take --db typed.db bolt 4
 ends 0 '-: batch 4, 1 movement' take --db typed.db bolt 2
@@ -224,7 +226,7 @@ ends 0 '' balance --db show.db --to json nut
 has ../out '[{"article":"nut","number":60}]\n' "the balance as JSON"
 ends 0 '' balance --db salt.db --to json
 has ../out '[{"article":"salt","number":"0.05"}]\n' "a number with decimals in JSON"
-ends 0 '' put --quiet --db wide.db 茶 1234567
+printf 'article,change\n茶,1234567\n' > ../line && input=../line ends 0 '' enter --quiet --db wide.db
 ends 0 '' put --quiet --db wide.db "$(printf 'a\tb')" 2
 ends 0 '' balance --db wide.db --to table
 has ../out 'ARTICLE   NUMBER\na\\tb           2\n茶       1234567\n' "a wide name and an escaped one in columns"
@@ -242,7 +244,7 @@ printf 'article,change\nbolt,5\nnut,2\n' > a.csv
 printf 'article,change\nbolt,-3\nbolt,-9\nwasher,4\n' > b.csv
 ends 1 'b.csv:3: refused: out 9 of "bolt", 2 there' enter --quiet --db u.db a.csv b.csv
 cp u.db v.db
-ends 1 'a.csv:2: refused: out 5 of "bolt", 2 there' undo --quiet --db u.db 1
+ends 1 "$(printf 'a.csv:2: refused: out 5 of "bolt", 2 there\n%s: u.db: nothing was undone' "$p")" undo --quiet --db u.db 1
 ends 0 '' balance --db u.db
 has ../out 'article,number\nbolt,2\nnut,2\nwasher,4\n' "the balance after an undo that is refused"
 ends 0 '' undo --quiet --db u.db 2
@@ -255,7 +257,7 @@ ends 2 "$p: u.db: no batch 9" undo --quiet --db u.db 9
 ends 0 '' undo --quiet --db u.db 1
 ends 0 '' balance --db u.db
 has ../out 'article,number\n' "the balance after two undos"
-ends 1 'b.csv:2: refused: out 3 of "bolt", 0 there' undo --quiet --db u.db 3
+ends 1 "$(printf 'b.csv:2: refused: out 3 of "bolt", 0 there\n%s: u.db: nothing was undone' "$p")" undo --quiet --db u.db 3
 ends 0 '' verify --db u.db
 has ../out '4 batches, 9 movements, 1 of them refused: the balance and the refusals agree\n' "a stock with undos agrees"
 cp u.db x.db
@@ -361,8 +363,8 @@ ends 0 '' close --db kept.db --into kept4.db --mark . -d ';' -c a,b
 is kept4.db 'select name, value from meta order by name' 'columns|a,b\ndelimiter|;\nhashbag_ledger|3\nmark|.\nscale|1' "a new stock keeps what close names"
 ends 0 '' balance --db kept4.db
 has ../out 'article;number\nsalt;4.0\n' "the balance of a stock that keeps something else"
-ends 0 '' put --quiet --db kept5.db --mark , salt 1
-is kept5.db 'select name, value from meta order by name' 'columns|article,change\ndelimiter|,\nhashbag_ledger|3\nmark|,\nscale|0' "what a stock keeps that begins with a typed movement"
+printf 'article,change\nsalt,1\n' > ../line && input=../line ends 0 '' enter --quiet --db kept5.db --mark ,
+is kept5.db 'select name, value from meta order by name' 'columns|article,change\ndelimiter|,\nhashbag_ledger|3\nmark|,\nscale|0' "what a stock keeps that begins with standard input"
 # damaged TEXT WHAT: after this change of the table meta the stock can't be read, and this is said
 damaged() {
   cp kept.db w.db
@@ -407,8 +409,8 @@ cut -d , -f 1-3,6-8 ../out > ../plain
 has ../plain 'batch,file,line,change,outcome,number\n1,count1.csv,2,10,entered,10\n2,counted.csv,2,-3,entered,7\n' "the history of a counted article"
 ends 0 '' batches --db count.db
 [ "$(cut -d , -f 1,2,4 ../out | tail -n 1)" = 2,counted.csv,count ] || fail "a count among the batches"
-ends 6 "$p: counted.csv: entered before, as batch 2 (counted.csv)" count --db count.db counted.csv
-ends 6 "$p: counted.csv: entered before, as batch 2 (counted.csv)" enter --db count.db counted.csv
+ends 6 "$p: counted.csv: entered before, as batch 2 (counted.csv); \`enter --again\` enters it again" count --db count.db counted.csv
+ends 6 "$p: counted.csv: entered before, as batch 2 (counted.csv); \`enter --again\` enters it again" enter --db count.db counted.csv
 ends 0 'counted.csv: batch 3, 3 movements' count --db count.db --again -o again.txt counted.csv
 has again.txt 'article,there,counted,change\nbolt,7,7,0\nscrew,2,2,0\nnut,40,40,0\n' "the differences of a second count in a file"
 ends 0 '' undo --quiet --db count.db --last

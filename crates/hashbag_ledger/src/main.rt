@@ -8,6 +8,7 @@ use crate::outputs::{Outputs, conflict};
 use hashbag_ledger_args::arguments::{Request, parse};
 use hashbag_ledger_args::command::PROGRAM;
 use hashbag_ledger_args::jobs::has_job;
+use hashbag_ledger_db::troubles;
 use hashbag_ledger_db::unkept::{Report, enter_unkept};
 use hashbag_shell::inputs::HostInputs;
 use hashbag_shell::program::program;
@@ -32,9 +33,7 @@ fn report_of<'a>(rt: &HostRuntime, request: &Request<'a>) -> Result<Report, Trou
 fn answer<'a>(rt: &HostRuntime, words: &'a [String]) -> Result<u8, Trouble<'a>> {
     let request = parse(rt, words)?;
     if let Some(name) = conflict(rt, &request) {
-        let alloc = rt.alloc();
-        let what = format!(in alloc; "{name}: both an input and an output, or two outputs")?;
-        return Err(Trouble::Words(what));
+        return Err(troubles::conflict(rt.alloc(), name));
     }
     let outputs = Outputs::open(rt, &request)?;
     match report_of(rt, &request) {
@@ -52,7 +51,7 @@ fn answer<'a>(rt: &HostRuntime, words: &'a [String]) -> Result<u8, Trouble<'a>> 
 // Does what the arguments ask for, with a database if they name a subcommand, and returns the exit status.
 fn run<'a>(rt: &HostRuntime, words: &'a [String]) -> Result<u8, Trouble<'a>> {
     if has_job(words) {
-        return Ok(stock::run(rt, words));
+        return stock::run(rt, words);
     }
     answer(rt, words)
 }

@@ -7,7 +7,7 @@ use Rattle.hashbag_csv.specs.declared.scale.Mark.{Mark}
 use Rattle.hashbag_csv.specs.declared.scale.Mark.TheVariants.{Point}
 use Rattle.hashbag_ledger_args.specs.declared.columns.KeptColumns.{KeptColumns}
 use Rattle.hashbag_ledger_args.specs.declared.job.Job.{Job}
-use Rattle.hashbag_ledger_lib.specs.Movements.{columns_by}
+use Rattle.hashbag_ledger_lib.specs.Movements.{names_now}
 use Rattle.hashbag_ledger_lib.specs.Styles.{plain_style}
 use Rattle.hashbag_ledger_lib.specs.declared.reading.ChangeColumns.{ChangeColumns}
 use Rattle.hashbag_ledger_lib.specs.declared.reading.ChangeColumns.TheVariants.{Signed, ByKind}
@@ -55,7 +55,7 @@ plain_names = record { article = codes "article"; change = Signed (codes "change
 
 -- the names of the columns of movements: those of the job, else those of `kept`
 abbrev pub names_by : Job → Columns (List ℕ) → Columns (List ℕ)
-names_by job kept = elim job.columns [ None ↦ kept | Some given ↦ columns_by (λ n. n.now) given ]
+names_by job kept = elim job.columns [ None ↦ kept | Some given ↦ names_now given ]
 
 -- the encoding of the job's stock at the beginning, or of its movements
 abbrev pub encoding_of : Job → Bool → Option Encoding

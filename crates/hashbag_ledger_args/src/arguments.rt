@@ -81,7 +81,7 @@ fn request_of<'a>(
 ///
 /// # Errors
 ///
-/// `Printed` after the help, the version or a message on bad arguments was printed. `Words` if columns have too few or too many names.
+/// `Printed` after the help, the version or a message on bad arguments was printed. `Arguments` if columns have too few or too many names.
 /// `Memory` if an allocation fails.
 pub fn parse<'a, R: Print + Eprint + AllocGlobal>(
     rt: &R,

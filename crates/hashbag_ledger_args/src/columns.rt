@@ -1,7 +1,7 @@
 //! The names of columns that are given as one word.
 ghost use Rattle.std.specs.Prelude.{◌≡◌, IfOk};
 ghost use Rattle.hashbag_ledger_args.specs.Readings.{kept_names, plain_names};
-ghost use Rattle.hashbag_ledger_lib.specs.Movements.{columns_by};
+ghost use Rattle.hashbag_ledger_lib.specs.Movements.{names_now};
 
 use hashbag_ledger_lib::reading::{ChangeColumns, Columns};
 use hashbag_shell::trouble::Trouble;
@@ -36,20 +36,20 @@ fn split_pair(names: &str) -> Option<(&str, &str)> {
 ///
 /// # Errors
 ///
-/// `Words` if `names` isn't two or three names with commas between them. `Memory` if an allocation fails.
+/// `Arguments` if `names` isn't two or three names with commas between them. `Memory` if an allocation fails.
 pub fn columns_of<'a>(alloc: Global, names: &'a str) -> Result<Columns<&'a str>, Trouble<'a>> {
     match split_columns(names) {
         Some(columns) => Ok(columns),
         None => {
             let what = format!(in alloc; "--columns takes two or three names: {names}")?;
-            Err(Trouble::Words(what))
+            Err(Trouble::Arguments(what))
         }
     }
 }
 
 /// Returns the columns of movements in a stock that keeps none: `article` and `change`.
 pub fn plain_columns() -> Columns<&'static str>
-    ensures { columns_by (λ n. n.now) result ≡ plain_names }
+    ensures { names_now result ≡ plain_names }
 {
     Columns {
         article: "article",
@@ -76,7 +76,7 @@ impl KeptColumns {
     /// An allocation fails.
     pub fn copy_of(alloc: Global, columns: Columns<&str>) -> Result<KeptColumns, AllocError>
         // Each name is the same, at its place. `n.now` is the text of a lent name.
-        ensures { IfOk result (λ kept. kept_names kept ≡ columns_by (λ n. n.now) columns.entry) }
+        ensures { IfOk result (λ kept. kept_names kept ≡ names_now columns.entry) }
     {
         let article = String::from_str(alloc, columns.article)?;
         match columns.change {
@@ -107,7 +107,7 @@ impl KeptColumns {
 
     /// Returns the names of these columns.
     pub fn names(&self) -> Columns<&str>
-        ensures { columns_by (λ n. n.now) result ≡ kept_names self.now }
+        ensures { names_now result ≡ kept_names self.now }
     {
         let number = self.number.as_str();
         Columns {
@@ -137,7 +137,7 @@ pub fn columns_text(alloc: Global, columns: Columns<&str>) -> Result<String, All
 ///
 /// # Errors
 ///
-/// `Words` if `names` isn't two names with a comma between them. `Memory` if an allocation fails.
+/// `Arguments` if `names` isn't two names with a comma between them. `Memory` if an allocation fails.
 pub fn start_columns_of<'a>(
     alloc: Global,
     names: &'a str,
@@ -146,7 +146,7 @@ pub fn start_columns_of<'a>(
         Some(pair) => Ok(pair),
         None => {
             let what = format!(in alloc; "--start-columns takes two names: {names}")?;
-            Err(Trouble::Words(what))
+            Err(Trouble::Arguments(what))
         }
     }
 }

@@ -1,7 +1,7 @@
 //! What is asked of a database, by a subcommand's arguments.
 ghost use Rattle.std.specs.Prelude.{◌≡◌};
 ghost use Rattle.hashbag_ledger_args.specs.Readings.{asked_style, encoding_of, names_by, style_by, IsReadingOf};
-ghost use Rattle.hashbag_ledger_lib.specs.Movements.{columns_by};
+ghost use Rattle.hashbag_ledger_lib.specs.Movements.{names_now};
 
 use crate::columns::{columns_of, plain_columns, start_columns_of};
 use crate::command::START_COLUMNS;
@@ -129,7 +129,7 @@ impl<'a> Job<'a> {
     ///
     /// # Errors
     ///
-    /// `Words` if columns have too few or too many names, `Memory` if an allocation fails.
+    /// `Arguments` if columns have too few or too many names, `Memory` if an allocation fails.
     pub fn of(alloc: Global, given: &ArgMatches<'a>) -> Result<Job<'a>, Trouble<'a>> {
         let columns = match given.get_str("columns") {
             Some(names) => Some(columns_of(alloc, names)?),
@@ -222,7 +222,7 @@ impl<'a> Job<'a> {
 
     /// Returns the names of the columns of movements: those that the job has, else `kept`.
     pub fn columns_or<'k>(&'k self, kept: Columns<&'k str>) -> Columns<&'k str>
-        ensures { columns_by (λ n. n.now) result ≡ names_by self.entry.now (columns_by (λ n. n.now) kept.entry) }
+        ensures { names_now result ≡ names_by self.entry.now (names_now kept.entry) }
     {
         match self.columns {
             Some(columns) => columns,

@@ -22,7 +22,7 @@ arguments, a bad line, no such batch, no stock or more than one, or a database t
 be opened, or a read or a write failed, 5 a total of more than 2^63-1, 6 a file was entered before or is named twice, 7 another process
 has a database open.";
 
-// Returns whether a word names a subcommand.
+// Returns whether a word names a subcommand, or is `help`.
 fn is_job(word: &str) -> bool {
     matches!(
         word,
@@ -37,6 +37,7 @@ fn is_job(word: &str) -> bool {
             | "undo"
             | "verify"
             | "close"
+            | "help"
     )
 }
 
@@ -236,7 +237,7 @@ fn count<'a>(alloc: Global) -> CommandResult<'a> {
     let all = Arg::new(alloc, "all")
         .long("all")
         .action(ArgAction::SetTrue)
-        .help("An article that isn't named was counted too: there is none of it");
+        .help("Each article that isn't named counts as counted, with 0");
     let command = job(
         alloc,
         "count",

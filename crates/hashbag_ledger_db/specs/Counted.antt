@@ -4,9 +4,9 @@ use Rattle.std.specs.Global.{Global}
 use Rattle.hashbag_csv.specs.declared.counts.Reading.{Reading}
 use Rattle.hashbag_ledger_args.specs.Readings.{IsReadingOf}
 use Rattle.hashbag_ledger_args.specs.declared.job.Job.{Job}
-use Rattle.hashbag_ledger_db.specs.Filed.{plain_said, start_names}
+use Rattle.hashbag_ledger_db.specs.Filed.{plain_content, start_names}
 use Rattle.hashbag_ledger_lib.specs.Counts.{none_counted, IsCounted}
-use Rattle.hashbag_ledger_lib.specs.Movements.{movements_in, said}
+use Rattle.hashbag_ledger_lib.specs.Movements.{movements_in, content_of}
 use Rattle.hashbag_ledger_lib.specs.declared.filing.Filed.{Filed}
 use Rattle.hashbag_ledger_lib.specs.declared.movements.Change.{Change}
 use Rattle.hashbag_ledger_lib.specs.declared.movements.Movement.{Movement}
@@ -15,14 +15,14 @@ use Rattle.hashbag_text.specs.Encodings.{text_in}
 
 -- what was counted: the records of the text and, with `--all`, none of each article of the balance
 abbrev pub counted_by : Job → Reading → List (String Global × ℕ) → List ℕ → List (List ℕ × Change)
-counted_by job reading kept text = map plain_said (movements_in reading (start_names job) text) ++ (if job.all then map none_counted kept else [])
+counted_by job reading kept text = map plain_content (movements_in reading (start_names job) text) ++ (if job.all then map none_counted kept else [])
 
 -- the balance was counted: the text is read by the options of the job, and else as the stock keeps it
 pub record IsCountedAs (job : Job) (style : Style) (kept : List (String Global × ℕ)) (text : List ℕ) (filed : Filed) : Type 0 where
   pub reading : Reading
   pub is : IsReadingOf job style reading
   pub records : List (Movement (String Global))
-  pub read : map said records ≡ counted_by job reading kept text
+  pub read : map content_of records ≡ counted_by job reading kept text
   pub counted : IsCounted kept records filed
 
 -- the balance was counted: these bytes are the text of what was counted, in the encoding of the job

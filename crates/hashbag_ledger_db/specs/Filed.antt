@@ -10,7 +10,7 @@ use Rattle.hashbag_ledger_db.specs.declared.movements.Input.{Input}
 use Rattle.hashbag_ledger_lib.specs.Batches.{all_of}
 use Rattle.hashbag_ledger_lib.specs.Changes.{AreChanges, Rises}
 use Rattle.hashbag_ledger_lib.specs.Entries.{IsBooked, refusals_in}
-use Rattle.hashbag_ledger_lib.specs.Movements.{movements_in, said}
+use Rattle.hashbag_ledger_lib.specs.Movements.{movements_in, content_of}
 use Rattle.hashbag_ledger_lib.specs.Numbers.{plain}
 use Rattle.hashbag_ledger_lib.specs.declared.filing.Filed.{Filed}
 use Rattle.hashbag_ledger_lib.specs.declared.movements.Change.{Change}
@@ -27,8 +27,8 @@ abbrev pub plain_movement : Movement (String Global) → Movement (String Global
 plain_movement m = record { place = m.place; article = m.article; change = plain m.change }
 
 -- an article and its change as a row has them: `Out 0` is `In 0`
-abbrev pub plain_said : List ℕ × Change → List ℕ × Change
-plain_said m = (m.0, plain m.1)
+abbrev pub plain_content : List ℕ × Change → List ℕ × Change
+plain_content m = (m.0, plain m.1)
 
 -- the names of the columns of the stock at the beginning, and of what was counted
 abbrev pub start_names : Job → Columns (List ℕ)
@@ -39,14 +39,14 @@ abbrev pub names_of : Job → Columns (List ℕ) → Input → Columns (List ℕ
 names_of job names input = if input.is_start then start_names job else names
 
 -- the movements of an input, as rows have them
-abbrev pub rows_in : Job → Reading → Columns (List ℕ) → Input → List (List ℕ × Change)
-rows_in job reading names input = map plain_said (movements_in reading (names_of job names input) input.text.items)
+abbrev pub input_rows : Job → Reading → Columns (List ℕ) → Input → List (List ℕ × Change)
+input_rows job reading names input = map plain_content (movements_in reading (names_of job names input) input.text.items)
 
 -- these are the movements of the inputs, in turn
 abbrev pub AreMovementsOf : Job → Reading → Columns (List ℕ) → List Input → List (Vec (Movement (String Global))) → Type 0
-AreMovementsOf job reading names inputs files = map (λ f. map said f.items) files ≡ map (rows_in job reading names) inputs
+AreMovementsOf job reading names inputs files = map (λ f. map content_of f.items) files ≡ map (input_rows job reading names) inputs
 
--- all movements of all inputs were booked, in turn, on the balance that is kept: what becomes of its rows, and how many each input has
+-- all movements of all inputs were booked, in turn, on the balance that is kept: `changed` has the changes of its rows, and `counts` how many movements each input has
 pub record IsFiledOf (job : Job) (reading : Reading) (names : Columns (List ℕ)) (inputs : List Input) (kept : List (String Global × ℕ)) (filed : Filed) : Type 0 where
   pub files : List (Vec (Movement (String Global)))
   pub read : AreMovementsOf job reading names inputs files
@@ -60,7 +60,7 @@ pub record IsFiledAs (job : Job) (style : Style) (names : Columns (List ℕ)) (i
   pub is : IsReadingOf job style reading
   pub all : IsFiledOf job reading (names_by job names) inputs kept filed
 
--- on an empty stock, which keeps nothing but as many decimals as the job asks for
+-- all movements were booked on an empty stock, which keeps nothing but as many decimals as the job asks for
 abbrev pub IsFiledAnew : Job → List Input → Filed → Type 0
 IsFiledAnew job inputs filed = IsFiledAs job (asked_style job) plain_names inputs [] filed
 
@@ -69,7 +69,8 @@ abbrev pub style_in : Contents → Job → Style
 style_in Empty job = asked_style job
 style_in (Stock shape) job = shape.style
 
--- on the balance that was read of the database, and read by the columns that it keeps, the decimals, the delimiter and the mark
+-- all movements were booked on the balance that was read of the database. They were read by the columns, the decimals, the delimiter and the mark
+-- that it keeps
 pub record IsFiledIn (job : Job) (contents : Contents) (inputs : List Input) (ready : Ready) : Type 0 where
   pub is : ready.before.contents ≡ contents
   pub empty : contents ≡ Empty → ready.before.balance.items ≡ []
@@ -93,6 +94,6 @@ IsAnewIfThere job inputs anew = IfSome anew (IsFiledAnew job inputs)
 abbrev pub IfStock : Contents → (Shape → Type 0) → Type 0
 IfStock contents P = (shape : Shape) → contents ≡ Stock shape → P shape
 
--- it is there, and is what the inputs do to the balance that was read of the database
+-- a `Ready` is there, and is what the inputs do to the balance that was read of the database
 abbrev pub IsThereAsFiled : Job → Contents → List Input → Option Ready → Type 0
 IsThereAsFiled job contents inputs ready = IsSomeAnd ready (IsFiledIn job contents inputs)

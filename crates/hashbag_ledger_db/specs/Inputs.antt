@@ -22,7 +22,7 @@ pub record IsRead (gives : List ℕ → List ℕ → Type 0) (job : Job) (input 
   pub given : gives input.file.now bytes
   pub text : IsTextOf (encoding_of job input.is_start) bytes input
 
--- the input of this name, which is the stock at the beginning or a file of movements
+-- the name of an input, and whether it is the stock at the beginning
 abbrev pub named : Input → List ℕ × Bool
 named input = (input.file.now, input.is_start)
 
@@ -30,7 +30,7 @@ named input = (input.file.now, input.is_start)
 abbrev pub names_in : Job → List (List ℕ × Bool)
 names_in job = map (λ file. (file.now, true)) (option_to_list job.from) ++ map (λ file. (file.now, false)) job.files.items
 
--- these are the inputs that a job names, each with the text of its file and the sum of its bytes
+-- these are the inputs that a job names, each with the text of its file and the SHA-256 of its bytes
 pub record AreInputsOf (gives : List ℕ → List ℕ → Type 0) (job : Job) (inputs : List Input) : Type 0 where
   pub are : map named inputs ≡ names_in job
   pub read : All (IsRead gives job) inputs

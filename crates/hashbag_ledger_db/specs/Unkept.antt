@@ -7,7 +7,7 @@ use Rattle.hashbag_csv.specs.Counts.{count_line, counts_in}
 use Rattle.hashbag_csv.specs.Quantities.{IsBalance}
 use Rattle.hashbag_ledger_args.specs.declared.arguments.Request.{Request}
 use Rattle.hashbag_ledger_lib.specs.Ledger.{in_the_end, refused_of, Leaves}
-use Rattle.hashbag_ledger_lib.specs.Movements.{movements_named, said}
+use Rattle.hashbag_ledger_lib.specs.Movements.{movements_in, names_now, content_of}
 use Rattle.hashbag_ledger_lib.specs.Settled.{listed, IsLedgerOf}
 use Rattle.hashbag_ledger_lib.specs.declared.ledger.Entered.{Entered}
 use Rattle.hashbag_ledger_lib.specs.declared.ledger.Ledger.{Ledger}
@@ -34,7 +34,7 @@ module _ (gives : List ℕ → List ℕ → Type 0) (request : Request) where
   pub record AreMovementsIn (n : ℕ) (file : List ℕ) (ms : List (Movement (String Global))) : Type 0 where
     pub text : List ℕ
     pub read : IsTextRead gives request.encoding file text
-    pub all : map said ms ≡ movements_named request.reading request.columns text
+    pub all : map content_of ms ≡ movements_in request.reading (names_now request.columns) text
     pub places : All (λ m. m.place.file ≡ n) ms
 
   -- these are the movements of files, in turn, of which the first has the number n

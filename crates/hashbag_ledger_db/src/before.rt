@@ -2,16 +2,17 @@
 ghost use Rattle.std.specs.Prelude.{◌≡◌, [], IfOk};
 ghost use Rattle.hashbag_ledger_args.specs.Readings.{kept_names, plain_names};
 ghost use Rattle.hashbag_ledger_lib.specs.Changes.{Rises};
-ghost use Rattle.hashbag_ledger_lib.specs.Movements.{columns_by};
+ghost use Rattle.hashbag_ledger_lib.specs.Movements.{names_now};
 
-use crate::failure::Failure;
 use crate::movements::{Input, is_once};
 use crate::putting::in_database;
 use crate::said::movements_in;
+use crate::troubles::{entered_as, has_stock, of_stock, same_bytes};
 use hashbag_ledger_args::columns::{KeptColumns, plain_columns};
 use hashbag_ledger_args::job::Job;
 use hashbag_ledger_lib::once::{Batch, entered_before, next_number};
 use hashbag_ledger_lib::reading::Columns;
+use hashbag_shell::trouble::Trouble;
 use hashbag_stock::error::StockError;
 use hashbag_stock::reading::{balance_of, batches_of};
 use hashbag_stock::tables::{Contents, Shape, columns_of};
@@ -40,7 +41,7 @@ impl Before {
 
     /// Returns the names of the columns of movements that the database keeps.
     pub fn names(&self) -> Columns<&str>
-        ensures { columns_by (λ n. n.now) result ≡ kept_names self.now.columns }
+        ensures { names_now result ≡ kept_names self.now.columns }
     {
         self.columns.names()
     }
@@ -60,30 +61,24 @@ impl Before {
     }
 }
 
-// Returns the failure that a file was entered before, or that two of the files have the same bytes. Standard input and files without
+// Returns the trouble that a file was entered before, or that two of the files have the same bytes. Standard input and files without
 // movements are entered as often as one likes.
 pub(crate) fn entered_twice<'a>(
+    alloc: Global,
     inputs: &[Input<'a>],
     batches: &[Batch],
-) -> Result<(), Failure<'a>> {
+) -> Result<(), Trouble<'a>> {
     for i in 0..inputs.len() {
         let input = &inputs[i];
         if !is_once(input) {
             continue;
         }
         if let Some(batch) = entered_before(batches, input.sha256.as_str()) {
-            return Err(Failure::EnteredBefore {
-                file: input.file,
-                number: batch.number,
-                name: batch.file.clone()?,
-            });
+            return Err(entered_as(alloc, input.file, batch));
         }
         for other in &inputs[..i] {
             if other.sha256.as_str() == input.sha256.as_str() {
-                return Err(Failure::SameBytes {
-                    file: input.file,
-                    other: other.file,
-                });
+                return Err(same_bytes(alloc, input.file, other.file));
             }
         }
     }
@@ -100,16 +95,16 @@ pub fn kept_columns<'a, D: Alter>(
     db: &'a str,
     conn: &mut Connection<D>,
     shape: Shape,
-) -> Result<KeptColumns, Failure<'a>> {
-    let Some(names) = in_database(db, columns_of(conn, shape))? else {
+) -> Result<KeptColumns, Trouble<'a>> {
+    let Some(names) = in_database(alloc, db, columns_of(conn, shape))? else {
         return Ok(KeptColumns::copy_of(alloc, plain_columns())?);
     };
     match KeptColumns::named(alloc, names.as_str())? {
         Some(columns) => Ok(columns),
-        None => Err(Failure::Stock {
-            db,
-            error: StockError::Damaged("no two or three columns in the table meta"),
-        }),
+        None => {
+            let error = StockError::Damaged("no two or three columns in the table meta");
+            Err(of_stock(alloc, db, error))
+        }
     }
 }
 
@@ -120,11 +115,11 @@ pub fn kept_columns<'a, D: Alter>(
 /// Why they may not, or why it can't be read.
 pub fn before_in<'a, D: Alter>(
     alloc: Global,
-    request: &Job<'a>,
+    job: &Job<'a>,
     inputs: &[Input<'a>],
     conn: &mut Connection<D>,
     contents: Contents,
-) -> Result<Before, Failure<'a>>
+) -> Result<Before, Trouble<'a>>
     ensures contents { IfOk result (λ before. before.contents ≡ contents) }
     ensures empty { contents ≡ Contents.Empty → IfOk result (λ before. before.balance.items ≡ []) }
     ensures new { contents ≡ Contents.Empty → IfOk result (λ before. kept_names before.columns ≡ plain_names) }
@@ -139,17 +134,17 @@ pub fn before_in<'a, D: Alter>(
             movements: 0,
         });
     };
-    let db = request.db;
-    if request.from.is_some() {
-        return Err(Failure::HasStock { db });
+    let db = job.db;
+    if job.from.is_some() {
+        return Err(has_stock(alloc, db));
     }
-    let batches = in_database(db, batches_of(alloc, conn, shape))?;
-    if !request.again {
-        entered_twice(inputs, &batches)?;
+    let batches = in_database(alloc, db, batches_of(alloc, conn, shape))?;
+    if !job.again {
+        entered_twice(alloc, inputs, &batches)?;
     }
     Ok(Before {
         contents,
-        balance: in_database(db, balance_of(alloc, conn))?,
+        balance: in_database(alloc, db, balance_of(alloc, conn))?,
         columns: kept_columns(alloc, db, conn, shape)?,
         number: next_number(&batches),
         movements: movements_in(&batches),

@@ -2,14 +2,13 @@
 ghost use Rattle.std.specs.Prelude.{◌≡◌, true, map, IfOk};
 ghost use Rattle.hashbag_ledger_db.specs.Counted.{counted_by, IsCountedAs, IsCountedIn};
 ghost use Rattle.hashbag_ledger_lib.specs.Changes.{Rises};
-ghost use Rattle.hashbag_ledger_lib.specs.Movements.{said};
+ghost use Rattle.hashbag_ledger_lib.specs.Movements.{content_of};
 
 use crate::before::entered_twice;
-use crate::entering::{start_too_many, too_large};
-use crate::failure::Failure;
 use crate::movements::{Input, input_of, read};
 use crate::putting::{in_database, put};
 use crate::said::{entered_text, movements_in};
+use crate::troubles::{no_counts, start_too_many, too_large};
 use hashbag_csv::counts::Reading;
 use hashbag_csv::fault::in_file;
 use hashbag_ledger_args::columns::plain_columns;
@@ -21,11 +20,12 @@ use hashbag_ledger_lib::listing::differences_text;
 use hashbag_ledger_lib::movements::Movement;
 use hashbag_ledger_lib::once::{Batch, Kind, next_number};
 use hashbag_ledger_lib::sealing::{Draft, sealed_rows};
+use hashbag_shell::trouble::Trouble;
 use hashbag_stock::reading::{balance_of, batches_of, time_of};
 use hashbag_stock::tables::Shape;
 use hashbag_stock::writing::NewRows;
 use sqlite::{Alter, Connection};
-use std::alloc::{AllocError, Global};
+use std::alloc::Global;
 use std::hash::BuildHasher;
 use std::slice;
 
@@ -45,17 +45,18 @@ pub struct Counted {
 // Returns the records of a count: with `--all` also one of each article of the balance.
 fn records_of<'a>(
     alloc: Global,
-    request: &Job<'a>,
+    job: &Job<'a>,
     input: &Input<'a>,
     reading: Reading,
     kept: &[(String, usize)],
-) -> Result<Vec<Movement<String>>, Failure<'a>>
+) -> Result<Vec<Movement<String>>, Trouble<'a>>
     ensures { input.now.is_start ≡ true
-        → IfOk result (λ records. map said records.items ≡ counted_by request.now reading kept.now input.now.text.items) }
+        → IfOk result (λ records.
+        map content_of records.items ≡ counted_by job.now reading kept.now input.now.text.items) }
 {
-    let read = read(alloc, request, input, 0, plain_columns(), reading);
+    let read = read(alloc, job, input, 0, plain_columns(), reading);
     let mut records = in_file(alloc, input.file, read)?;
-    if request.all {
+    if job.all {
         name_all(&mut records, kept)?;
     }
     Ok(records)
@@ -65,23 +66,23 @@ fn records_of<'a>(
 fn counted_of<'a, S: BuildHasher + Copy + Drop>(
     alloc: Global,
     state: S,
-    request: &Job<'a>,
+    job: &Job<'a>,
     input: &Input<'a>,
     shape: Shape,
     kept: &[(String, usize)],
-) -> Result<Filed, Failure<'a>>
+) -> Result<Filed, Trouble<'a>>
     ensures { input.now.is_start ≡ true
-        → IfOk result (IsCountedAs request.now shape.style kept.now input.now.text.items) }
+        → IfOk result (IsCountedAs job.now shape.style kept.now input.now.text.items) }
 {
-    let reading = request.reading(shape.style);
-    let records = records_of(alloc, request, input, reading, kept)?;
+    let reading = job.reading(shape.style);
+    let records = records_of(alloc, job, input, reading, kept)?;
     match count_stock(alloc, state, kept, records) {
         Ok(filed) => Ok(filed),
         Err(LedgerError::TooMany(place)) => {
             Err(too_large(alloc, input.file, place.line, reading))
         }
-        Err(LedgerError::StartTooMany) => Err(start_too_many(request.db)),
-        Err(LedgerError::Memory) => Err(Failure::from(AllocError)),
+        Err(LedgerError::StartTooMany) => Err(start_too_many(alloc, job.db)),
+        Err(LedgerError::Memory) => Err(Trouble::Memory),
     }
 }
 
@@ -94,8 +95,8 @@ fn write<'a, D: Alter>(
     input: &Input<'a>,
     batches: &[Batch],
     filed: &Filed,
-) -> Result<String, Failure<'a>> {
-    let time = in_database(db, time_of(conn))?;
+) -> Result<String, Trouble<'a>> {
+    let time = in_database(alloc, db, time_of(conn))?;
     let entries = &filed.booked.entries;
     let draft = Draft {
         number: next_number(batches),
@@ -114,7 +115,7 @@ fn write<'a, D: Alter>(
         changed: &filed.changed,
     };
     let said = entered_text(alloc, db, movements_in(batches), &rows)?;
-    put(db, conn, None, &new)?;
+    put(alloc, db, conn, None, &new)?;
     Ok(said)
 }
 
@@ -127,30 +128,29 @@ fn write<'a, D: Alter>(
 pub fn count_in<'a, D: Alter, S: BuildHasher + Copy + Drop>(
     alloc: Global,
     state: S,
-    request: &Job<'a>,
+    job: &Job<'a>,
     shape: Shape,
     conn: &mut Connection<D>,
     bytes: Vec<u8>,
-) -> Result<Counted, Failure<'a>>
+) -> Result<Counted, Trouble<'a>>
     // The balance that was read is counted.
     ensures counted { IfOk result (λ counted.
-        IsCountedIn request.now shape.style counted.kept.items bytes.items counted.filed) }
+        IsCountedIn job.now shape.style counted.kept.items bytes.items counted.filed) }
     ensures rising { IfOk result (λ counted. Rises counted.kept.items) }
 {
-    let db = request.db;
+    let db = job.db;
     if !shape.takes_counts() {
-        let version = shape.version;
-        return Err(Failure::NoCounts { db, version });
+        return Err(no_counts(alloc, db, shape.version));
     }
-    let input = input_of(alloc, request.counted, bytes, request.encoding, true)?;
-    let batches = in_database(db, batches_of(alloc, conn, shape))?;
-    if !request.again {
-        entered_twice(slice::from_ref(&input), &batches)?;
+    let input = input_of(alloc, job.counted, bytes, job.encoding, true)?;
+    let batches = in_database(alloc, db, batches_of(alloc, conn, shape))?;
+    if !job.again {
+        entered_twice(alloc, slice::from_ref(&input), &batches)?;
     }
-    let kept = in_database(db, balance_of(alloc, conn))?;
-    let filed = counted_of(alloc, state, request, &input, shape, &kept)?;
+    let kept = in_database(alloc, db, balance_of(alloc, conn))?;
+    let filed = counted_of(alloc, state, job, &input, shape, &kept)?;
     let entries = &filed.booked.entries;
-    let table = differences_text(alloc, request.reading(shape.style), entries)?;
+    let table = differences_text(alloc, job.reading(shape.style), entries)?;
     let said = write(alloc, conn, db, shape, &input, &batches, &filed)?;
     Ok(Counted {
         table,

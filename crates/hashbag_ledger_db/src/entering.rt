@@ -3,16 +3,14 @@ ghost use Rattle.std.specs.Prelude.{◌≡◌, [], None, IfOk, IsSomeAnd};
 ghost use Rattle.hashbag_stock.specs.declared.tables.Shape.{Shape};
 ghost use Rattle.hashbag_ledger_args.specs.Readings.{kept_names};
 ghost use Rattle.hashbag_ledger_db.specs.Filed.{AreMovementsOf, IsFiledOf, IsFiledAs, IsFiledAnew, IsFiledIn, has_refusal, status_after, IfStock, IsAnewIfThere, IsThereAsFiled};
-ghost use Rattle.hashbag_ledger_lib.specs.Movements.{columns_by};
+ghost use Rattle.hashbag_ledger_lib.specs.Movements.{names_now};
 
 use crate::before::{Before, before_in, entered_twice, kept_columns};
-use crate::failure::Failure;
 use crate::movements::{Input, extras_of, has_extras, input_of, movements_of};
 use crate::putting::{in_database, put};
 use crate::said::entered_text;
+use crate::troubles::{no_dates, other_scale, start_too_many, too_large};
 use hashbag_csv::counts::Reading;
-use hashbag_csv::decimals::write_decimal;
-use hashbag_csv::fault::{Fault, SheetError, in_file};
 use hashbag_ledger_args::columns::{KeptColumns, columns_text, plain_columns};
 use hashbag_ledger_args::job::Job;
 use hashbag_ledger_lib::entering::LedgerError;
@@ -20,14 +18,12 @@ use hashbag_ledger_lib::extras::Extra;
 use hashbag_ledger_lib::filing::{Filed, enter_files, refusals_of};
 use hashbag_ledger_lib::ledger::booking::count_refused;
 use hashbag_ledger_lib::movements::Movement;
-use hashbag_ledger_lib::numbers::MOST;
 use hashbag_ledger_lib::once::Kind;
 use hashbag_ledger_lib::output::{balance_text, refusals_table, refusals_text};
 use hashbag_ledger_lib::reading::Columns;
 use hashbag_ledger_lib::sealing::{Draft, sealed_rows};
 use hashbag_shell::status::{DENIED, DONE};
 use hashbag_shell::trouble::Trouble;
-use hashbag_stock::error::StockError;
 use hashbag_stock::reading::{balance_of, time_of};
 use hashbag_stock::tables::{Contents, Shape};
 use hashbag_stock::writing::{NewRows, NewStock};
@@ -35,7 +31,7 @@ use sqlite::{Alter, Connection};
 use std::alloc::{AllocError, Global};
 use std::hash::BuildHasher;
 
-/// What the inputs do to what the database has.
+/// What is computed, and isn't written yet: what the database has, and what the inputs do to its balance.
 #[derive(Drop)]
 pub struct Ready {
     /// What it has before.
@@ -57,63 +53,35 @@ pub struct Report {
     pub ready: Option<Ready>,
 }
 
-/// Returns the failure for a line that takes the total past the maximum.
-pub(crate) fn too_large<'a>(
-    alloc: Global,
-    file: &'a str,
-    line: u64,
-    reading: Reading,
-) -> Failure<'a> {
-    match write_decimal(alloc, MOST, reading.scale) {
-        Ok(most) => {
-            let fault = Fault::TotalPastMost(most);
-            let error: Result<(), SheetError> = Err(SheetError::Line { line, fault });
-            match in_file(alloc, file, error) {
-                Ok(()) => Failure::from(Trouble::Memory),
-                Err(trouble) => Failure::from(trouble),
-            }
-        }
-        Err(error) => Failure::from(error),
-    }
-}
-
-/// Returns the failure for a stored balance past the maximum. No batch can cause it.
-pub fn start_too_many<'a>(db: &'a str) -> Failure<'a> {
-    Failure::Stock {
-        db,
-        error: StockError::Damaged("a balance past 9223372036854775807 in all"),
-    }
-}
-
-// Reads the movements of the inputs up to the first that is bad, and returns them with its failure.
+// Reads the movements of the inputs up to the first that is bad, and returns them with its trouble.
 fn all_movements<'a>(
     alloc: Global,
-    request: &Job<'a>,
+    job: &Job<'a>,
     inputs: &[Input<'a>],
     columns: Columns<&str>,
     reading: Reading,
-) -> Result<(Vec<Vec<Movement<String>>>, Option<Failure<'a>>), Failure<'a>>
+) -> Result<(Vec<Vec<Movement<String>>>, Option<Trouble<'a>>), Trouble<'a>>
     ensures { IfOk result (λ all. all.1 ≡ None
-        → AreMovementsOf request.now reading (columns_by (λ n. n.now) columns.entry) inputs.now all.0.items) }
+        → AreMovementsOf job.now reading (names_now columns.entry) inputs.now all.0.items) }
 {
     let mut files = Vec::new(alloc);
     for i in 0..inputs.len() {
-        match movements_of(alloc, request, &inputs[i], i, columns, reading) {
+        match movements_of(alloc, job, &inputs[i], i, columns, reading) {
             Ok(movements) => files.push(movements).map_err(AllocError::from)?,
-            Err(failure) => return Ok((files, Some(failure))),
+            Err(trouble) => return Ok((files, Some(trouble))),
         }
     }
     Ok((files, None))
 }
 
-// Returns the failure for an error of the ledger.
-fn failure_of<'a>(
+// Returns the trouble of an error of the ledger.
+fn trouble_of<'a>(
     alloc: Global,
-    db: &'a str,
+    db: &str,
     inputs: &[Input<'a>],
     reading: Reading,
     error: LedgerError,
-) -> Failure<'a> {
+) -> Trouble<'a> {
     match error {
         LedgerError::TooMany(place) => {
             let file = match inputs.get(place.file) {
@@ -122,8 +90,8 @@ fn failure_of<'a>(
             };
             too_large(alloc, file, place.line, reading)
         }
-        LedgerError::StartTooMany => start_too_many(db),
-        LedgerError::Memory => Failure::from(AllocError),
+        LedgerError::StartTooMany => start_too_many(alloc, db),
+        LedgerError::Memory => Trouble::Memory,
     }
 }
 
@@ -131,40 +99,36 @@ fn failure_of<'a>(
 fn filed_of<'a, S: BuildHasher + Drop>(
     alloc: Global,
     state: S,
-    request: &Job<'a>,
+    job: &Job<'a>,
     inputs: &[Input<'a>],
     columns: Columns<&str>,
     reading: Reading,
     kept: &[(String, usize)],
-) -> Result<Filed, Failure<'a>>
+) -> Result<Filed, Trouble<'a>>
     ensures { IfOk result (λ filed.
-        IsFiledOf request.now reading (columns_by (λ n. n.now) columns.entry) inputs.now kept.now filed) }
+        IsFiledOf job.now reading (names_now columns.entry) inputs.now kept.now filed) }
 {
-    let (files, bad) = all_movements(alloc, request, inputs, columns, reading)?;
+    let (files, bad) = all_movements(alloc, job, inputs, columns, reading)?;
     let filed = match enter_files(alloc, state, kept, files) {
         Ok(filed) => filed,
-        Err(error) => return Err(failure_of(alloc, request.db, inputs, reading, error)),
+        Err(error) => return Err(trouble_of(alloc, job.db, inputs, reading, error)),
     };
     match bad {
-        Some(failure) => Err(failure),
+        Some(trouble) => Err(trouble),
         None => Ok(filed),
     }
 }
 
-// Returns what holds of the rows of the stock.
-fn shape_of<'a>(request: &Job<'a>, contents: Contents) -> Result<Shape, Failure<'a>> {
-    let db = request.db;
-    match (contents, request.scale) {
-        (Contents::Empty, _) => Ok(Shape::of_new(request.style(request.asked_style()))),
+// Returns the shape of the stock, or that of a new one if the database is empty.
+fn shape_of<'a>(alloc: Global, job: &Job<'a>, contents: Contents) -> Result<Shape, Trouble<'a>> {
+    let db = job.db;
+    match (contents, job.scale) {
+        (Contents::Empty, _) => Ok(Shape::of_new(job.style(job.asked_style()))),
         (Contents::Stock(shape), Some(asked)) if shape.style.scale != asked => {
-            Err(Failure::OtherScale {
-                db,
-                kept: shape.style.scale,
-                asked,
-            })
+            Err(other_scale(alloc, db, shape.style.scale, asked))
         }
-        (Contents::Stock(shape), _) if has_extras(request) && !shape.is_dated() => {
-            Err(Failure::NoDates { db })
+        (Contents::Stock(shape), _) if has_extras(job) && !shape.is_dated() => {
+            Err(no_dates(alloc, db))
         }
         (Contents::Stock(shape), _) => Ok(shape),
     }
@@ -220,8 +184,8 @@ fn write<'a, D: Alter>(
     inputs: &[Input<'a>],
     extras: &[Extra],
     ready: &Ready,
-) -> Result<String, Failure<'a>> {
-    let time = in_database(db, time_of(conn))?;
+) -> Result<String, Trouble<'a>> {
+    let time = in_database(alloc, db, time_of(conn))?;
     let (before, filed) = (&ready.before, &ready.filed);
     let drafts = drafts_of(alloc, inputs, &filed.counts, before.number(), time.as_str())?;
     let entries = &filed.booked.entries;
@@ -234,7 +198,7 @@ fn write<'a, D: Alter>(
         changed: &filed.changed,
     };
     let said = entered_text(alloc, db, before.movements(), &batches)?;
-    put(db, conn, new_stock, &new)?;
+    put(alloc, db, conn, new_stock, &new)?;
     Ok(said)
 }
 
@@ -250,15 +214,15 @@ fn names_of<'a>(alloc: Global, inputs: &[Input<'a>]) -> Result<Vec<&'a str>, All
 // Returns the text of the refusals.
 fn text_of<'a>(
     alloc: Global,
-    request: &Job<'a>,
+    job: &Job<'a>,
     inputs: &[Input<'a>],
     reading: Reading,
     filed: &Filed,
 ) -> Result<Vec<u8>, AllocError> {
-    let refusals = refusals_of(alloc, &filed.booked.entries, request.strict)?;
+    let refusals = refusals_of(alloc, &filed.booked.entries, job.strict)?;
     let names = names_of(alloc, inputs)?;
     // A table for a file, lines for standard error.
-    match request.refused {
+    match job.refused {
         Some(_) => refusals_table(alloc, &names, reading, &refusals),
         None => Ok(refusals_text(alloc, &names, reading.scale, &refusals)?.into_bytes()),
     }
@@ -286,18 +250,18 @@ fn status_of(filed: &Filed) -> u8
 pub fn filed_anew<'a, S: BuildHasher + Drop>(
     alloc: Global,
     state: S,
-    request: &Job<'a>,
+    job: &Job<'a>,
     inputs: &[Input<'a>],
-) -> Result<Filed, Failure<'a>>
+) -> Result<Filed, Trouble<'a>>
     // All movements of all inputs are booked, read as the job says.
-    ensures { IfOk result (IsFiledAnew request.now inputs.now) }
+    ensures { IfOk result (IsFiledAnew job.now inputs.now) }
 {
-    let reading = request.reading(request.asked_style());
-    let columns = request.columns_or(plain_columns());
-    let filed = filed_of(alloc, state, request, inputs, columns, reading, &[])?;
-    extras_of(alloc, request, inputs, reading.delimiter)?;
-    if !request.again {
-        entered_twice(inputs, &[])?;
+    let reading = job.reading(job.asked_style());
+    let columns = job.columns_or(plain_columns());
+    let filed = filed_of(alloc, state, job, inputs, columns, reading, &[])?;
+    extras_of(alloc, job, inputs, reading.delimiter)?;
+    if !job.again {
+        entered_twice(alloc, inputs, &[])?;
     }
     Ok(filed)
 }
@@ -306,26 +270,27 @@ pub fn filed_anew<'a, S: BuildHasher + Drop>(
 fn filed_in<'a, S: BuildHasher + Drop>(
     alloc: Global,
     state: S,
-    request: &Job<'a>,
+    job: &Job<'a>,
     inputs: &[Input<'a>],
     before: &Before,
     contents: Contents,
     anew: Option<Filed>,
-) -> Result<Filed, Failure<'a>>
-    ensures empty { contents ≡ Contents.Empty → IsAnewIfThere request.now inputs.now anew → IfOk result (IsFiledAnew request.now inputs.now) }
+) -> Result<Filed, Trouble<'a>>
+    ensures empty { contents ≡ Contents.Empty → IsAnewIfThere job.now inputs.now anew
+        → IfOk result (IsFiledAnew job.now inputs.now) }
     ensures stock { IfStock contents (λ shape. IfOk result
-        (IsFiledAs request.now shape.style (kept_names before.now.columns) inputs.now before.now.balance.items)) }
+        (IsFiledAs job.now shape.style (kept_names before.now.columns) inputs.now before.now.balance.items)) }
 {
     match (contents, anew) {
         (Contents::Empty, Some(filed)) => Ok(filed),
-        (Contents::Empty, None) => filed_anew(alloc, state, request, inputs),
+        (Contents::Empty, None) => filed_anew(alloc, state, job, inputs),
         (Contents::Stock(shape), _) => {
-            let reading = request.reading(shape.style);
-            let columns = request.columns_or(before.names());
+            let reading = job.reading(shape.style);
+            let columns = job.columns_or(before.names());
             filed_of(
                 alloc,
                 state,
-                request,
+                job,
                 inputs,
                 columns,
                 reading,
@@ -340,16 +305,16 @@ fn filed_in<'a, S: BuildHasher + Drop>(
 fn ready_in<'a, D: Alter, S: BuildHasher + Drop>(
     alloc: Global,
     state: S,
-    request: &Job<'a>,
+    job: &Job<'a>,
     inputs: &[Input<'a>],
     conn: &mut Connection<D>,
     contents: Contents,
     anew: Option<Filed>,
-) -> Result<Ready, Failure<'a>>
-    ensures { IsAnewIfThere request.now inputs.now anew → IfOk result (IsFiledIn request.now contents inputs.now) }
+) -> Result<Ready, Trouble<'a>>
+    ensures { IsAnewIfThere job.now inputs.now anew → IfOk result (IsFiledIn job.now contents inputs.now) }
 {
-    let before = before_in(alloc, request, inputs, conn, contents)?;
-    let filed = filed_in(alloc, state, request, inputs, &before, contents, anew)?;
+    let before = before_in(alloc, job, inputs, conn, contents)?;
+    let filed = filed_in(alloc, state, job, inputs, &before, contents, anew)?;
     Ok(Ready { before, filed })
 }
 
@@ -362,31 +327,31 @@ fn ready_in<'a, D: Alter, S: BuildHasher + Drop>(
 pub fn report_in<'a, D: Alter, S: BuildHasher + Drop>(
     alloc: Global,
     state: S,
-    request: &Job<'a>,
+    job: &Job<'a>,
     inputs: &[Input<'a>],
     conn: &mut Connection<D>,
     contents: Contents,
     anew: Option<Filed>,
-) -> Result<Report, Failure<'a>>
+) -> Result<Report, Trouble<'a>>
     // If `anew` is what the inputs do to an empty stock, as `filed_anew` returns it, then `ready` is what they do to the balance that was
     // read: all movements of all inputs are booked on it.
-    ensures filed { IsAnewIfThere request.now inputs.now anew
-        → IfOk result (λ r. IsThereAsFiled request.now contents inputs.now r.ready) }
+    ensures filed { IsAnewIfThere job.now inputs.now anew
+        → IfOk result (λ r. IsThereAsFiled job.now contents inputs.now r.ready) }
 
     // The status is 1 exactly if a movement is refused.
     ensures status { IfOk result (λ report. IsSomeAnd report.ready (λ ready.
         report.status ≡ status_after ready.filed)) }
 {
-    let db = request.db;
-    let shape = shape_of(request, contents)?;
-    let ready = ready_in(alloc, state, request, inputs, conn, contents, anew)?;
-    let reading = request.reading(shape.style);
-    let extras = extras_of(alloc, request, inputs, reading.delimiter)?;
-    let refusals = text_of(alloc, request, inputs, reading, &ready.filed)?;
-    let said = if request.strict && is_refused(&ready.filed) {
+    let db = job.db;
+    let shape = shape_of(alloc, job, contents)?;
+    let ready = ready_in(alloc, state, job, inputs, conn, contents, anew)?;
+    let reading = job.reading(shape.style);
+    let extras = extras_of(alloc, job, inputs, reading.delimiter)?;
+    let refusals = text_of(alloc, job, inputs, reading, &ready.filed)?;
+    let said = if job.strict && is_refused(&ready.filed) {
         String::new(alloc)
     } else {
-        let columns = columns_text(alloc, request.columns_or(ready.before.names()))?;
+        let columns = columns_text(alloc, job.columns_or(ready.before.names()))?;
         let new_stock = new_stock_of(contents, shape, columns.as_str());
         write(alloc, conn, db, shape, new_stock, inputs, &extras, &ready)?
     };
@@ -405,16 +370,16 @@ pub fn report_in<'a, D: Alter, S: BuildHasher + Drop>(
 /// An allocation fails.
 pub fn denied_report(
     alloc: Global,
-    request: &Job<'_>,
+    job: &Job<'_>,
     inputs: &[Input<'_>],
     filed: &Filed,
 ) -> Result<Report, AllocError>
     ensures ready { IfOk result (λ report. report.ready ≡ None) }
     ensures status { IfOk result (λ report. report.status ≡ 1) }
 {
-    let reading = request.reading(request.asked_style());
+    let reading = job.reading(job.asked_style());
     Ok(Report {
-        refusals: text_of(alloc, request, inputs, reading, filed)?,
+        refusals: text_of(alloc, job, inputs, reading, filed)?,
         said: String::new(alloc),
         status: DENIED,
         ready: None,
@@ -439,15 +404,15 @@ pub struct Closed {
 /// Why it can't be read.
 pub fn closed_in<'a, D: Alter>(
     alloc: Global,
-    request: &Job<'a>,
+    job: &Job<'a>,
     shape: Shape,
     conn: &mut Connection<D>,
-) -> Result<Closed, Failure<'a>> {
-    let db = request.db;
+) -> Result<Closed, Trouble<'a>> {
+    let db = job.db;
     Ok(Closed {
         shape,
         columns: kept_columns(alloc, db, conn, shape)?,
-        balance: in_database(db, balance_of(alloc, conn))?,
+        balance: in_database(alloc, db, balance_of(alloc, conn))?,
     })
 }
 
@@ -458,12 +423,12 @@ pub fn closed_in<'a, D: Alter>(
 /// An allocation fails.
 pub fn beginning_of<'a>(
     alloc: Global,
-    request: &Job<'a>,
+    job: &Job<'a>,
     closed: &Closed,
-) -> Result<Input<'a>, Failure<'a>> {
-    let reading = request.reading(closed.shape.style);
+) -> Result<Input<'a>, Trouble<'a>> {
+    let reading = job.reading(closed.shape.style);
     let text = balance_text(alloc, ("article", "number"), reading, &closed.balance)?;
-    input_of(alloc, request.db, text, None, true)
+    input_of(alloc, job.db, text, None, true)
 }
 
 /// Writes the first batch of a new database, which keeps what the closed one kept, and what the job names in place of it.
@@ -474,19 +439,19 @@ pub fn beginning_of<'a>(
 pub fn begin_in<'a, D: Alter, S: BuildHasher + Drop>(
     alloc: Global,
     state: S,
-    request: &Job<'a>,
+    job: &Job<'a>,
     closed: &Closed,
     inputs: &[Input<'a>],
     conn: &mut Connection<D>,
-) -> Result<(), Failure<'a>> {
-    let (contents, db) = (Contents::Empty, request.into);
-    let reading = request.reading(closed.shape.style);
-    let columns = request.columns_or(closed.columns.names());
+) -> Result<(), Trouble<'a>> {
+    let (contents, db) = (Contents::Empty, job.into);
+    let reading = job.reading(closed.shape.style);
+    let columns = job.columns_or(closed.columns.names());
     let ready = Ready {
-        before: before_in(alloc, request, inputs, conn, contents)?,
-        filed: filed_of(alloc, state, request, inputs, columns, reading, &[])?,
+        before: before_in(alloc, job, inputs, conn, contents)?,
+        filed: filed_of(alloc, state, job, inputs, columns, reading, &[])?,
     };
-    let shape = Shape::of_new(request.style(closed.shape.style));
+    let shape = Shape::of_new(job.style(closed.shape.style));
     let text = columns_text(alloc, columns)?;
     let new_stock = new_stock_of(contents, shape, text.as_str());
     write(alloc, conn, db, shape, new_stock, inputs, &[], &ready)?;

@@ -6,13 +6,13 @@ ghost use Rattle.hashbag_ledger_db.specs.Filed.{status_after};
 ghost use Rattle.hashbag_ledger_db.specs.Inputs.{AreInputsOf, IsRead, IsReadyOf, named};
 
 use crate::entering::{Report, denied_report, filed_anew, is_refused, report_in};
-use crate::failure::Failure;
 use crate::movements::{Input, input_of};
 use hashbag_ledger_args::job::Job;
 use hashbag_shell::inputs::Inputs;
+use hashbag_shell::trouble::Trouble;
 use hashbag_stock::tables::Contents;
 use sqlite::{Alter, Connection};
-use std::alloc::Global;
+use std::alloc::{AllocError, Global};
 use std::hash::BuildHasher;
 
 /// The databases that a program has. An open one is a `C`.
@@ -25,14 +25,14 @@ pub trait Databases<C> {
     /// # Errors
     ///
     /// An allocation fails.
-    fn is_new<'a>(&self, db: &'a str) -> Result<bool, Failure<'a>>;
+    fn is_new<'a>(&self, db: &'a str) -> Result<bool, Trouble<'a>>;
 
     /// Opens a database, or makes it, and returns what it has. It waits for `wait` seconds at most while another process has it open.
     ///
     /// # Errors
     ///
-    /// Why it gives or takes no stock.
-    fn open_or_make<'a>(&self, db: &'a str, wait: usize) -> Result<(C, Contents), Failure<'a>>
+    /// Why it can't be opened as the database of a stock.
+    fn open_or_make<'a>(&self, db: &'a str, wait: usize) -> Result<(C, Contents), Trouble<'a>>
         ensures { IfOk result (λ opened. has self.now db.now opened.1) };
 
     /// Closes a database.
@@ -43,31 +43,33 @@ pub trait Databases<C> {
 fn read_input<'a, I: Inputs>(
     alloc: Global,
     files: &I,
-    request: &Job<'_>,
+    job: &Job<'_>,
     file: &'a str,
     is_start: bool,
-) -> Result<Input<'a>, Failure<'a>>
+) -> Result<Input<'a>, Trouble<'a>>
     ensures named { IfOk result (λ input. named input ≡ (file.now, is_start)) }
-    ensures read { IfOk result (IsRead (I.gives files.now) request.now) }
+    ensures read { IfOk result (IsRead (I.gives files.now) job.now) }
 {
     let bytes = files.read(file)?;
-    input_of(alloc, file, bytes, request.encoding_of(is_start), is_start)
+    input_of(alloc, file, bytes, job.encoding_of(is_start), is_start)
 }
 
 // Reads the stock at the beginning, if there is one, and all files of movements.
 fn inputs_of<'a, I: Inputs>(
     alloc: Global,
     files: &I,
-    request: &Job<'a>,
-) -> Result<Vec<Input<'a>>, Failure<'a>>
-    ensures { IfOk result (λ inputs. AreInputsOf (I.gives files.now) request.now inputs.items) }
+    job: &Job<'a>,
+) -> Result<Vec<Input<'a>>, Trouble<'a>>
+    ensures { IfOk result (λ inputs. AreInputsOf (I.gives files.now) job.now inputs.items) }
 {
     let mut inputs = Vec::new(alloc);
-    if let Some(file) = request.from {
-        inputs.push(read_input(alloc, files, request, file, true)?)?;
+    if let Some(file) = job.from {
+        let input = read_input(alloc, files, job, file, true)?;
+        inputs.push(input).map_err(AllocError::from)?;
     }
-    for file in &request.files {
-        inputs.push(read_input(alloc, files, request, *file, false)?)?;
+    for file in &job.files {
+        let input = read_input(alloc, files, job, *file, false)?;
+        inputs.push(input).map_err(AllocError::from)?;
     }
     Ok(inputs)
 }
@@ -84,33 +86,28 @@ pub fn enter_named<
     I: Inputs,
     F: Databases<Connection<D>>,
     S: BuildHasher + Copy + Drop,
->(
-    alloc: Global,
-    state: S,
-    files: &I,
-    databases: &F,
-    request: &Job<'a>,
-) -> Result<Report, Failure<'a>>
+>(alloc: Global, state: S, files: &I, databases: &F, job: &Job<'a>) -> Result<Report, Trouble<'a>>
     // All movements of all files that are named are booked on the balance that the database had.
-    ensures filed { IfOk result (λ report. IfSome report.ready (IsReadyOf (I.gives files.now) (F.has databases.now) request.now)) }
+    ensures filed { IfOk result (λ report.
+        IfSome report.ready (IsReadyOf (I.gives files.now) (F.has databases.now) job.now)) }
 
     // The status is 1 exactly if a movement is refused.
     ensures status { IfOk result (λ report. IfSome report.ready (λ ready. report.status ≡ status_after ready.filed)) }
 
-    // No database is opened only if `strict` is set, and a movement is refused.
-    ensures denied { IfOk result (λ report. report.ready ≡ None → (request.now.strict ≡ true) × (report.status ≡ 1)) }
+    // If no database was opened, `strict` is set, and a movement is refused.
+    ensures denied { IfOk result (λ report. report.ready ≡ None → (job.now.strict ≡ true) × (report.status ≡ 1)) }
 {
-    let inputs = inputs_of(alloc, files, request)?;
+    let inputs = inputs_of(alloc, files, job)?;
     let mut anew = None;
-    if databases.is_new(request.db)? {
-        let filed = filed_anew(alloc, state, request, &inputs)?;
-        if request.strict && is_refused(&filed) {
-            return Ok(denied_report(alloc, request, &inputs, &filed)?);
+    if databases.is_new(job.db)? {
+        let filed = filed_anew(alloc, state, job, &inputs)?;
+        if job.strict && is_refused(&filed) {
+            return Ok(denied_report(alloc, job, &inputs, &filed)?);
         }
         anew = Some(filed);
     }
-    let (mut conn, contents) = databases.open_or_make(request.db, request.wait)?;
-    let report = report_in(alloc, state, request, &inputs, &mut conn, contents, anew)?;
+    let (mut conn, contents) = databases.open_or_make(job.db, job.wait)?;
+    let report = report_in(alloc, state, job, &inputs, &mut conn, contents, anew)?;
     databases.close(conn);
     Ok(report)
 }

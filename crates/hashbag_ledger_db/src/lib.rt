@@ -5,12 +5,12 @@
 pub mod before;
 pub mod counting;
 pub mod entering;
-pub mod failure;
 pub mod files;
 pub mod movements;
 pub mod putting;
 pub mod said;
 pub mod showing;
+pub mod troubles;
 pub mod undoing;
 pub mod unkept;
 pub mod verifying;

@@ -1,16 +1,16 @@
 //! The movements of the inputs.
 ghost use Rattle.std.specs.Prelude.{◌≡◌, map, IfOk};
-ghost use Rattle.hashbag_ledger_db.specs.Filed.{plain_movement, rows_in};
+ghost use Rattle.hashbag_ledger_db.specs.Filed.{plain_movement, input_rows};
 ghost use Rattle.hashbag_ledger_db.specs.Inputs.{named, IsTextOf};
-ghost use Rattle.hashbag_ledger_lib.specs.Movements.{columns_by, said};
+ghost use Rattle.hashbag_ledger_lib.specs.Movements.{content_of, names_now};
 
-use crate::failure::Failure;
+use crate::troubles::of_extras;
 use hashbag_csv::counts::{Reading, read_counts_as};
 use hashbag_csv::delimiter::Delimiter;
 use hashbag_csv::fault::{SheetError, in_file};
 use hashbag_ledger_args::job::Job;
 use hashbag_ledger_args::start::in_start;
-use hashbag_ledger_lib::extras::{Extra, ExtraColumns, ExtraError, read_extras};
+use hashbag_ledger_lib::extras::{Extra, ExtraColumns, read_extras};
 use hashbag_ledger_lib::movements::Movement;
 use hashbag_ledger_lib::numbers::plain_change;
 use hashbag_ledger_lib::reading::{ChangeColumns, Columns, read_movements};
@@ -45,7 +45,7 @@ pub fn input_of<'a>(
     bytes: Vec<u8>,
     encoding: Option<Encoding>,
     is_start: bool,
-) -> Result<Input<'a>, Failure<'a>>
+) -> Result<Input<'a>, Trouble<'a>>
     ensures named { IfOk result (λ input. named input ≡ (file.now, is_start)) }
     ensures text { IfOk result (IsTextOf encoding bytes.items) }
 {
@@ -108,69 +108,56 @@ fn plain_movements(
 /// What is wrong with its first bad line, or a failed allocation.
 pub(crate) fn read<'a>(
     alloc: Global,
-    request: &Job<'a>,
+    job: &Job<'a>,
     input: &Input<'a>,
-    at: usize,
+    file: usize,
     columns: Columns<&str>,
     reading: Reading,
 ) -> Result<Vec<Movement<String>>, SheetError>
-    ensures { IfOk result (λ all. map said all.items
-        ≡ rows_in request.now reading (columns_by (λ n. n.now) columns.entry) input.now) }
+    ensures { IfOk result (λ all. map content_of all.items
+        ≡ input_rows job.now reading (names_now columns.entry) input.now) }
 {
     let text = input.text.as_slice();
     if !input.is_start {
-        let movements = read_movements(alloc, text, at, columns, reading)?;
+        let movements = read_movements(alloc, text, file, columns, reading)?;
         return Ok(plain_movements(alloc, movements)?);
     }
     // The first read rejects signs. The second returns the movements with their lines.
-    let (article, number) = request.start_columns;
+    let (article, number) = job.start_columns;
     read_counts_as(alloc, text, article, number, reading)?;
     let change = ChangeColumns::Signed(number);
     let columns = Columns { article, change };
-    let movements = read_movements(alloc, text, at, columns, reading)?;
+    let movements = read_movements(alloc, text, file, columns, reading)?;
     Ok(plain_movements(alloc, movements)?)
 }
 
-/// Returns the movements of an input, whose columns have these names. The opening stock, which has its own, becomes incoming movements.
+/// Returns the movements of an input, whose columns have these names. The stock at the beginning, which has columns of its
+/// own, becomes incoming movements.
 ///
 /// # Errors
 ///
 /// What is wrong with its first bad line, or a failed allocation.
 pub fn movements_of<'a>(
     alloc: Global,
-    request: &Job<'a>,
+    job: &Job<'a>,
     input: &Input<'a>,
-    at: usize,
+    file: usize,
     columns: Columns<&str>,
     reading: Reading,
-) -> Result<Vec<Movement<String>>, Failure<'a>>
-    ensures { IfOk result (λ all. map said all.items
-        ≡ rows_in request.now reading (columns_by (λ n. n.now) columns.entry) input.now) }
+) -> Result<Vec<Movement<String>>, Trouble<'a>>
+    ensures { IfOk result (λ all. map content_of all.items
+        ≡ input_rows job.now reading (names_now columns.entry) input.now) }
 {
-    let read = read(alloc, request, input, at, columns, reading);
+    let read = read(alloc, job, input, file, columns, reading);
     if input.is_start {
-        return Ok(in_start(alloc, input.file, read)?);
+        return in_start(alloc, input.file, read);
     }
-    Ok(in_file(alloc, input.file, read)?)
-}
-
-// Returns the failure for dates and notes that can't be read.
-fn failure_of<'a>(alloc: Global, file: &'a str, error: ExtraError) -> Failure<'a> {
-    match error {
-        ExtraError::NoDate { line, field } => Failure::NoDate { file, line, field },
-        ExtraError::Sheet(error) => {
-            let read: Result<(), SheetError> = Err(error);
-            match in_file(alloc, file, read) {
-                Ok(()) => Failure::from(Trouble::Memory),
-                Err(trouble) => Failure::from(trouble),
-            }
-        }
-    }
+    in_file(alloc, input.file, read)
 }
 
 /// Returns whether a column of dates or of notes is named.
-pub fn has_extras(request: &Job<'_>) -> bool {
-    request.extras.date.is_some() || request.extras.note.is_some()
+pub fn has_extras(job: &Job<'_>) -> bool {
+    job.extras.date.is_some() || job.extras.note.is_some()
 }
 
 /// Returns the dates and notes of all movements of the inputs, in turn; none if no column of them is named. The stock at the beginning has
@@ -181,12 +168,12 @@ pub fn has_extras(request: &Job<'_>) -> bool {
 /// What is wrong with its first bad line, or a failed allocation.
 pub fn extras_of<'a>(
     alloc: Global,
-    request: &Job<'a>,
+    job: &Job<'a>,
     inputs: &[Input<'a>],
     delimiter: Delimiter,
-) -> Result<Vec<Extra>, Failure<'a>> {
+) -> Result<Vec<Extra>, Trouble<'a>> {
     let mut extras = Vec::new(alloc);
-    if !has_extras(request) {
+    if !has_extras(job) {
         return Ok(extras);
     }
     let (date, note) = (None, None);
@@ -194,14 +181,14 @@ pub fn extras_of<'a>(
         let names = if input.is_start {
             ExtraColumns { date, note }
         } else {
-            request.extras
+            job.extras
         };
         match read_extras(alloc, input.text.as_slice(), names, delimiter) {
             Ok(read) => {
                 let mut own = read;
                 extras.append(&mut own)?;
             }
-            Err(error) => return Err(failure_of(alloc, input.file, error)),
+            Err(error) => return Err(of_extras(alloc, input.file, error)),
         }
     }
     Ok(extras)

@@ -1,31 +1,28 @@
 //! What is written into a database, and the errors of databases.
 ghost use Rattle.std.specs.Prelude.{◌≡◌, Ok, IfOk};
 
-use crate::failure::Failure;
+use crate::troubles::of_stock;
+use hashbag_shell::trouble::Trouble;
 use hashbag_stock::error::StockError;
 use hashbag_stock::writing::{NewRows, NewStock, put_batches};
 use sqlite::{Alter, Connection};
-use std::alloc::AllocError;
+use std::alloc::Global;
 
-/// Returns a database's error as a failure.
-pub fn failure_of<'a>(db: &'a str, error: StockError) -> Failure<'a> {
-    match error {
-        StockError::Memory => Failure::from(AllocError),
-        error => Failure::Stock { db, error },
-    }
-}
-
-/// Returns what was done in a database, or its failure.
+/// Returns what was done in a database, or its trouble.
 ///
 /// # Errors
 ///
 /// Why it wasn't done.
-pub fn in_database<'a, T>(db: &'a str, done: Result<T, StockError>) -> Result<T, Failure<'a>>
+pub fn in_database<'a, T>(
+    alloc: Global,
+    db: &str,
+    done: Result<T, StockError>,
+) -> Result<T, Trouble<'a>>
     ensures { IfOk result (λ value. done ≡ Ok value) }
 {
     match done {
         Ok(value) => Ok(value),
-        Err(error) => Err(failure_of(db, error)),
+        Err(error) => Err(of_stock(alloc, db, error)),
     }
 }
 
@@ -35,10 +32,11 @@ pub fn in_database<'a, T>(db: &'a str, done: Result<T, StockError>) -> Result<T,
 ///
 /// Why they can't be written. Then nothing is.
 pub fn put<'a, D: Alter>(
-    db: &'a str,
+    alloc: Global,
+    db: &str,
     conn: &mut Connection<D>,
     new_stock: Option<NewStock<'_>>,
     new: &NewRows<'_>,
-) -> Result<(), Failure<'a>> {
-    in_database(db, put_batches(conn, new_stock, new))
+) -> Result<(), Trouble<'a>> {
+    in_database(alloc, db, put_batches(conn, new_stock, new))
 }

@@ -1,10 +1,9 @@
 //! What is shown of a stock: its balance, the history of an article, the batches, and the movements of one.
 ghost use Rattle.std.specs.Prelude.{◌≡◌, Ok, IfOk};
 
-use crate::entering::start_too_many;
-use crate::failure::Failure;
 use crate::putting::in_database;
 use crate::said::{absent_text, unmoved_text};
+use crate::troubles::{moved_too_much, no_day, start_too_many};
 use crate::undoing::wanted_of;
 use hashbag_ledger_args::job::Job;
 use hashbag_ledger_lib::balance_forms::{formed_text, rows_of};
@@ -15,6 +14,7 @@ use hashbag_ledger_lib::listing::{batches_text, history_text, movements_text};
 use hashbag_ledger_lib::movements::{Change, Entry};
 use hashbag_ledger_lib::numbers::size_of;
 use hashbag_ledger_lib::recalling::{recall, recall_batch};
+use hashbag_shell::trouble::Trouble;
 use hashbag_stock::reading::{
     balance_of, batches_of, dated_movements_of, movements_of_article, movements_until,
 };
@@ -81,17 +81,17 @@ fn rows_with_some<'b>(
 // Returns what is shown of a balance: all its rows, or those of some articles; and which of these aren't there.
 fn shown_of(
     alloc: Global,
-    request: &Job<'_>,
+    job: &Job<'_>,
     shape: Shape,
     rows: Vec<(&str, Change)>,
 ) -> Result<Shown, AllocError> {
-    let said = absent_text(alloc, request.db, &rows, &request.articles)?;
-    let reading = request.reading(shape.style);
-    let table = if request.articles.is_empty() {
-        formed_text(alloc, reading, request.form, &rows)?
+    let said = absent_text(alloc, job.db, &rows, &job.articles)?;
+    let reading = job.reading(shape.style);
+    let table = if job.articles.is_empty() {
+        formed_text(alloc, reading, job.form, &rows)?
     } else {
-        let chosen = chosen_of(alloc, &rows, &request.articles)?;
-        formed_text(alloc, reading, request.form, &chosen)?
+        let chosen = chosen_of(alloc, &rows, &job.articles)?;
+        formed_text(alloc, reading, job.form, &chosen)?
     };
     Ok(Shown { table, said })
 }
@@ -103,12 +103,12 @@ fn shown_of(
 /// Why there is none.
 pub fn balance_in<'a, D: Alter>(
     alloc: Global,
-    request: &Job<'a>,
+    job: &Job<'a>,
     shape: Shape,
     conn: &mut Connection<D>,
-) -> Result<Shown, Failure<'a>> {
-    let all = in_database(request.db, balance_of(alloc, conn))?;
-    Ok(shown_of(alloc, request, shape, rows_of(alloc, &all)?)?)
+) -> Result<Shown, Trouble<'a>> {
+    let all = in_database(alloc, job.db, balance_of(alloc, conn))?;
+    Ok(shown_of(alloc, job, shape, rows_of(alloc, &all)?)?)
 }
 
 /// Returns the balance of an open database on a day, or the numbers of some articles then; and which of these aren't there. A number may be
@@ -120,39 +120,40 @@ pub fn balance_in<'a, D: Alter>(
 pub fn balance_at_in<'a, D: Alter, S: BuildHasher + Copy + Drop>(
     alloc: Global,
     state: S,
-    request: &Job<'a>,
+    job: &Job<'a>,
     shape: Shape,
     conn: &mut Connection<D>,
     date: &str,
-) -> Result<Shown, Failure<'a>> {
+) -> Result<Shown, Trouble<'a>> {
     if !is_date(date) {
-        return Err(Failure::NoDay);
+        return Err(no_day(alloc));
     }
-    let db = request.db;
-    let movements = in_database(db, dated_movements_of(alloc, conn, shape))?;
-    let entries = recalled_in(db, recall(alloc, state, movements))?;
+    let db = job.db;
+    let movements = in_database(alloc, db, dated_movements_of(alloc, conn, shape))?;
+    let entries = recalled_in(alloc, db, recall(alloc, state, movements))?;
     match balance_at(alloc, state, date, &entries) {
         Ok(all) => {
             let rows = rows_with_some(alloc, &all)?;
-            Ok(shown_of(alloc, request, shape, rows)?)
+            Ok(shown_of(alloc, job, shape, rows)?)
         }
-        Err(DatedError::Memory) => Err(Failure::from(AllocError)),
-        Err(DatedError::MovedTooMuch) => Err(Failure::MovedTooMuch { db }),
+        Err(DatedError::Memory) => Err(Trouble::Memory),
+        Err(DatedError::MovedTooMuch) => Err(moved_too_much(alloc, db)),
     }
 }
 
 // Returns what became of movements of a database, each with what it carries along.
 fn recalled_in<'a, X>(
-    db: &'a str,
+    alloc: Global,
+    db: &str,
     recalled: Result<Vec<(Entry<String>, X)>, LedgerError>,
-) -> Result<Vec<(Entry<String>, X)>, Failure<'a>>
+) -> Result<Vec<(Entry<String>, X)>, Trouble<'a>>
     ensures { IfOk result (λ entries. recalled ≡ Ok entries) }
 {
     match recalled {
         Ok(entries) => Ok(entries),
-        Err(LedgerError::Memory) => Err(Failure::from(AllocError)),
+        Err(LedgerError::Memory) => Err(Trouble::Memory),
         // No movements that were entered make an article too large.
-        Err(_) => Err(start_too_many(db)),
+        Err(_) => Err(start_too_many(alloc, db)),
     }
 }
 
@@ -164,17 +165,17 @@ fn recalled_in<'a, X>(
 pub fn show_in<'a, D: Alter, S: BuildHasher + Drop>(
     alloc: Global,
     state: S,
-    request: &Job<'a>,
+    job: &Job<'a>,
     shape: Shape,
     conn: &mut Connection<D>,
-) -> Result<Shown, Failure<'a>> {
-    let db = request.db;
-    let batches = in_database(db, batches_of(alloc, conn, shape))?;
-    let number = wanted_of(request, &batches)?.number;
-    let movements = in_database(db, movements_until(alloc, conn, shape, number))?;
+) -> Result<Shown, Trouble<'a>> {
+    let db = job.db;
+    let batches = in_database(alloc, db, batches_of(alloc, conn, shape))?;
+    let number = wanted_of(alloc, job, &batches)?.number;
+    let movements = in_database(alloc, db, movements_until(alloc, conn, shape, number))?;
     let batch = number.unsigned_abs() as usize;
-    let entries = recalled_in(db, recall_batch(alloc, state, movements, batch))?;
-    let table = movements_text(alloc, request.reading(shape.style), &entries)?;
+    let entries = recalled_in(alloc, db, recall_batch(alloc, state, movements, batch))?;
+    let table = movements_text(alloc, job.reading(shape.style), &entries)?;
     let said = String::new(alloc);
     Ok(Shown { table, said })
 }
@@ -187,22 +188,22 @@ pub fn show_in<'a, D: Alter, S: BuildHasher + Drop>(
 pub fn history_in<'a, D: Alter, S: BuildHasher + Drop>(
     alloc: Global,
     state: S,
-    request: &Job<'a>,
+    job: &Job<'a>,
     shape: Shape,
     conn: &mut Connection<D>,
-) -> Result<Shown, Failure<'a>> {
-    let article = request.articles.first().copied().unwrap_or("");
-    let db = request.db;
-    let batches = in_database(db, batches_of(alloc, conn, shape))?;
-    let movements = in_database(db, movements_of_article(alloc, conn, shape, article))?;
+) -> Result<Shown, Trouble<'a>> {
+    let article = job.articles.first().copied().unwrap_or("");
+    let db = job.db;
+    let batches = in_database(alloc, db, batches_of(alloc, conn, shape))?;
+    let movements = in_database(alloc, db, movements_of_article(alloc, conn, shape, article))?;
     let said = if movements.is_empty() {
-        let balance = in_database(db, balance_of(alloc, conn))?;
+        let balance = in_database(alloc, db, balance_of(alloc, conn))?;
         unmoved_text(alloc, db, &rows_of(alloc, &balance)?, article)?
     } else {
         String::new(alloc)
     };
-    let entries = recalled_in(db, recall(alloc, state, movements))?;
-    let table = history_text(alloc, request.reading(shape.style), &batches, &entries)?;
+    let entries = recalled_in(alloc, db, recall(alloc, state, movements))?;
+    let table = history_text(alloc, job.reading(shape.style), &batches, &entries)?;
     Ok(Shown { table, said })
 }
 
@@ -213,12 +214,12 @@ pub fn history_in<'a, D: Alter, S: BuildHasher + Drop>(
 /// Why they can't be read.
 pub fn batches_in<'a, D: Alter>(
     alloc: Global,
-    request: &Job<'a>,
+    job: &Job<'a>,
     shape: Shape,
     conn: &mut Connection<D>,
-) -> Result<Shown, Failure<'a>> {
-    let batches = in_database(request.db, batches_of(alloc, conn, shape))?;
-    let table = batches_text(alloc, request.reading(shape.style), &batches)?;
+) -> Result<Shown, Trouble<'a>> {
+    let batches = in_database(alloc, job.db, batches_of(alloc, conn, shape))?;
+    let table = batches_text(alloc, job.reading(shape.style), &batches)?;
     let said = String::new(alloc);
     Ok(Shown { table, said })
 }

@@ -1,15 +1,12 @@
 //! A batch that is taken back, in an open database.
-use crate::entering::start_too_many;
-use crate::failure::Failure;
 use crate::putting::{in_database, put as put_in};
 use crate::said::{entered_text, movements_in};
-use hashbag_csv::decimals::write_decimal;
+use crate::troubles::{no_batch, start_too_many, too_large, undone_before};
 use hashbag_ledger_args::job::Job;
 use hashbag_ledger_lib::entering::LedgerError;
 use hashbag_ledger_lib::extras::{Extra, opposite_extras};
 use hashbag_ledger_lib::ledger::booking::Booked;
 use hashbag_ledger_lib::movements::{Movement, Refusal};
-use hashbag_ledger_lib::numbers::MOST;
 use hashbag_ledger_lib::once::{Batch, Kind, batch_of, next_number, undone_by};
 use hashbag_ledger_lib::output::refusals_text;
 use hashbag_ledger_lib::pairs::halves;
@@ -18,6 +15,7 @@ use hashbag_ledger_lib::sealing::{Draft, sealed_rows};
 use hashbag_ledger_lib::style::Style;
 use hashbag_ledger_lib::undoing::{Undo, undo_batch};
 use hashbag_shell::status::{DENIED, DONE};
+use hashbag_shell::trouble::Trouble;
 use hashbag_stock::reading::{balance_of, batches_of, entered_of, time_of};
 use hashbag_stock::tables::Shape;
 use hashbag_stock::writing::NewRows;
@@ -74,11 +72,11 @@ fn batch_of_file<'b>(batches: &'b [Batch], file: &str) -> Option<&'b Batch> {
 ///
 /// `NoBatch` if there is none.
 pub(crate) fn wanted_of<'a, 'b>(
-    request: &Job<'a>,
+    alloc: Global,
+    job: &Job<'a>,
     batches: &'b [Batch],
-) -> Result<&'b Batch, Failure<'a>> {
-    let db = request.db;
-    let (wanted, name) = match request.batch {
+) -> Result<&'b Batch, Trouble<'a>> {
+    let (wanted, name) = match job.batch {
         None => (last_of(batches), "to undo"),
         Some(name) => match name.parse::<i64>() {
             Ok(number) => (batch_of(batches, number), name),
@@ -87,19 +85,15 @@ pub(crate) fn wanted_of<'a, 'b>(
     };
     match wanted {
         Some(batch) => Ok(batch),
-        None => Err(Failure::NoBatch { db, name }),
+        None => Err(no_batch(alloc, job.db, name)),
     }
 }
 
 // Returns what is known of the batch that is asked for, if it may be undone.
-fn found_of<'a>(request: &Job<'a>, batches: &[Batch]) -> Result<Found, Failure<'a>> {
-    let batch = wanted_of(request, batches)?;
+fn found_of<'a>(alloc: Global, job: &Job<'a>, batches: &[Batch]) -> Result<Found, Trouble<'a>> {
+    let batch = wanted_of(alloc, job, batches)?;
     match undone_by(batches, batch.number) {
-        Some(other) => Err(Failure::UndoneBefore {
-            db: request.db,
-            number: batch.number,
-            by: other.number,
-        }),
+        Some(other) => Err(undone_before(alloc, job.db, batch.number, other.number)),
         None => Ok(Found {
             number: batch.number,
             file: batch.file.clone()?,
@@ -119,8 +113,8 @@ fn put<'a, D: Alter>(
     booked: &Booked<String>,
     extras: &[Extra],
     changed: &[RowChange],
-) -> Result<String, Failure<'a>> {
-    let time = in_database(db, time_of(conn))?;
+) -> Result<String, Trouble<'a>> {
+    let time = in_database(alloc, db, time_of(conn))?;
     let draft = Draft {
         number: found.by,
         file: found.file.as_str(),
@@ -145,7 +139,7 @@ fn put<'a, D: Alter>(
         changed,
     };
     let said = entered_text(alloc, db, found.movements, &batches)?;
-    put_in(db, conn, None, &new)?;
+    put_in(alloc, db, conn, None, &new)?;
     Ok(said)
 }
 
@@ -153,32 +147,30 @@ fn put<'a, D: Alter>(
 fn found_in<'a, D: Alter>(
     alloc: Global,
     conn: &mut Connection<D>,
-    request: &Job<'a>,
+    job: &Job<'a>,
     shape: Shape,
-) -> Result<Found, Failure<'a>> {
-    let batches = in_database(request.db, batches_of(alloc, conn, shape))?;
-    found_of(request, &batches)
+) -> Result<Found, Trouble<'a>> {
+    let batches = in_database(alloc, job.db, batches_of(alloc, conn, shape))?;
+    found_of(alloc, job, &batches)
 }
 
 // Decides about an undo of these movements in a stock with this balance, and what becomes of the rows of that.
 fn undo_of<'a, S: BuildHasher + Drop>(
     alloc: Global,
     state: S,
-    request: &Job<'a>,
+    job: &Job<'a>,
     style: Style,
     file: &str,
     kept: &[(String, usize)],
     entered: Vec<Movement<String>>,
-) -> Result<(Undo<String>, Vec<RowChange>), Failure<'a>> {
+) -> Result<(Undo<String>, Vec<RowChange>), Trouble<'a>> {
     match undo_batch(alloc, state, kept, entered) {
         Ok(undone) => Ok(undone),
-        Err(LedgerError::TooMany(place)) => Err(Failure::UndoneTotal {
-            file: file.to_string(alloc)?,
-            line: place.line,
-            most: write_decimal(alloc, MOST, request.reading(style).scale)?,
-        }),
-        Err(LedgerError::StartTooMany) => Err(start_too_many(request.db)),
-        Err(LedgerError::Memory) => Err(Failure::from(AllocError)),
+        Err(LedgerError::TooMany(place)) => {
+            Err(too_large(alloc, file, place.line, job.reading(style)))
+        }
+        Err(LedgerError::StartTooMany) => Err(start_too_many(alloc, job.db)),
+        Err(LedgerError::Memory) => Err(Trouble::Memory),
     }
 }
 
@@ -186,22 +178,22 @@ fn undo_of<'a, S: BuildHasher + Drop>(
 fn take_back_in<'a, D: Alter, S: BuildHasher + Drop>(
     alloc: Global,
     state: S,
-    request: &Job<'a>,
+    job: &Job<'a>,
     shape: Shape,
     conn: &mut Connection<D>,
     found: &Found,
-) -> Result<Undone, Failure<'a>> {
-    let db = request.db;
-    let entered = in_database(db, entered_of(alloc, conn, shape, found.number))?;
+) -> Result<Undone, Trouble<'a>> {
+    let db = job.db;
+    let entered = in_database(alloc, db, entered_of(alloc, conn, shape, found.number))?;
     let extras = if shape.is_dated() {
         opposite_extras(alloc, &entered)?
     } else {
         Vec::new(alloc)
     };
     let (entered, _) = halves(alloc, entered)?;
-    let kept = in_database(db, balance_of(alloc, conn))?;
+    let kept = in_database(alloc, db, balance_of(alloc, conn))?;
     let file = found.file.as_str();
-    let (undo, changed) = undo_of(alloc, state, request, shape.style, file, &kept, entered)?;
+    let (undo, changed) = undo_of(alloc, state, job, shape.style, file, &kept, entered)?;
     match undo {
         Undo::Refused(refusals) => Ok(Undone {
             refusals,
@@ -228,13 +220,13 @@ pub struct Report {
 // Returns what is written of an undo of a batch of that file.
 fn report_of(
     alloc: Global,
-    request: &Job<'_>,
+    job: &Job<'_>,
     shape: Shape,
     file: &str,
     undone: Undone,
 ) -> Result<Report, AllocError> {
     let names = [file];
-    let reading = request.reading(shape.style);
+    let reading = job.reading(shape.style);
     let refusals = refusals_text(alloc, names.as_slice(), reading.scale, &undone.refusals)?;
     Ok(Report {
         refusals,
@@ -255,11 +247,11 @@ fn report_of(
 pub fn undo_in<'a, D: Alter, S: BuildHasher + Drop>(
     alloc: Global,
     state: S,
-    request: &Job<'a>,
+    job: &Job<'a>,
     shape: Shape,
     conn: &mut Connection<D>,
-) -> Result<Report, Failure<'a>> {
-    let found = found_in(alloc, conn, request, shape)?;
-    let undone = take_back_in(alloc, state, request, shape, conn, &found)?;
-    Ok(report_of(alloc, request, shape, found.file.as_str(), undone)?)
+) -> Result<Report, Trouble<'a>> {
+    let found = found_in(alloc, conn, job, shape)?;
+    let undone = take_back_in(alloc, state, job, shape, conn, &found)?;
+    Ok(report_of(alloc, job, shape, found.file.as_str(), undone)?)
 }

@@ -1,5 +1,4 @@
 //! A stock that is counted again from all its movements, in an open database.
-use crate::failure::Failure;
 use crate::putting::in_database;
 use hashbag_csv::counts::Reading;
 use hashbag_csv::decimals::write_decimal;
@@ -14,6 +13,7 @@ use hashbag_ledger_lib::sealing::wrong_seal;
 use hashbag_ledger_lib::verifying::{
     KeptRefusal, movements_from, wrong_batch, wrong_number, wrong_refusal,
 };
+use hashbag_shell::trouble::Trouble;
 use hashbag_stock::reading::{Kept, everything_of};
 use hashbag_stock::tables::Shape;
 use sqlite::{Alter, Connection};
@@ -83,7 +83,7 @@ fn difference_of<'a, S: BuildHasher + Drop>(
     state: S,
     kept: Kept,
     reading: Reading,
-) -> Result<Option<String>, Failure<'a>> {
+) -> Result<Option<String>, Trouble<'a>> {
     let Kept {
         shape,
         movements,
@@ -104,7 +104,7 @@ fn difference_of<'a, S: BuildHasher + Drop>(
             )?)
         }
         Err(LedgerError::TooMany(place)) => Ok(Some(past_the_most(alloc, reading, place.file)?)),
-        Err(_) => Err(Failure::from(AllocError)),
+        Err(_) => Err(Trouble::Memory),
     }
 }
 
@@ -151,12 +151,12 @@ pub enum Verdict {
 pub fn verify_in<'a, D: Alter, S: BuildHasher + Drop>(
     alloc: Global,
     state: S,
-    request: &Job<'a>,
+    job: &Job<'a>,
     shape: Shape,
     conn: &mut Connection<D>,
-) -> Result<Verdict, Failure<'a>> {
-    let db = request.db;
-    let kept = in_database(db, everything_of(alloc, conn, shape))?;
+) -> Result<Verdict, Trouble<'a>> {
+    let db = job.db;
+    let kept = in_database(alloc, db, everything_of(alloc, conn, shape))?;
     let said = agreement(
         alloc,
         kept.batches.len(),
@@ -164,7 +164,7 @@ pub fn verify_in<'a, D: Alter, S: BuildHasher + Drop>(
         kept.refusals.len(),
         shape.is_sealed,
     )?;
-    match difference_of(alloc, state, kept, request.reading(shape.style))? {
+    match difference_of(alloc, state, kept, job.reading(shape.style))? {
         Some(what) => Ok(Verdict::Differs(format!(in alloc; "{db}: {what}\n")?)),
         None => Ok(Verdict::Agrees(said)),
     }

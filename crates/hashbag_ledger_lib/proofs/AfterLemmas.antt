@@ -6,7 +6,7 @@ use Rattle.hashbag_ledger_lib.specs.declared.movements.Movement.{Movement}
 use Rattle.hashbag_ledger_lib.specs.declared.movements.Place.{Place}
 use Rattle.hashbag_ledger_lib.specs.declared.movements.Refusal.{Refusal}
 use Rattle.hashbag_csv.specs.Quantities.{numbers, quantity}
-use Rattle.hashbag_ledger_lib.specs.Ledger.{coming, going, total_after, stock_of, came, went, asks_too_much, entered_after, refused_after, refusal, entered_of, Changes, RefusesMovement}
+use Rattle.hashbag_ledger_lib.specs.Ledger.{coming, going, total_after, stock_of, came, went, asks_too_much, entered_after, refused_after, refusal, entered_of, ChangesStock, RefusesMovement}
 use Rattle.hashbag_ledger_lib.specs.Settled.{listed, IsPastWithin, IsAfter}
 use Rattle.hashbag_ledger_lib.proofs.LedgerLemmas.{SoFar, entered_more, one_entered, one_refused, leaves}
 
@@ -83,7 +83,7 @@ module _ {T : Type 0} (eq : T → T → Bool) where
 
   module _ {L : List (T × ℕ)} {ms : List (Movement T)} {refused : List (Refusal T)} {before : List T} {most : ℕ} (m : Movement T) (h : IsAfter eq L ms refused before most) (within : length before + coming m.change ≤ most) where
     -- it is entered
-    pub after_entered : {after : List T} → Changes eq m (stock_of eq before) (stock_of eq after) → length after + going m.change ≡ length before + coming m.change → IsAfter eq L (ms ++ m ∷ []) refused after most
+    pub after_entered : {after : List T} → ChangesStock eq m (stock_of eq before) (stock_of eq after) → length after + going m.change ≡ length before + coming m.change → IsAfter eq L (ms ++ m ∷ []) refused after most
     after_entered changes long = is_after (one_entered eq (listed eq L) (comes m h) changes long) (fits_too m h within)
 
     -- it is refused

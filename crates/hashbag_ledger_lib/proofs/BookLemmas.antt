@@ -14,7 +14,7 @@ use Rattle.hashbag_ledger_lib.specs.declared.movements.Outcome.TheVariants.{Ente
 use Rattle.hashbag_ledger_lib.specs.declared.movements.Place.{Place}
 use Rattle.hashbag_ledger_lib.specs.declared.movements.Refusal.{Refusal}
 use Rattle.hashbag_ledger_lib.specs.Entries.{refusal_before, refusals_in, outcome_after, entries_after, entries_of, IsStockAfter, TakesNext, IsBooked}
-use Rattle.hashbag_ledger_lib.specs.Ledger.{coming, going, stock_of, there, asks_too_much, entered_after, refused_after, refusal, entered_of, refused_of, Changes, RefusesMovement, Leaves}
+use Rattle.hashbag_ledger_lib.specs.Ledger.{coming, going, stock_of, there, asks_too_much, entered_after, refused_after, refusal, entered_of, refused_of, ChangesStock, RefusesMovement, Leaves}
 use Rattle.hashbag_ledger_lib.specs.Settled.{listed, IsAfter, IsPastWithin}
 use Rattle.hashbag_ledger_lib.proofs.AfterLemmas.{after_entered, after_refused, past_later}
 use Rattle.hashbag_ledger_lib.proofs.LedgerLemmas.{not_below, entered_more}
@@ -55,7 +55,7 @@ module _ {T : Type 0} (eq : T → T → Bool) where
     counts_alike : (X : List T) → stock_of eq X m.article ≡ stock_of eq X a
     counts_alike X = count_congr laws X m.article a same
 
-    changes_too : (X Y : List T) → Changes eq copy (stock_of eq X) (stock_of eq Y) → Changes eq m (stock_of eq X) (stock_of eq Y)
+    changes_too : (X Y : List T) → ChangesStock eq copy (stock_of eq X) (stock_of eq Y) → ChangesStock eq m (stock_of eq X) (stock_of eq Y)
     changes_too X Y h = record {
       enough = subst (λ (n : ℕ). going m.change ≤ n) (sym (counts_alike X)) h.enough;
       counts = λ v. subst (λ (b : Bool). stock_of eq Y v + cond b (going m.change) 0 ≡ stock_of eq X v + cond b (coming m.change) 0) (alike v) (h.counts v);
@@ -63,7 +63,7 @@ module _ {T : Type 0} (eq : T → T → Bool) where
 
   module _ {S : Type 0} (L : List (T × ℕ)) (ms : List (Movement T)) (m : Movement T) (before after : Bag T S) (h : IsStockAfter eq L ms before) where
     -- it is entered
-    became_entered : Changes eq m (stock_of eq before.items) (stock_of eq after.items) → IsStockAfter eq L (ms ++ m ∷ []) after → (n : ℕ) → n ≡ stock_of eq after.items m.article → TakesNext eq L ms m after (Entered n)
+    became_entered : ChangesStock eq m (stock_of eq before.items) (stock_of eq after.items) → IsStockAfter eq L (ms ++ m ∷ []) after → (n : ℕ) → n ≡ stock_of eq after.items m.article → TakesNext eq L ms m after (Entered n)
     became_entered changes left n is =
         let start = listed eq L in
         let E = entered_of eq start ms in
@@ -89,7 +89,7 @@ module _ {T : Type 0} (eq : T → T → Bool) where
           became = ap (λ (k : ℕ). Refused k) (is ∙ was) ∙ ap (λ (b : Bool). cond b (Refused (there eq start E m.article)) (Entered (there eq start (E ++ m ∷ []) m.article))) (sym too_much);
         }
 
-    pub takes_entered : (laws : IsEquivalence eq) (a : T) (same : eq m.article a ≡ true) → Changes eq (copy laws m a same) (stock_of eq before.items) (stock_of eq after.items)
+    pub takes_entered : (laws : IsEquivalence eq) (a : T) (same : eq m.article a ≡ true) → ChangesStock eq (copy laws m a same) (stock_of eq before.items) (stock_of eq after.items)
         → length after.items + going m.change ≡ length before.items + coming m.change → after.most ≡ before.most → length before.items + coming m.change ≤ before.most
         → (n : ℕ) → n ≡ stock_of eq after.items m.article → TakesNext eq L ms m after (Entered n)
     takes_entered laws a same changes long most within n is =

@@ -10,7 +10,7 @@ use Rattle.std.specs.Map.{keys_of}
 use Rattle.std.specs.Ordering.{nat_cmp}
 use Rattle.std.specs.String.{string_bytes}
 use Rattle.hashbag_csv.specs.Quantities.{quantity, IsBalance}
-use Rattle.hashbag_ledger_lib.specs.Dated.{came_of, count_of, counted, counts_at, moved, named, named_sum, net, went_of, Dated, IsBalanceAt, IsNetOf}
+use Rattle.hashbag_ledger_lib.specs.Dated.{came_of, count_of, counted, counts_at, moved, named, named_sum, net, went_of, Dated, HasSumsOf, IsBalanceAt, IsNetOf}
 use Rattle.hashbag_ledger_lib.specs.Ledger.{coming, going}
 use Rattle.hashbag_ledger_lib.specs.Numbers.{size}
 use Rattle.hashbag_ledger_lib.specs.declared.dated.Part.{Part}
@@ -112,7 +112,7 @@ module _ (date : List ℕ) (es : List Dated) where
 
   -- a bag whose list has what these movements move
   abbrev IsOf : Part → List (Bor (List ℕ)) → List (Bor (List ℕ) × ℕ) → Type 0
-  IsOf part items list = ((v : Bor (List ℕ)) → count_of v items ≡ named_sum v.now (map named list)) × (map named list ≡ map (moved part) all_counted)
+  IsOf part items list = HasSumsOf list items × (map named list ≡ map (moved part) all_counted)
 
   by_list : (part : Part) (items : List (Bor (List ℕ))) (list : List (Bor (List ℕ) × ℕ)) → IsOf part items list → (v : Bor (List ℕ)) → count_of v items ≡ named_sum v.now (map (moved part) all_counted)
   by_list part items list h v = h.0 v ∙ ap (named_sum v.now) h.1

@@ -6,7 +6,7 @@ use Rattle.std.proofs.lemmas.List.Sums.{sum_by_push}
 use Rattle.std.proofs.Math.Seq.{take-length}
 use Rattle.hashbag_ledger_lib.specs.declared.movements.Movement.{Movement}
 use Rattle.hashbag_ledger_lib.specs.declared.movements.Refusal.{Refusal}
-use Rattle.hashbag_ledger_lib.specs.Ledger.{coming, going, came, went, there, asks_too_much, entered_after, refused_after, refusal, entered_of, refused_of, Changes, RefusesMovement, IsNeverBelowZero, Leaves}
+use Rattle.hashbag_ledger_lib.specs.Ledger.{coming, going, came, went, there, asks_too_much, entered_after, refused_after, refusal, entered_of, refused_of, ChangesStock, RefusesMovement, IsNeverBelowZero, Leaves}
 
 pub not_below : (m n : ℕ) → n ≤ m → nat_lt m n ≡ false
 not_below m n enough = by_case (nat_lt m n) refl
@@ -35,7 +35,7 @@ module _ {T : Type 0} (eq : T → T → Bool) (start : T → ℕ) where
       let all = take-length E in
       subst (λ (l : List (Movement T)). went eq v l ≤ start v + came eq v l) all now
 
-  module _ (E : List (Movement T)) (m : Movement T) (never : IsNeverBelowZero eq start E) (before after : T → ℕ) (is : (v : T) → before v ≡ there eq start E v) (changes : Changes eq m before after) where
+  module _ (E : List (Movement T)) (m : Movement T) (never : IsNeverBelowZero eq start E) (before after : T → ℕ) (is : (v : T) → before v ≡ there eq start E v) (changes : ChangesStock eq m before after) where
     there_more : (v : T) → after v ≡ there eq start (E ++ m ∷ []) v
     there_more v =
         let one = changes.counts v in
@@ -70,7 +70,7 @@ module _ {T : Type 0} (eq : T → T → Bool) (start : T → ℕ) where
     pub total_is : total_now + sum_by (λ (m : Movement T). going m.change) entered ≡ total + sum_by (λ (m : Movement T). coming m.change) entered
 
   pub one_entered : {total now then : ℕ} {all to_come : List (Movement T)} {m : Movement T} {refusals : List (Refusal T)} {before after : T → ℕ} → SoFar total all (m ∷ to_come) refusals now before
-      → Changes eq m before after → then + going m.change ≡ now + coming m.change → SoFar total all to_come refusals then after
+      → ChangesStock eq m before after → then + going m.change ≡ now + coming m.change → SoFar total all to_come refusals then after
   one_entered {to_come = to_come} {m = m} {refusals = refusals} {before = before} {after = after} h changes more =
       let E = h.entered in
       let enough = changes.enough in

@@ -13,7 +13,7 @@ use Rattle.hashbag_ledger_lib.specs.declared.movements.Refusal.{Refusal}
 use Rattle.hashbag_ledger_lib.specs.declared.reading.ChangeColumns.{ChangeColumns}
 use Rattle.hashbag_ledger_lib.specs.declared.reading.ChangeColumns.TheVariants.{Signed, ByKind}
 use Rattle.hashbag_ledger_lib.specs.declared.reading.Columns.{Columns}
-use Rattle.hashbag_ledger_lib.specs.Movements.{said, change_by, columns_by, movement_in, movements_under, EntersFile}
+use Rattle.hashbag_ledger_lib.specs.Movements.{content_of, change_by, columns_by, movement_in, movements_under, EntersFile, names_now}
 use Rattle.hashbag_ledger_lib.proofs.RunLemmas.{Takes, none_more, one_more}
 
 -- ---- columns
@@ -30,9 +30,9 @@ columns_in_turn f g columns = ap (λ ch. record { article = f (g columns.article
 -- all records are left, below the header
 pub under_header : (scale : Scale) (names : Columns (Bor (List ℕ))) (all : List Record) (header : Record) (records : List Record) (columns : Columns ℕ)
     → all ≡ header ∷ records → columns ≡ columns_by (λ n. place_of header n.now) names
-    → movements_under scale (columns_by (λ n. n.now) names) all ≡ map (movement_in scale columns) records
+    → movements_under scale (names_now names) all ≡ map (movement_in scale columns) records
 under_header scale names all header records columns is are =
-    ap (movements_under scale (columns_by (λ n. n.now) names)) is
+    ap (movements_under scale (names_now names)) is
     ∙ ap (λ (c : Columns ℕ). map (movement_in scale c) records) (columns_in_turn (place_of header) (λ n. n.now) names ∙ sym are)
 
 -- one record more was read
@@ -52,10 +52,10 @@ module _ {S : Type 0} (file : ℕ) where
   enters_none R stock = record { read = []; all = refl; places = λ k d few. absurd (omega (arith, few)); entered = none_more string_eq R stock }
 
   pub enters_one : (moved : List (List ℕ × Change)) {R R' : List (Refusal (String Global))} {stock stock' : Bag (String Global) S} (m : Movement (String Global)) (R'' : List (Refusal (String Global))) (stock'' : Bag (String Global) S)
-      → EntersFile file moved R stock R' stock' → m.place.file ≡ file → Takes string_eq m R' stock' R'' stock'' → EntersFile file (moved ++ said m ∷ []) R stock R'' stock''
+      → EntersFile file moved R stock R' stock' → m.place.file ≡ file → Takes string_eq m R' stock' R'' stock'' → EntersFile file (moved ++ content_of m ∷ []) R stock R'' stock''
   enters_one moved {R} {R'} {stock} {stock'} m R'' stock'' h at takes = record {
     read = h.read ++ m ∷ [];
-    all = map-append said h.read (m ∷ []) ∙ ap (λ (l : List (List ℕ × Change)). l ++ said m ∷ []) h.all;
+    all = map-append content_of h.read (m ∷ []) ∙ ap (λ (l : List (List ℕ × Change)). l ++ content_of m ∷ []) h.all;
     places = All-push (λ (m : Movement (String Global)). m.place.file ≡ file) h.read m h.places at;
     entered = one_more string_eq h.read m R R' R'' stock stock' stock'' h.entered takes;
   }

@@ -7,7 +7,7 @@ use Rattle.hashbag_ledger_lib.specs.declared.entering.LedgerError.TheVariants.{M
 use Rattle.hashbag_ledger_lib.specs.declared.movements.Movement.{Movement}
 use Rattle.hashbag_ledger_lib.specs.declared.movements.Place.{Place}
 use Rattle.hashbag_ledger_lib.specs.declared.movements.Refusal.{Refusal}
-use Rattle.hashbag_ledger_lib.specs.Ledger.{coming, going, stock_of, Changes, RefusesMovement}
+use Rattle.hashbag_ledger_lib.specs.Ledger.{coming, going, stock_of, ChangesStock, RefusesMovement}
 use Rattle.hashbag_ledger_lib.specs.Settled.{IsAfter, IsLedgerOf, IsPastWithin}
 use Rattle.hashbag_ledger_lib.proofs.AfterLemmas.{after_entered, after_refused, after_past, past_later}
 
@@ -22,7 +22,7 @@ not_memory e p is memory = cc
 module _ {T S : Type 0} (eq : T → T → Bool) where
   module _ {L : List (T × ℕ)} {ms : List (Movement T)} {refused : List (Refusal T)} (m : Movement T) (before after : Bag T S) (h : IsLedgerOf eq L ms refused before) where
     -- the movement is entered
-    pub ledger_entered : Changes eq m (stock_of eq before.items) (stock_of eq after.items) → length after.items + going m.change ≡ length before.items + coming m.change → after.most ≡ before.most
+    pub ledger_entered : ChangesStock eq m (stock_of eq before.items) (stock_of eq after.items) → length after.items + going m.change ≡ length before.items + coming m.change → after.most ≡ before.most
         → length before.items + coming m.change ≤ before.most → IsLedgerOf eq L (ms ++ m ∷ []) refused after
     ledger_entered changes long same within = subst (λ (most : ℕ). IsAfter eq L (ms ++ m ∷ []) refused after.items most) (sym same) (after_entered eq m h within changes long)
 

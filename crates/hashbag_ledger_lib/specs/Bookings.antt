@@ -34,7 +34,8 @@ BooksFirst stock ms booked = (L : List (String Global × ℕ)) → IsStockAfter 
 abbrev pub StockPassesLimitAmong : {S : Type 0} → Bag (String Global) S → List (Movement (String Global)) → Place → Type 0
 StockPassesLimitAmong stock ms place = (L : List (String Global × ℕ)) → IsStockAfter string_eq L [] stock → IsPastWithin string_eq stock.most L ms place
 
--- for any movements `before` that left the balance `kept`, what was booked of the batch is that of all movements in one turn
+-- for any movements `before` that left the balance `kept`: the new balance, and the refusals of `before` followed by the new ones, are those of
+-- all these movements entered as one batch
 abbrev pub ContinuesFrom : List (String Global × ℕ) → List (Movement (String Global)) → Booked (String Global) → Type 0
 ContinuesFrom kept batch booked =
     (start : String Global → ℕ) (before : List (Movement (String Global))) → Leaves string_eq start before (listed string_eq kept) → Continues string_eq string_cmp start before batch booked.balance.items (refusals_in booked.entries.items)

@@ -55,18 +55,6 @@ abbrev pub Begins : (before after : List (String Global × ℕ)) (first : List R
 Begins before after first befores afters = (cs : List RowChange) → (Rises befores → Rises afters → AreChanges befores afters cs)
     → Rises before → Rises after → AreChanges before after (first ++ cs)
 
--- these changes turn the numbers of the first balance into those of the second
-abbrev pub TurnInto : List (String Global × ℕ) → List RowChange → List (String Global × ℕ) → Type 0
-TurnInto before cs after = (v : List ℕ) → applied v cs (number_in v before) ≡ number_in v after
-
--- the articles of these changes are in ascending order
-abbrev pub HaveRisingArticles : List RowChange → Type 0
-HaveRisingArticles cs = IsStrictlySortedBy string_cmp (map article_of cs)
-
--- the article of each of these changes has another number in the second balance
-abbrev pub AreNeeded : List (String Global × ℕ) → List (String Global × ℕ) → List RowChange → Type 0
-AreNeeded before after cs = All (λ c. let v = string_bytes (article_of c) in number_in v before ≢ number_in v after) cs
-
 -- `befores` and `afters` together have fewer rows than `before` and `after`, unless these have none
 abbrev pub LeavesFewerRows : (before after befores afters : List (String Global × ℕ)) → Type 0
 LeavesFewerRows before after befores afters = 0 < length before + length after → length befores + length afters < length before + length after

@@ -72,6 +72,10 @@ named_sum v rows = sum_by (λ r. if bytes_eq v r.0 then r.1 else 0) rows
 abbrev pub count_of : Bor (List ℕ) → List (Bor (List ℕ)) → ℕ
 count_of v X = count (λ x y. bytes_eq x.now y.now) v X
 
+-- the items have each article as often as the numbers of its rows add up to
+abbrev pub HasSumsOf : List (Bor (List ℕ) × ℕ) → List (Bor (List ℕ)) → Type 0
+HasSumsOf rows items = (v : Bor (List ℕ)) → count_of v items ≡ named_sum v.now (map named rows)
+
 -- the number of a row is the difference of what came and what went
 abbrev pub IsNetOf : (came went : List (Bor (List ℕ))) → Bor (List ℕ) × Change → Type 0
 IsNetOf came went r = r.1 ≡ net (count_of r.0 came) (count_of r.0 went)

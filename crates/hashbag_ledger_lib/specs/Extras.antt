@@ -1,5 +1,6 @@
 -- The dates and notes of movements, as the records of a CSV text have them.
 use Rattle.std.specs.Prelude.{◌≡◌, ℕ, true, List, [], ◌∷◌, map, get_or, Option, IfSome, MatchOption, option_map}
+use Rattle.std.specs.Borrow.{Bor}
 use Rattle.std.specs.String.{string_bytes}
 use Rattle.hashbag_csv.specs.Lines.{place_of}
 use Rattle.hashbag_csv.specs.Readers.{Record, records_in}
@@ -21,6 +22,10 @@ HasNoBadDate x = IfSome x.date (λ d. is_date (string_bytes d) ≡ true)
 -- f of each column, in its place: for example a column's place for its name
 abbrev pub columns_of : {C D : Type 0} → (C → D) → ExtraColumns C → ExtraColumns D
 columns_of f columns = record { date = option_map f columns.date; note = option_map f columns.note }
+
+-- the place of the column of this name under a header, if there is a name
+abbrev pub place_if : Record → Option (Bor (List ℕ)) → Option ℕ
+place_if header name = option_map (λ n. place_of header n.now) name
 
 -- the field of a record at a place, if there is one
 abbrev pub field_at : Record → Option ℕ → Option (List ℕ)

@@ -27,9 +27,13 @@ module _ {T : Type 0} (eq : T → T → Bool) where
   stock_of X v = count eq v X
 
   -- the movement m takes out no more than is there, and changes the number of its article alone
-  pub record Changes (m : Movement T) (before after : T → ℕ) : Type 0 where
+  pub record ChangesStock (m : Movement T) (before after : T → ℕ) : Type 0 where
     pub enough : going m.change ≤ before m.article
     pub counts : (v : T) → after v + (if eq v m.article then going m.change else 0) ≡ before v + (if eq v m.article then coming m.change else 0)
+
+  -- the same of the items of a stock
+  abbrev pub ChangesItems : Movement T → List T → List T → Type 0
+  ChangesItems m before after = ChangesStock m (stock_of before) (stock_of after)
 
   -- the movement m would take out more than is there, and r is its refusal, with how many there are
   pub record RefusesMovement (m : Movement T) (before : T → ℕ) (r : Refusal T) : Type 0 where
@@ -97,6 +101,10 @@ module _ {T : Type 0} (eq : T → T → Bool) where
       pub in_turn : before ++ movement ∷ later ≡ ms
       pub at_place : place ≡ movement.place
       pub over : most < total_after total (entered_of before) + coming movement.change
+
+-- with a movement, the total of the items X would pass `most`
+abbrev pub PassesMost : {T : Type 0} → ℕ → List T → Movement T → Type 0
+PassesMost most X m = most < length X + coming m.change
 
 -- the total rises by what comes in, and falls by what goes out
 abbrev pub ChangesTotal : {T : Type 0} → Change → List T → List T → Type 0

@@ -38,6 +38,6 @@ module _ {T : Type 0} (eq : T → T → Bool) where
   AreRefusalsOf ledger refusals =
       (L : List (T × ℕ)) (ms : List (Movement T)) → IsLedgerOf eq L ms ledger.refusals.items ledger.stock → refusals ≡ refused_of eq (listed eq L) ms
 
--- the new ledger has the movements of a file at the end; `moved` is what they say
+-- the new ledger has the movements of a file at the end; `moved` is their content
 abbrev pub EntersFileInto : {S H : Type 0} → ℕ → List (List ℕ × Change) → Ledger (String Global) S H → Ledger (String Global) S H → Type 0
 EntersFileInto file moved old new = EntersFile file moved old.refusals.items old.stock new.refusals.items new.stock

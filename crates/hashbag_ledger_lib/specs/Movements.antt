@@ -19,9 +19,9 @@ use Rattle.hashbag_ledger_lib.specs.declared.reading.ChangeColumns.TheVariants.{
 use Rattle.hashbag_ledger_lib.specs.declared.reading.Columns.{Columns}
 use Rattle.hashbag_ledger_lib.specs.Settled.{IsLedgerOf}
 
--- what a movement says, without its place: the article, as bytes, and the change
-abbrev pub said : Movement (String Global) → List ℕ × Change
-said m = (string_bytes m.article, m.change)
+-- the content of a movement, without its place: the article, as bytes, and the change
+abbrev pub content_of : Movement (String Global) → List ℕ × Change
+content_of m = (string_bytes m.article, m.change)
 
 -- a number after `-` goes out; a number after `+`, or without a sign, comes in
 abbrev pub signed : Scale → List ℕ → Change
@@ -41,12 +41,23 @@ change_by f (ByKind kind number) = ByKind (f kind) (f number)
 abbrev pub columns_by : {C D : Type 0} → (C → D) → Columns C → Columns D
 columns_by f columns = record { article = f columns.article; change = change_by f columns.change }
 
+-- the names of columns, as bytes
+abbrev pub names_now : Columns (Bor (List ℕ)) → Columns (List ℕ)
+names_now names = columns_by (λ n. n.now) names
+
+-- the places of the columns of these names under a header
+abbrev pub change_places : Record → ChangeColumns (Bor (List ℕ)) → ChangeColumns ℕ
+change_places header names = change_by (λ n. place_of header n.now) names
+
+abbrev pub places_under : Record → Columns (Bor (List ℕ)) → Columns ℕ
+places_under header names = columns_by (λ n. place_of header n.now) names
+
 -- the change of a record
 abbrev pub change_in : Scale → ChangeColumns ℕ → Record → Change
 change_in scale (Signed change) r = signed scale (get_or r change [])
 change_in scale (ByKind kind number) r = of_kind (get_or r kind []) (number_in scale (get_or r number []))
 
--- what the movement of a record says: the article and the change
+-- the content of a record's movement: the article and the change
 abbrev pub movement_in : Scale → Columns ℕ → Record → List ℕ × Change
 movement_in scale columns r = (get_or r columns.article [], change_in scale columns.change r)
 
@@ -61,18 +72,14 @@ movements_in reading names text = movements_under reading.scale names (records_i
 
 -- `before` is one record r and then `after`; m is the movement of r
 abbrev pub IsNextMovement : Scale → Columns ℕ → List Record → List Record → Movement (String Global) → Type 0
-IsNextMovement scale columns before after m = (r : Record) × (before ≡ r ∷ after) × (said m ≡ movement_in scale columns r)
+IsNextMovement scale columns before after m = (r : Record) × (before ≡ r ∷ after) × (content_of m ≡ movement_in scale columns r)
 
--- the movements of one file were entered: `moved` is what they say, and any earlier movements may have come before
+-- the movements of one file were entered: `moved` is their content, and any earlier movements may have come before
 pub record EntersFile {S : Type 0} (file : ℕ) (moved : List (List ℕ × Change)) (refused : List (Refusal (String Global))) (stock : Bag (String Global) S) (refused' : List (Refusal (String Global))) (stock' : Bag (String Global) S) : Type 0 where
   pub read : List (Movement (String Global))
-  pub all : map said read ≡ moved
+  pub all : map content_of read ≡ moved
   pub places : All (λ m. m.place.file ≡ file) read
   pub entered : (L : List (String Global × ℕ)) (ms : List (Movement (String Global))) → IsLedgerOf string_eq L ms refused stock → IsLedgerOf string_eq L (ms ++ read) refused' stock'
-
--- the movements of a text, whose columns have these names
-abbrev pub movements_named : Reading → Columns (Bor (List ℕ)) → List ℕ → List (List ℕ × Change)
-movements_named reading names text = movements_in reading (columns_by (λ n. n.now) names) text
 
 -- the next record was read, and `next` is its movement; or no record was left, and `next` is `None`
 abbrev pub ReadsNextMovement : Scale → Columns ℕ → Sheet → Option (Movement (String Global)) → Sheet → Type 0

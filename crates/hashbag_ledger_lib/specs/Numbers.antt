@@ -1,5 +1,5 @@
 -- Changes as whole numbers with a sign.
-use Rattle.std.specs.Prelude.{ℕ, ◌+◌, ℤ, pos, negsuc, zero, suc}
+use Rattle.std.specs.Prelude.{◌≡◌, ℕ, ◌+◌, ◌-◌, ◌^◌, ◌≤◌, ℤ, pos, negsuc, zero, suc}
 use Rattle.hashbag_ledger_lib.specs.declared.movements.Change.{Change}
 use Rattle.hashbag_ledger_lib.specs.declared.movements.Change.TheVariants.{In, Out}
 
@@ -18,3 +18,7 @@ plain (Out (suc n)) = Out (suc n)
 abbrev pub size : Change → ℕ
 size (In n) = n
 size (Out n) = n
+
+-- n is the number of a change as a row has it
+abbrev pub IsNumberOf : Change → ℤ → Type 0
+IsNumberOf change n = (size change ≤ 2 ^ 63 - 1) × (change_at n ≡ plain change)

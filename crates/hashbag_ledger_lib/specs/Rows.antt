@@ -23,10 +23,14 @@ rows_of L = map row L
 abbrev pub kept_of : Refusal (String Global) → KeptRefusal
 kept_of r = record { movement = r.place.file; there = r.there }
 
+-- two lists have the same elements before this place
+abbrev pub AgreeBefore : {X : Type 0} → ℕ → List X → List X → Type 0
+AgreeBefore place kept counted = (k : ℕ) → k < place → slice_get kept k ≡ slice_get counted k
+
 -- `wrong` is what `wrong_at` says of the elements of two lists at the first place where the lists differ
 pub record IsFirstDifference {X W : Type 0} (wrong_at : Option X → Option X → W) (kept counted : List X) (wrong : W) : Type 0 where
   pub place : ℕ
-  pub before : (k : ℕ) → k < place → slice_get kept k ≡ slice_get counted k
+  pub before : AgreeBefore place kept counted
   pub differ : slice_get kept place ≢ slice_get counted place
   pub is : wrong ≡ wrong_at (slice_get kept place) (slice_get counted place)
 
@@ -62,3 +66,7 @@ row_there e = option_map row (option_copied e)
 -- an article with its two numbers
 abbrev pub article_with_both : WrongNumber → List ℕ × ℕ × ℕ
 article_with_both w = (w.article.now, w.kept, w.counted)
+
+-- the article of the first row that differs in two balances, with its two numbers
+abbrev pub IsFirstWrongRow : List (String Global × ℕ) → List (String Global × ℕ) → WrongNumber → Type 0
+IsFirstWrongRow kept counted w = IsFirstDifference wrong_row (rows_of kept) (rows_of counted) (Some (article_with_both w))

@@ -1,6 +1,6 @@
 -- What the seal of a batch is computed from: the scale of the stock, the row of the batch, the movements, and their dates and notes. The
 -- length of each text is before the text.
-use Rattle.std.specs.Prelude.{◌≡◌, ℕ, ℤ, List, [], ◌∷◌, ◌++◌, ◌+◌, ◌&&◌, if◌then◌else◌, length, take, drop, Option, None, Some, is_none, option_map, String, string_bytes}
+use Rattle.std.specs.Prelude.{◌≡◌, ℕ, ℤ, List, [], ◌∷◌, ◌++◌, ◌+◌, ◌&&◌, if◌then◌else◌, length, take, drop, Option, None, Some, is_none, String, string_bytes}
 use Rattle.std.specs.Global.{Global}
 use Rattle.std.specs.Int.{w64, to_le_bytes, cast_unsigned}
 use Rattle.hex.specs.Hex.{encode_lower}
@@ -44,13 +44,13 @@ with_movements m [] = m
 with_movements m (e ∷ es) = with_movements (with_movement m e.movement) es
 
 -- a message m and then a text, after 1; or 0 if the text is missing
-abbrev pub with_maybe : List ℕ → Option (List ℕ) → List ℕ
+abbrev pub with_maybe : List ℕ → Option (String Global) → List ℕ
 with_maybe m None = with_number m 0
-with_maybe m (Some text) = with_text (with_number m 1) text
+with_maybe m (Some text) = with_text (with_number m 1) (string_bytes text)
 
 -- a message m and then the number of a movement, from 0, its date and its note; nothing if the movement has neither
 abbrev pub with_extra : List ℕ → ℕ → Extra → List ℕ
-with_extra m n x = if is_none x.date && is_none x.note then m else with_maybe (with_maybe (with_number m n) (option_map string_bytes x.date)) (option_map string_bytes x.note)
+with_extra m n x = if is_none x.date && is_none x.note then m else with_maybe (with_maybe (with_number m n) x.date) x.note
 
 -- a message m and then the dates and notes of the movements from this number on, in turn
 abbrev pub with_extras : List ℕ → ℕ → List Extra → List ℕ
@@ -77,6 +77,10 @@ sealed scale b es xs = with_extras (with_movements (with_counts (with_source (wi
 abbrev pub seal_of : ℕ → Batch → List (Entry (String Global)) → List Extra → List ℕ
 seal_of scale b es xs = encode_lower (sha256 (sealed scale b es xs))
 
+-- a batch has the seal of its row, of these entries, and of these dates and notes
+abbrev pub IsSealed : ℕ → Batch → List (Entry (String Global)) → List Extra → Type 0
+IsSealed scale b es xs = string_bytes b.seal ≡ seal_of scale b es xs
+
 -- the row of a batch that has these entries, with these dates and notes
 pub record IsRowOf (scale : ℕ) (d : Draft) (es : List (Entry (String Global))) (xs : List Extra) (b : Batch) : Type 0 where
   pub number : b.number ≡ d.number
@@ -87,7 +91,7 @@ pub record IsRowOf (scale : ℕ) (d : Draft) (es : List (Entry (String Global)))
   pub time : string_bytes b.time ≡ d.time.now
   pub counts : b.movements ≡ length es
   pub refusals : b.refused ≡ length (refusals_in es)
-  pub seal : string_bytes b.seal ≡ seal_of scale b es xs
+  pub seal : IsSealed scale b es xs
 
 -- the rows of batches; each batch has the next entries, as many as its draft says, and the dates and notes of the same movements
 abbrev pub AreRowsOf : ℕ → List Draft → List (Entry (String Global)) → List Extra → List Batch → Type 0
@@ -99,4 +103,4 @@ AreRowsOf scale (d ∷ ds) es xs (b ∷ bs) = IsRowOf scale d (take d.movements 
 -- each batch has the seal of its row and of its movements, given the movements of all batches in turn, and their dates and notes
 abbrev pub AreSealed : ℕ → List Batch → List (Entry (String Global)) → List Extra → Type 0
 AreSealed scale [] es xs = Unit {0}
-AreSealed scale (b ∷ bs) es xs = (string_bytes b.seal ≡ seal_of scale b (take b.movements es) (take b.movements xs)) × AreSealed scale bs (drop b.movements es) (drop b.movements xs)
+AreSealed scale (b ∷ bs) es xs = IsSealed scale b (take b.movements es) (take b.movements xs) × AreSealed scale bs (drop b.movements es) (drop b.movements xs)

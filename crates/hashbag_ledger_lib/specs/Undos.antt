@@ -1,5 +1,5 @@
 -- A batch that is taken back by its opposite movements.
-use Rattle.std.specs.Prelude.{◌≡◌, ℕ, ◌+◌, ◌-◌, ◌<◌, Bool, List, [], ◌∷◌, ◌++◌, String}
+use Rattle.std.specs.Prelude.{◌≡◌, ℕ, ◌+◌, ◌-◌, ◌^◌, ◌<◌, Bool, List, [], ◌∷◌, ◌++◌, String}
 use Rattle.std.specs.declared.cmp.Ordering.{Ordering}
 use Rattle.std.specs.Global.{Global}
 use Rattle.std.specs.String.{string_eq}
@@ -7,11 +7,12 @@ use Rattle.hashbag_csv.specs.Quantities.{IsBalance}
 use Rattle.hashbag_ledger_lib.specs.declared.movements.Change.{Change}
 use Rattle.hashbag_ledger_lib.specs.declared.movements.Change.TheVariants.{In, Out}
 use Rattle.hashbag_ledger_lib.specs.declared.movements.Movement.{Movement}
+use Rattle.hashbag_ledger_lib.specs.declared.movements.Place.{Place}
 use Rattle.hashbag_ledger_lib.specs.declared.rows.RowChange.{RowChange}
 use Rattle.hashbag_ledger_lib.specs.Changes.{Rises, AreChanges}
 use Rattle.hashbag_ledger_lib.specs.Entries.{entries_of}
 use Rattle.hashbag_ledger_lib.specs.Ledger.{came, went, refused_of}
-use Rattle.hashbag_ledger_lib.specs.Settled.{listed}
+use Rattle.hashbag_ledger_lib.specs.Settled.{listed, IsPastWithin}
 use Rattle.hashbag_ledger_lib.specs.declared.undoing.Undo.{Undo}
 use Rattle.hashbag_ledger_lib.specs.declared.undoing.Undo.TheVariants.{Done, Refused}
 
@@ -65,6 +66,10 @@ module _ {T : Type 0} (eq : T → T → Bool) where
     abbrev pub IsUndo : Undo T → Type 0
     IsUndo (Done booked) = TakesBack booked.balance.items
     IsUndo (Refused refusals) = (v : T) × FallsBelowZero stock batch v
+
+-- while the opposites of a batch are entered, no total passes the greatest number of a database
+abbrev pub OppositesFit : List (String Global × ℕ) → List (Movement (String Global)) → Type 0
+OppositesFit kept batch = (p : Place) → ¬ (IsPastWithin string_eq (2 ^ 63 - 1) kept (opposites_of batch) p)
 
 -- the rows of the balance that an undo leaves are in ascending order
 abbrev pub HasRisingRows : Undo (String Global) → Type 0

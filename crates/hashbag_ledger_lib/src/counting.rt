@@ -2,7 +2,7 @@
 ghost use Rattle.std.specs.Prelude.{◌≡◌, ◌++◌, map, IfOk, OnOk};
 ghost use Rattle.std.specs.String.{string_eq};
 ghost use Rattle.hashbag_ledger_lib.specs.Counts.{AppendsDifference, AreDifferencesOf, IsCounted, NotesArticle, change_to, none_counted};
-ghost use Rattle.hashbag_ledger_lib.specs.Movements.{said};
+ghost use Rattle.hashbag_ledger_lib.specs.Movements.{content_of};
 
 use crate::entering::LedgerError;
 use crate::filing::{Filed, copy_of, enter_files};
@@ -77,7 +77,8 @@ fn differences_of<S: BuildHasher + Drop>(
     unnamed: HashBag<String, S>,
     records: Vec<Entry<String>>,
 ) -> Result<Vec<Movement<String>>, LedgerError>
-    ensures { IfOk result (λ found. AreDifferencesOf string_eq there.now.items counted.now.items unnamed.items records.items found.items) }
+    ensures { IfOk result (λ found.
+        AreDifferencesOf string_eq there.now.items counted.now.items unnamed.items records.items found.items) }
 {
     let mut named = unnamed;
     let mut differences = Vec::new(alloc);
@@ -137,7 +138,8 @@ pub fn name_all(
     records: &mut Vec<Movement<String>>,
     kept: &[(String, usize)],
 ) -> Result<(), AllocError>
-    ensures { OnOk result (map said records.new.items ≡ map said records.old.items ++ map none_counted kept.now) }
+    ensures { OnOk result
+        (map content_of records.new.items ≡ map content_of records.old.items ++ map none_counted kept.now) }
 {
     for entry in kept {
         records

@@ -1,8 +1,7 @@
 //! The balance of a day, by the days of movements, and not by the order in which they were entered.
-ghost use Rattle.std.specs.Prelude.{◌≡◌, ◌++◌, ℕ, List, All, IfOk, OnOk, map};
-ghost use Rattle.std.specs.Borrow.{Bor};
+ghost use Rattle.std.specs.Prelude.{◌≡◌, ◌++◌, All, IfOk, OnOk, map};
 ghost use Rattle.std.specs.Map.{keys_of};
-ghost use Rattle.hashbag_ledger_lib.specs.Dated.{amount, count_of, counted, counts_by, moved, moved_at, named, named_sum, net, IsBalanceAt, IsNetOf};
+ghost use Rattle.hashbag_ledger_lib.specs.Dated.{amount, counted, counts_by, moved, moved_at, named, net, HasSumsOf, IsBalanceAt, IsNetOf};
 
 use crate::movements::{Change, Entry, Outcome};
 use hashbag::{BagError, HashBag};
@@ -108,7 +107,7 @@ fn stock_of<'a, S: BuildHasher + Drop>(
     state: S,
     list: Vec<(&'a str, usize)>,
 ) -> Result<HashBag<&'a str, S>, DatedError>
-    ensures { IfOk result (λ bag. (v : Bor (List ℕ)) → count_of v bag.items ≡ named_sum v.now (map named list.entry.items)) }
+    ensures { IfOk result (λ bag. HasSumsOf list.entry.items bag.items) }
 {
     match bag_of(alloc, state, list) {
         Ok(bag) => Ok(bag),

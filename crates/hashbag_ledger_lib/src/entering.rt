@@ -1,6 +1,6 @@
 //! Entering a movement into a stock.
-ghost use Rattle.std.specs.Prelude.{◌≡◌, ◌⊎◌, ◌+◌, ◌<◌, ◌≤◌, ◌↔◌, length, OnOk, OnErr, IfOk, IfErr, IfSome, IsSome};
-ghost use Rattle.hashbag_ledger_lib.specs.Ledger.{coming, stock_of, Changes, ChangesTotal, RefusesMovement};
+ghost use Rattle.std.specs.Prelude.{◌≡◌, ◌⊎◌, ◌+◌, ◌≤◌, ◌↔◌, length, OnOk, OnErr, IfOk, IfErr, IfSome, IsSome};
+ghost use Rattle.hashbag_ledger_lib.specs.Ledger.{coming, stock_of, ChangesItems, ChangesTotal, PassesMost, RefusesMovement};
 
 use crate::movements::{Change, Movement, Place, Refusal};
 use hashbag::{BagError, HashBag};
@@ -45,7 +45,7 @@ pub fn enter<T: Eq + Hash + Drop, S: BuildHasher + Drop>(
     movement: Movement<T>,
 ) -> Result<Option<Refusal<T>>, LedgerError>
     // If the result is `None`, the movement was entered: only the number of its article changed.
-    ensures entered { IfOk result (λ r. r ≡ None → Changes T.eq movement (stock_of T.eq stock.old.items) (stock_of T.eq stock.new.items)) }
+    ensures entered { IfOk result (λ r. r ≡ None → ChangesItems T.eq movement stock.old.items stock.new.items) }
     ensures total { IfOk result (λ r. r ≡ None → ChangesTotal movement.change stock.old.items stock.new.items) }
 
     // If the result is a refusal, the movement would remove more than is there.
@@ -56,7 +56,8 @@ pub fn enter<T: Eq + Hash + Drop, S: BuildHasher + Drop>(
     ensures fits { OnOk result (length stock.old.items + coming movement.change ≤ stock.old.most) }
     ensures limit { stock.new.most ≡ stock.old.most }
     ensures why { IfErr result (λ e. (e ≡ LedgerError.Memory) ⊎ (e ≡ LedgerError.TooMany movement.place)) }
-    ensures too_many { (result ≡ Err (LedgerError.TooMany movement.place)) ↔ (stock.old.most < length stock.old.items + coming movement.change) }
+    ensures too_many { (result ≡ Err (LedgerError.TooMany movement.place))
+        ↔ PassesMost stock.old.most stock.old.items movement }
     ensures err { OnErr result (stock.new ≡ stock.old) }
 {
     let Movement {

@@ -1,10 +1,9 @@
 //! What movements carry along: their dates and notes. Entering doesn't depend on them, so a list of them goes with the list of the movements, one
 //! for each, in turn. An empty list says that none has a date or a note.
 ghost use Rattle.std.specs.Prelude.{◌≡◌, true, All, IfOk, IfSome, map, option_map, string_bytes};
-ghost use Rattle.hashbag_csv.specs.Lines.{place_of};
 ghost use Rattle.hashbag_csv.specs.Sheets.{place, read_last};
 ghost use Rattle.hashbag_ledger_lib.specs.Dates.{is_date};
-ghost use Rattle.hashbag_ledger_lib.specs.Extras.{carried, columns_of, extras_in, field_at, HasNoBadDate, ReadsNextExtra};
+ghost use Rattle.hashbag_ledger_lib.specs.Extras.{carried, columns_of, extras_in, field_at, place_if, HasNoBadDate, ReadsNextExtra};
 
 use crate::dates::is_date;
 use crate::movements::{Change, Movement};
@@ -61,7 +60,7 @@ impl From<AllocError> for ExtraError {
 
 // Returns the column of this name, if there is a name, in the header, which is the record that was read last.
 fn column_if<'n>(sheet: &Sheet<'_>, name: Option<&'n str>) -> Result<Option<Column<'n>>, SheetError>
-    ensures { IfOk result (λ column. option_map place column ≡ option_map (λ n. place_of (read_last sheet.now) n.now) name.entry) }
+    ensures { IfOk result (λ column. option_map place column ≡ place_if (read_last sheet.now) name.entry) }
 {
     match name {
         Some(name) => Ok(Some(column_of(sheet, name)?)),
@@ -75,7 +74,8 @@ fn field_if(
     sheet: &Sheet<'_>,
     column: Option<Column<'_>>,
 ) -> Result<Option<String>, SheetError>
-    ensures { IfOk result (λ field. option_map string_bytes field ≡ field_at (read_last sheet.now) (option_map place column.entry)) }
+    ensures { IfOk result (λ field.
+        option_map string_bytes field ≡ field_at (read_last sheet.now) (option_map place column.entry)) }
 {
     match column {
         Some(column) => Ok(Some(String::from_str(alloc, sheet.field(column)?)?)),
@@ -133,7 +133,8 @@ pub fn read_extras(
     delimiter: Delimiter,
 ) -> Result<Vec<Extra>, ExtraError>
     // They are those that the text has, and each date that is there is valid.
-    ensures extras { IfOk result (λ extras. map carried extras.items ≡ extras_in delimiter (columns_of (λ n. n.now) names.entry) text.now) }
+    ensures extras { IfOk result (λ extras.
+        map carried extras.items ≡ extras_in delimiter (columns_of (λ n. n.now) names.entry) text.now) }
     ensures dates { IfOk result (λ extras. All HasNoBadDate extras.items) }
 {
     let mut sheet = Sheet::open_with(alloc, text, delimiter)?;
@@ -147,7 +148,7 @@ pub fn read_extras(
     Ok(extras)
 }
 
-// Appends what these movements carry along that go out, or that come in.
+// Appends the dates and notes of those movements that go out, if `is_out`, or else of those that come in.
 fn push_turned(
     turned: &mut Vec<Extra>,
     movements: &[(Movement<String>, Extra)],
@@ -162,7 +163,7 @@ fn push_turned(
     Ok(())
 }
 
-/// Returns what the opposite movements of a batch carry along, each what the movement does that it takes back: first of those that took out, then
+/// Returns the dates and notes of the opposite movements of a batch. Each has those of the movement that it takes back: first of those that took out, then
 /// of those that brought in, as [`opposites`](crate::undoing::opposites) orders them.
 ///
 /// # Errors

@@ -4,7 +4,8 @@ ghost use Rattle.std.specs.Prelude.{◌≡◌};
 /// Where a movement is.
 #[derive(Clone, Copy, PartialEq, Eq, Debug)]
 pub struct Place {
-    /// The number of the movement's file, from 0.
+    /// The number of the movement's file, from 0. In what is read from a database it is 0, the number of the batch, or the
+    /// number of the movement: each call says which.
     pub file: usize,
     /// The line on which the movement begins, from 1.
     pub line: u64,

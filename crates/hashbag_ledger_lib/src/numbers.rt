@@ -1,7 +1,7 @@
 //! The numbers of a database: whole, with a sign, at most 2^63-1. In clauses, `MatchOption` says when a result is `None`, and else what is
 //! true of its value.
 ghost use Rattle.std.specs.Prelude.{◌≡◌, ◌≤◌, ◌<◌, ◌^◌, ◌-◌, pos, MatchOption};
-ghost use Rattle.hashbag_ledger_lib.specs.Numbers.{change_at, plain, size};
+ghost use Rattle.hashbag_ledger_lib.specs.Numbers.{change_at, plain, size, IsNumberOf};
 
 use crate::movements::Change;
 
@@ -33,7 +33,7 @@ pub fn size_of(change: Change) -> usize
 /// [`change_of`] turns the number back into the change, but `Out(0)` into `In(0)`.
 pub fn number_of(change: Change) -> Option<i64>
     // `None` exactly if the size is above [`MOST`]. Else the number's change is this one, `Out 0` as `In 0`.
-    ensures { MatchOption result (2 ^ 63 - 1 < size change) (λ n. (size change ≤ 2 ^ 63 - 1) × (change_at n ≡ plain change)) }
+    ensures { MatchOption result (2 ^ 63 - 1 < size change) (IsNumberOf change) }
 {
     match change {
         Change::In(n) => signed(n),

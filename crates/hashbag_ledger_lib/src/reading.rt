@@ -2,11 +2,10 @@
 ghost use Rattle.std.specs.Prelude.{◌≡◌, String, All, IfOk, IfSome, OnOk, map};
 ghost use Rattle.std.specs.Global.{Global};
 ghost use Rattle.std.specs.String.{string_eq};
-ghost use Rattle.hashbag_csv.specs.Lines.{place_of};
 ghost use Rattle.hashbag_csv.specs.Sheets.{place, read_last};
 ghost use Rattle.hashbag_ledger_lib.specs.Ledgers.{EntersFileInto, EntersMovement};
 ghost use Rattle.hashbag_ledger_lib.specs.declared.movements.Movement.{Movement};
-ghost use Rattle.hashbag_ledger_lib.specs.Movements.{said, signed, of_kind, change_by, columns_by, change_in, ReadsNextMovement, movements_named};
+ghost use Rattle.hashbag_ledger_lib.specs.Movements.{content_of, signed, of_kind, change_by, change_places, columns_by, change_in, movements_in, names_now, places_under, ReadsNextMovement};
 
 use crate::entering::LedgerError;
 use crate::ledger::Ledger;
@@ -44,7 +43,7 @@ fn change_columns_of<'n>(
     sheet: &Sheet<'_>,
     names: ChangeColumns<&'n str>,
 ) -> Result<ChangeColumns<Column<'n>>, SheetError>
-    ensures { IfOk result (λ columns. change_by place columns ≡ change_by (λ n. place_of (read_last sheet.now) n.now) names.entry) }
+    ensures { IfOk result (λ columns. change_by place columns ≡ change_places (read_last sheet.now) names.entry) }
 {
     match names {
         ChangeColumns::Signed(change) => Ok(ChangeColumns::Signed(column_of(sheet, change)?)),
@@ -60,7 +59,7 @@ fn columns_of<'n>(
     sheet: &Sheet<'_>,
     names: Columns<&'n str>,
 ) -> Result<Columns<Column<'n>>, SheetError>
-    ensures { IfOk result (λ columns. columns_by place columns ≡ columns_by (λ n. place_of (read_last sheet.now) n.now) names.entry) }
+    ensures { IfOk result (λ columns. columns_by place columns ≡ places_under (read_last sheet.now) names.entry) }
 {
     let article = column_of(sheet, names.article)?;
     let change = change_columns_of(sheet, names.change)?;
@@ -123,7 +122,7 @@ fn next_movement(
     columns: Columns<Column<'_>>,
     scale: Scale,
 ) -> Result<Option<Movement<String>>, SheetError>
-    ensures read { IfOk result (λ read. ReadsNextMovement scale (columns_by place columns.entry) sheet.old read sheet.new) }
+    ensures read { IfOk result (λ m. ReadsNextMovement scale (columns_by place columns.entry) sheet.old m sheet.new) }
     ensures place { IfOk result (λ read. IfSome read (λ m. m.place.file ≡ file)) }
 {
     if !sheet.read()? {
@@ -155,7 +154,8 @@ pub fn read_movements(
     reading: Reading,
 ) -> Result<Vec<Movement<String>>, SheetError>
     // The result is the list of the movements that the text has.
-    ensures movements { IfOk result (λ movements. map said movements.items ≡ movements_named reading names.entry text.now) }
+    ensures movements { IfOk result (λ movements.
+        map content_of movements.items ≡ movements_in reading (names_now names.entry) text.now) }
     ensures places { IfOk result (λ movements. All (λ m. m.place.file ≡ file) movements.items) }
 {
     let mut sheet = Sheet::open_with(alloc, text, reading.delimiter)?;
@@ -176,7 +176,6 @@ pub fn read_movements(
 // Enters a movement, which is that of the record that was read last, into a ledger.
 fn enter_record<S: BuildHasher + Drop>(
     alloc: Global,
-    sheet: &Sheet<'_>,
     ledger: &mut Ledger<String, S>,
     movement: Movement<String>,
     scale: Scale,
@@ -211,7 +210,8 @@ pub fn enter_movements<S: BuildHasher + Drop>(
     reading: Reading,
 ) -> Result<(), SheetError>
     // The movements of the text follow the movements that the ledger had.
-    ensures { OnOk result (EntersFileInto file (movements_named reading names.entry text.now) ledger.old ledger.new) }
+    ensures { OnOk result
+        (EntersFileInto file (movements_in reading (names_now names.entry) text.now) ledger.old ledger.new) }
 {
     let mut sheet = Sheet::open_with(alloc, text, reading.delimiter)?;
     let columns = columns_of(&sheet, names)?;
@@ -222,7 +222,7 @@ pub fn enter_movements<S: BuildHasher + Drop>(
         columns,
         reading.scale,
     )? {
-        enter_record(alloc, &sheet, ledger, movement, reading.scale)?;
+        enter_record(alloc, ledger, movement, reading.scale)?;
     }
     Ok(())
 }

@@ -1,6 +1,6 @@
 //! The rows of the balance that a batch changes.
 ghost use Rattle.std.specs.Prelude.{◌<◌, ◌↔◌, IsTrue, IfOk};
-ghost use Rattle.hashbag_ledger_lib.specs.Changes.{Rises, IsBefore, listed_of, Begins, AreNeeded, HaveRisingArticles, LeavesFewerRows, TurnInto};
+ghost use Rattle.hashbag_ledger_lib.specs.Changes.{Rises, AreChanges, IsBefore, listed_of, Begins, LeavesFewerRows};
 
 use std::alloc::{AllocError, Global};
 use std::cmp::Ordering;
@@ -78,9 +78,7 @@ pub fn changed_rows(
     after: &[(String, usize)],
 ) -> Result<Vec<RowChange>, AllocError>
     // If both balances are sorted, the changes turn one into the other, are sorted, and none is needless.
-    ensures makes { IfOk result (λ changes. Rises before.now → Rises after.now → TurnInto before.now changes.items after.now) }
-    ensures rising { IfOk result (λ changes. Rises before.now → Rises after.now → HaveRisingArticles changes.items) }
-    ensures needed { IfOk result (λ changes. Rises before.now → Rises after.now → AreNeeded before.now after.now changes.items) }
+    ensures { IfOk result (λ cs. Rises before.now → Rises after.now → AreChanges before.now after.now cs.items) }
 {
     let mut changes = Vec::new(alloc);
     let (mut old, mut new) = (before, after);

@@ -1,10 +1,10 @@
-//! The seal of a batch. A wrong seal shows a change that no count of the movements shows: of files, lines, times, dates, notes
-//! or the scale.
-ghost use Rattle.std.specs.Prelude.{◌≡◌, ℕ, ◌↔◌, List, Option, take, drop, option_map, string_bytes, IfOk, IsNone, IsTrue};
+//! The seal of a batch. A wrong seal shows what counting the movements again can't show: that the name of a file, a line, a time, a date, a
+//! note or the scale was changed.
+ghost use Rattle.std.specs.Prelude.{◌≡◌, ℕ, ◌↔◌, List, Option, take, drop, string_bytes, IfOk, IsNone, IsTrue};
 ghost use Rattle.hex.specs.Hex.{encode_lower};
 ghost use Rattle.sha2.specs.Hashers.{Holds256};
 ghost use Rattle.sha2.specs.Sha256.{sha256};
-ghost use Rattle.hashbag_ledger_lib.specs.Seals.{with_number, with_text, with_option, with_change, with_movement, with_movements, with_maybe, with_extra, with_extras, with_head, with_source, with_counts, seal_of, IsRowOf, AreRowsOf, AreSealed};
+ghost use Rattle.hashbag_ledger_lib.specs.Seals.{with_number, with_text, with_option, with_change, with_movement, with_movements, with_maybe, with_extra, with_extras, with_head, with_source, with_counts, seal_of, IsRowOf, IsSealed, AreRowsOf, AreSealed};
 
 use crate::extras::Extra;
 use crate::ledger::booking::count_refused;
@@ -106,7 +106,7 @@ fn add_movements(hasher: &mut Sha256, entries: &[Entry<String>])
 
 // Adds a text that may be missing.
 fn add_maybe(hasher: &mut Sha256, text: &Option<String>)
-    ensures { (m : List ℕ) → Holds256 hasher.old m → Holds256 hasher.new (with_maybe m (option_map string_bytes text.now)) }
+    ensures { (m : List ℕ) → Holds256 hasher.old m → Holds256 hasher.new (with_maybe m text.now) }
 {
     match text {
         Some(text) => {
@@ -217,7 +217,7 @@ fn is_sealed(
     entries: &[Entry<String>],
     extras: &[Extra],
 ) -> Result<bool, AllocError>
-    ensures { IfOk result (λ same. IsTrue same ↔ (string_bytes batch.now.seal ≡ seal_of scale batch.now entries.now extras.now)) }
+    ensures { IfOk result (λ same. IsTrue same ↔ IsSealed scale batch.now entries.now extras.now) }
 {
     let seal = seal_for(alloc, scale, batch, entries, extras)?;
     Ok(batch.seal.as_str() == seal.as_str())

@@ -5,9 +5,8 @@ ghost use Rattle.std.specs.String.{string_eq};
 ghost use Rattle.hashbag_csv.specs.Quantities.{numbers};
 ghost use Rattle.hashbag_ledger_lib.specs.Changes.{Rises};
 ghost use Rattle.hashbag_ledger_lib.specs.Errors.{IfTooMany};
-ghost use Rattle.hashbag_ledger_lib.specs.declared.movements.Place.{Place};
 ghost use Rattle.hashbag_ledger_lib.specs.Settled.{listed, IsPastWithin};
-ghost use Rattle.hashbag_ledger_lib.specs.Undos.{coming_back, going_back, opposites_of, EntersOrRefuses, IsUndo, IsChangedBy, HasRisingRows, RestoresWhatWas};
+ghost use Rattle.hashbag_ledger_lib.specs.Undos.{coming_back, going_back, opposites_of, EntersOrRefuses, IsUndo, IsChangedBy, HasRisingRows, OppositesFit, RestoresWhatWas};
 
 use crate::entering::LedgerError;
 use crate::filing::copy_of;
@@ -34,7 +33,8 @@ fn turn<T: Drop>(
     coming_in: &mut Vec<Movement<T>>,
     going_out: &mut Vec<Movement<T>>,
 ) -> Result<(), AllocError>
-    ensures coming { OnOk result (coming_in.new.items ≡ coming_in.old.items ++ coming_back movement movement.change []) }
+    ensures coming { OnOk result
+        (coming_in.new.items ≡ coming_in.old.items ++ coming_back movement movement.change []) }
     ensures going { OnOk result (going_out.new.items ≡ going_out.old.items ++ going_back movement movement.change []) }
 {
     let Movement {
@@ -110,7 +110,7 @@ pub fn take_back<S: BuildHasher + Drop>(
     ensures too_many { (result ≡ Err LedgerError.StartTooMany) ↔ (2 ^ 63 - 1 < numbers kept.items) }
 
     // On success no total passes [`MOST`]. `TooMany p`: with the opposite of the movement at `p` the total would.
-    ensures fit { OnOk result ((p : Place) → ¬ (IsPastWithin string_eq (2 ^ 63 - 1) kept.items (opposites_of batch.items) p)) }
+    ensures fit { OnOk result (OppositesFit kept.items batch.items) }
     ensures past { IfTooMany result (λ p. IsPastWithin string_eq (2 ^ 63 - 1) kept.items (opposites_of batch.items) p) }
 {
     let stock = stock_at_start(alloc, state, MOST, kept)?;
@@ -129,7 +129,8 @@ fn undone_rows(
     kept: &[(String, usize)],
     undo: &Undo<String>,
 ) -> Result<Vec<RowChange>, AllocError>
-    ensures { IfOk result (λ changed. Rises kept.now → HasRisingRows undo.now → IsChangedBy kept.now undo.now changed.items) }
+    ensures { IfOk result (λ changed.
+        Rises kept.now → HasRisingRows undo.now → IsChangedBy kept.now undo.now changed.items) }
 {
     match undo {
         Undo::Done(booked) => {

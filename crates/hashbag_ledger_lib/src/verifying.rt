@@ -1,7 +1,7 @@
 //! The kept balance and refusals, compared with those that are computed from the movements.
-ghost use Rattle.std.specs.Prelude.{◌≡◌, ◌≢◌, ℕ, ◌<◌, ◌≤◌, ◌↔◌, IsTrue, IsNone, IfNone, IfOk, IfSome, map, slice_get};
+ghost use Rattle.std.specs.Prelude.{◌≡◌, ◌≢◌, ◌≤◌, ◌↔◌, IsTrue, IsNone, IfNone, IfOk, IfSome, map, slice_get};
 ghost use Rattle.std.specs.Option.{option_copied, option_map};
-ghost use Rattle.hashbag_ledger_lib.specs.Rows.{row, rows_of, kept_of, wrong_row, wrong_movement, IsFirstDifference, article_with_both, first_row, row_there};
+ghost use Rattle.hashbag_ledger_lib.specs.Rows.{row, rows_of, kept_of, wrong_row, wrong_movement, AgreeBefore, IsFirstDifference, IsFirstWrongRow, article_with_both, first_row, row_there};
 
 use crate::extras::Extra;
 use crate::movements::{Movement, Refusal};
@@ -50,7 +50,7 @@ fn longest_of(kept: usize, counted: usize) -> usize
 
 // Returns whether two rows have the same article and the same number, or both rows are missing.
 fn is_same_row(kept: Option<&(String, usize)>, counted: Option<&(String, usize)>) -> bool
-    ensures { IsTrue result ↔ (option_map row (option_copied kept.entry) ≡ option_map row (option_copied counted.entry)) }
+    ensures { IsTrue result ↔ (row_there kept.entry ≡ row_there counted.entry) }
 {
     match (kept, counted) {
         (Some(old), Some(new)) => old.0.as_str() == new.0.as_str() && old.1 == new.1,
@@ -63,7 +63,7 @@ fn is_same_row(kept: Option<&(String, usize)>, counted: Option<&(String, usize)>
 fn first_difference(kept: &[(String, usize)], counted: &[(String, usize)]) -> Option<usize>
     ensures all_same { IfNone result (rows_of kept.now ≡ rows_of counted.now) }
     ensures differ { IfSome result (λ i. slice_get (rows_of kept.now) i ≢ slice_get (rows_of counted.now) i) }
-    ensures first { IfSome result (λ i. (k : ℕ) → k < i → slice_get (rows_of kept.now) k ≡ slice_get (rows_of counted.now) k) }
+    ensures first { IfSome result (λ i. AgreeBefore i (rows_of kept.now) (rows_of counted.now)) }
 {
     let longest = longest_of(kept.len(), counted.len());
     'rows: for i in 0..longest {
@@ -126,7 +126,7 @@ pub fn wrong_number<'a>(
     counted: &'a [(String, usize)],
 ) -> Option<WrongNumber<'a>>
     ensures agrees { IsNone result ↔ (rows_of kept.now ≡ rows_of counted.now) }
-    ensures first { IfSome result (λ w. IsFirstDifference wrong_row (rows_of kept.now) (rows_of counted.now) (Some (article_with_both w))) }
+    ensures first { IfSome result (IsFirstWrongRow kept.now counted.now) }
 {
     match first_difference(kept, counted) {
         Some(at) => wrong_of(kept.get(at), counted.get(at)),

@@ -8,7 +8,7 @@ pub record IsInside (old new : State) : Type 0 where
   pub keeps : HasCleanDisk new → KeepsCommit old new
   pub survives : Survives old new (λ _. ⊥)
 
--- one database is committed, or nothing is. A crash leaves what it could leave before, or this database
+-- one new content of the database is committed, or nothing is. A crash leaves what it could leave before, or this content
 pub record IsOneCommit (old new : State) (is_done : Bool) : Type 0 where
   pub database : Database
   pub done : HasCleanDisk new → is_done ≡ true → new.committed ≡ database

@@ -170,7 +170,8 @@ fn extra_columns(shape: Shape) -> &'static str {
     }
 }
 
-// Returns the movements that `rest` of a query names, in turn, each with its date and its note. `file` is the column of the file of its place.
+// Returns the movements that `rest` of a query names, in turn, each with its date and its note. `file` is what SQL puts
+// into `place.file`.
 fn carrying_of<S: Alter>(
     alloc: Global,
     conn: &mut Connection<S>,
@@ -297,7 +298,7 @@ pub fn movements_of_article<S: Alter>(
 /// All that a stock keeps.
 #[derive(Drop)]
 pub struct Kept {
-    /// What holds of all rows.
+    /// The shape of the stock.
     pub shape: Shape,
     /// All movements, in turn: [`movements_of`].
     pub movements: Vec<KeptMovement>,

@@ -123,7 +123,7 @@ fn mark_of(name: &str) -> Result<Mark, StockError> {
 /// - `Foreign` if the tables aren't those of a stock, `Later` if they are of a later version;
 /// - `Damaged` if the version, the scale, the mark or the delimiter is one that no stock has;
 /// - else the error of the database.
-pub fn form_of<S: Alter>(conn: &mut Connection<S>) -> Result<Contents, StockError> {
+pub fn contents_of<S: Alter>(conn: &mut Connection<S>) -> Result<Contents, StockError> {
     let tables: i64 = conn
         .query_row("SELECT count(*) FROM sqlite_schema", &[])?
         .get(0)?;

@@ -4,18 +4,19 @@ use crate::stock::database::{ended, is_of_database, open};
 use crate::stock::say::{random_state, say};
 use hashbag_ledger_args::job::Job;
 use hashbag_ledger_db::counting::{Counted, count_in};
-use hashbag_ledger_db::failure::Failure;
+use hashbag_ledger_db::troubles;
 use hashbag_shell::inputs::{HostInputs, Inputs};
 use hashbag_shell::output::Output;
 use hashbag_shell::status::DONE;
+use hashbag_shell::trouble::Trouble;
 
 // Returns a file that is named for two things.
-fn conflict<'a>(rt: &HostRuntime, request: &Job<'a>) -> Result<Option<&'a str>, Failure<'a>> {
-    if is_of_database(rt, request.db, request.counted)? {
-        return Ok(Some(request.counted));
+fn conflict<'a>(rt: &HostRuntime, job: &Job<'a>) -> Result<Option<&'a str>, Trouble<'a>> {
+    if is_of_database(rt, job.db, job.counted)? {
+        return Ok(Some(job.counted));
     }
-    if let Some(name) = request.output
-        && (is_same(rt, name, request.counted) || is_of_database(rt, request.db, name)?)
+    if let Some(name) = job.output
+        && (is_same(rt, name, job.counted) || is_of_database(rt, job.db, name)?)
     {
         return Ok(Some(name));
     }
@@ -23,14 +24,14 @@ fn conflict<'a>(rt: &HostRuntime, request: &Job<'a>) -> Result<Option<&'a str>, 
 }
 
 // Enters the differences between the stock and what was counted.
-fn counted<'a>(rt: &HostRuntime, request: &Job<'a>) -> Result<Counted, Failure<'a>> {
-    let inputs = HostInputs::new(rt, request.reports, &[request.counted]);
-    let bytes = inputs.read(request.counted);
+fn counted<'a>(rt: &HostRuntime, job: &Job<'a>) -> Result<Counted, Trouble<'a>> {
+    let inputs = HostInputs::new(rt, job.reports, &[job.counted]);
+    let bytes = inputs.read(job.counted);
     inputs.end();
     let bytes = bytes?;
     let state = random_state(rt)?;
-    let (mut conn, shape) = open(rt, request)?;
-    let done = count_in(rt.alloc(), state, request, shape, &mut conn, bytes);
+    let (mut conn, shape) = open(rt, job)?;
+    let done = count_in(rt.alloc(), state, job, shape, &mut conn, bytes);
     ended(conn, done)
 }
 
@@ -39,20 +40,20 @@ fn counted<'a>(rt: &HostRuntime, request: &Job<'a>) -> Result<Counted, Failure<'
 /// # Errors
 ///
 /// Why nothing is entered, or why the differences can't be written.
-pub fn count<'a>(rt: &HostRuntime, request: &Job<'a>) -> Result<u8, Failure<'a>> {
-    if let Some(name) = conflict(rt, request)? {
-        return Err(Failure::Conflict(name));
+pub fn count<'a>(rt: &HostRuntime, job: &Job<'a>) -> Result<u8, Trouble<'a>> {
+    if let Some(name) = conflict(rt, job)? {
+        return Err(troubles::conflict(rt.alloc(), name));
     }
-    let output = Output::open(rt, request.output)?;
-    match counted(rt, request) {
+    let output = Output::open(rt, job.output)?;
+    match counted(rt, job) {
         Ok(counted) => {
-            say(rt, request.quiet, counted.said.as_str());
+            say(rt, job.quiet, counted.said.as_str());
             output.write(rt, counted.table.as_slice())?;
             Ok(DONE)
         }
-        Err(failure) => {
+        Err(trouble) => {
             output.abandon(rt);
-            Err(failure)
+            Err(trouble)
         }
     }
 }

@@ -3,11 +3,12 @@ ghost use Rattle.std.specs.Prelude.{⊤};
 
 use crate::outputs::is_same;
 use hashbag_ledger_args::job::Job;
-use hashbag_ledger_db::failure::Failure;
 use hashbag_ledger_db::files::Databases;
-use hashbag_ledger_db::putting::{failure_of, in_database};
+use hashbag_ledger_db::putting::in_database;
+use hashbag_ledger_db::troubles::{no_file, no_stock, of_stock};
+use hashbag_shell::trouble::Trouble;
 use hashbag_stock::error::StockError;
-use hashbag_stock::tables::{Contents, Shape, form_of};
+use hashbag_stock::tables::{Contents, Shape, contents_of};
 use sqlite::{Connection, Error, ErrorCode, File, FileStore};
 use std::io::ErrorKind;
 use std::time::Duration;
@@ -16,9 +17,10 @@ use std::{fs, thread};
 /// A database in a file.
 pub type Db = Connection<FileStore<File>>;
 
-// How many milliseconds pass before a file that is in use is tried again, and how often in a second that is.
+// How many milliseconds pass before a file that is in use is tried again.
 const PAUSE: u64 = 50;
 
+// How often that is in a second.
 const TRIES: usize = 20;
 
 // Returns whether a file has no byte, or doesn't exist.
@@ -34,7 +36,7 @@ fn is_blank(rt: &HostRuntime, name: &str) -> bool {
 /// # Errors
 ///
 /// A failed allocation.
-pub fn is_new<'a>(rt: &HostRuntime, db: &str) -> Result<bool, Failure<'a>> {
+pub fn is_new<'a>(rt: &HostRuntime, db: &str) -> Result<bool, Trouble<'a>> {
     let log = format!(in rt.alloc(); "{db}-wal")?;
     Ok(is_blank(rt, db) && is_blank(rt, log.as_str()))
 }
@@ -44,7 +46,7 @@ pub fn is_new<'a>(rt: &HostRuntime, db: &str) -> Result<bool, Failure<'a>> {
 /// # Errors
 ///
 /// A failed allocation.
-pub fn is_of_database<'a>(rt: &HostRuntime, db: &str, name: &str) -> Result<bool, Failure<'a>> {
+pub fn is_of_database<'a>(rt: &HostRuntime, db: &str, name: &str) -> Result<bool, Trouble<'a>> {
     for end in ["", "-wal", "-shm", "-journal"] {
         let file = format!(in rt.alloc(); "{db}{end}")?;
         if is_same(rt, file.as_str(), name) {
@@ -55,7 +57,7 @@ pub fn is_of_database<'a>(rt: &HostRuntime, db: &str, name: &str) -> Result<bool
 }
 
 // Opens a file, and tries again for some seconds while another process has it open.
-fn open_at<'a>(rt: &HostRuntime, db: &'a str, wait: usize) -> Result<Db, Failure<'a>> {
+fn open_at<'a>(rt: &HostRuntime, db: &'a str, wait: usize) -> Result<Db, Trouble<'a>> {
     let tries = wait.saturating_mul(TRIES);
     for i in 0..u64::MAX {
         match Connection::open(rt, db) {
@@ -63,51 +65,51 @@ fn open_at<'a>(rt: &HostRuntime, db: &'a str, wait: usize) -> Result<Db, Failure
             Err(Error::SqliteFailure(ErrorCode::DatabaseBusy)) if i < tries as u64 => {
                 thread::sleep(rt, Duration::from_millis(PAUSE));
             }
-            Err(error) => return Err(failure_of(db, StockError::from(error))),
+            Err(error) => return Err(of_stock(rt.alloc(), db, StockError::from(error))),
         }
     }
-    Err(failure_of(db, StockError::Busy))
+    Err(of_stock(rt.alloc(), db, StockError::Busy))
 }
 
 /// Opens the database of a stock, or makes it, and returns what it has.
 ///
 /// # Errors
 ///
-/// Why it gives or takes no stock.
+/// Why it can't be opened as the database of a stock.
 pub fn open_or_make<'a>(
     rt: &HostRuntime,
     db: &'a str,
     wait: usize,
-) -> Result<(Db, Contents), Failure<'a>> {
+) -> Result<(Db, Contents), Trouble<'a>> {
     let mut conn = open_at(rt, db, wait)?;
-    match in_database(db, form_of(&mut conn)) {
-        Ok(form) => Ok((conn, form)),
-        Err(failure) => {
+    match in_database(rt.alloc(), db, contents_of(&mut conn)) {
+        Ok(contents) => Ok((conn, contents)),
+        Err(trouble) => {
             abandon(conn);
-            Err(failure)
+            Err(trouble)
         }
     }
 }
 
-/// Opens the database of a stock, and returns what holds of its rows.
+/// Opens the database of a stock, and returns the shape of the stock.
 ///
 /// # Errors
 ///
 /// `NoFile` or `NoStock` if there is none, or why it gives none.
-pub fn open<'a>(rt: &HostRuntime, request: &Job<'a>) -> Result<(Db, Shape), Failure<'a>> {
-    let db = request.db;
+pub fn open<'a>(rt: &HostRuntime, job: &Job<'a>) -> Result<(Db, Shape), Trouble<'a>> {
+    let db = job.db;
     if is_new(rt, db)? {
         return Err(match fs::metadata(rt, db) {
-            Ok(_) => Failure::NoStock { db },
-            Err(_) => Failure::NoFile { db },
+            Ok(_) => no_stock(rt.alloc(), db),
+            Err(_) => no_file(rt.alloc(), db),
         });
     }
-    let (conn, form) = open_or_make(rt, db, request.wait)?;
-    match form {
+    let (conn, contents) = open_or_make(rt, db, job.wait)?;
+    match contents {
         Contents::Stock(shape) => Ok((conn, shape)),
         Contents::Empty => {
             close(conn);
-            Err(Failure::NoStock { db })
+            Err(no_stock(rt.alloc(), db))
         }
     }
 }
@@ -122,7 +124,7 @@ fn abandon(conn: Db) {
 /// # Errors
 ///
 /// That of what was done.
-pub fn ended<'a, T>(conn: Db, done: Result<T, Failure<'a>>) -> Result<T, Failure<'a>> {
+pub fn ended<'a, T>(conn: Db, done: Result<T, Trouble<'a>>) -> Result<T, Trouble<'a>> {
     if done.is_ok() {
         close(conn);
     } else {
@@ -147,11 +149,11 @@ impl Databases<Db> for HostDatabases<'_> {
     // No clause of the system's says what a database has.
     ghost has = { λ _ _ _. ⊤ };
 
-    fn is_new<'a>(&self, db: &'a str) -> Result<bool, Failure<'a>> {
+    fn is_new<'a>(&self, db: &'a str) -> Result<bool, Trouble<'a>> {
         is_new(self.rt, db)
     }
 
-    fn open_or_make<'a>(&self, db: &'a str, wait: usize) -> Result<(Db, Contents), Failure<'a>> {
+    fn open_or_make<'a>(&self, db: &'a str, wait: usize) -> Result<(Db, Contents), Trouble<'a>> {
         open_or_make(self.rt, db, wait)
     }
 

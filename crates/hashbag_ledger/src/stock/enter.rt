@@ -2,13 +2,13 @@
 ghost use Rattle.std.specs.Prelude.{◌≡◌};
 
 use crate::outputs::{is_same, write_refusals};
-use crate::stock::database::{HostDatabases, ended, is_of_database, open, open_or_make};
+use crate::stock::database::{HostDatabases, ended, is_new, is_of_database, open, open_or_make};
 use crate::stock::say::{random_state, say};
 use hashbag_csv::delimiter::Delimiter;
 use hashbag_ledger_args::job::Job;
 use hashbag_ledger_db::entering::{Closed, Report, begin_in, beginning_of, closed_in};
-use hashbag_ledger_db::failure::Failure;
 use hashbag_ledger_db::files::enter_named;
+use hashbag_ledger_db::troubles;
 use hashbag_ledger_lib::output::typed_text;
 use hashbag_shell::inputs::{HostInputs, Inputs};
 use hashbag_shell::output::Output;
@@ -17,60 +17,56 @@ use hashbag_shell::trouble::Trouble;
 use hashbag_stock::tables::Contents;
 
 // Returns a file that is named for two things.
-fn conflict<'a>(rt: &HostRuntime, request: &Job<'a>) -> Result<Option<&'a str>, Failure<'a>> {
-    for name in [request.from, request.refused] {
+fn conflict<'a>(rt: &HostRuntime, job: &Job<'a>) -> Result<Option<&'a str>, Trouble<'a>> {
+    for name in [job.from, job.refused] {
         if let Some(file) = name
-            && is_of_database(rt, request.db, file)?
+            && is_of_database(rt, job.db, file)?
         {
             return Ok(Some(file));
         }
     }
-    for file in request.files.iter().copied() {
-        if is_of_database(rt, request.db, file)? {
+    for file in job.files.iter().copied() {
+        if is_of_database(rt, job.db, file)? {
             return Ok(Some(file));
         }
     }
-    Ok(
-        request
-            .refused
-            .filter(|refused| is_input(rt, request, *refused)),
-    )
+    Ok(job.refused.filter(|refused| is_input(rt, job, *refused)))
 }
 
 // Returns whether the file of refusals is an input.
-fn is_input(rt: &HostRuntime, request: &Job<'_>, refused: &str) -> bool {
-    if let Some(name) = request.from
+fn is_input(rt: &HostRuntime, job: &Job<'_>, refused: &str) -> bool {
+    if let Some(name) = job.from
         && is_same(rt, refused, name)
     {
         return true;
     }
-    request.files.iter().any(|file| is_same(rt, refused, *file))
+    job.files.iter().any(|file| is_same(rt, refused, *file))
 }
 
 // Opens the output of the refusals.
-fn output_of<'a>(rt: &HostRuntime, request: &Job<'a>) -> Result<Output<'a>, Failure<'a>> {
-    if let Some(name) = conflict(rt, request)? {
-        return Err(Failure::Conflict(name));
+fn output_of<'a>(rt: &HostRuntime, job: &Job<'a>) -> Result<Output<'a>, Trouble<'a>> {
+    if let Some(name) = conflict(rt, job)? {
+        return Err(troubles::conflict(rt.alloc(), name));
     }
-    Ok(Output::open(rt, request.refused)?)
+    Output::open(rt, job.refused)
 }
 
 // Writes the refusals, says which batches were entered, and returns the status.
 fn write<'a>(
     rt: &HostRuntime,
-    request: &Job<'a>,
+    job: &Job<'a>,
     output: Output<'a>,
-    entered: Result<Report, Failure<'a>>,
-) -> Result<u8, Failure<'a>> {
+    entered: Result<Report, Trouble<'a>>,
+) -> Result<u8, Trouble<'a>> {
     match entered {
         Ok(report) => {
             write_refusals(rt, output, report.refusals.as_slice())?;
-            say(rt, request.quiet, report.said.as_str());
+            say(rt, job.quiet, report.said.as_str());
             Ok(report.status)
         }
-        Err(failure) => {
+        Err(trouble) => {
             output.abandon(rt);
-            Err(failure)
+            Err(trouble)
         }
     }
 }
@@ -80,13 +76,13 @@ fn write<'a>(
 /// # Errors
 ///
 /// Why nothing is entered.
-pub fn enter<'a>(rt: &HostRuntime, request: &Job<'a>) -> Result<u8, Failure<'a>> {
+pub fn enter<'a>(rt: &HostRuntime, job: &Job<'a>) -> Result<u8, Trouble<'a>> {
     let state = random_state(rt)?;
-    let output = output_of(rt, request)?;
-    let inputs = HostInputs::new(rt, request.reports, &request.files);
-    let entered = enter_named(rt.alloc(), state, &inputs, &HostDatabases { rt }, request);
+    let output = output_of(rt, job)?;
+    let inputs = HostInputs::new(rt, job.reports, &job.files);
+    let entered = enter_named(rt.alloc(), state, &inputs, &HostDatabases { rt }, job);
     inputs.end();
-    write(rt, request, output, entered)
+    write(rt, job, output, entered)
 }
 
 // A text that is typed in place of each input.
@@ -104,29 +100,32 @@ impl Inputs for Typed {
 }
 
 /// Enters one movement of the article that is asked for, of the number that is typed, with this sign: its text is entered in place of
-/// standard input. The job is one of [`Job::typed`].
+/// standard input. `job` is what [`Job::typed`] returned.
 ///
 /// # Errors
 ///
-/// Why it isn't entered.
-pub fn enter_typed<'a>(rt: &HostRuntime, request: &Job<'a>, sign: &str) -> Result<u8, Failure<'a>> {
-    let article = request.articles.first().copied().unwrap_or("");
-    let text = typed_text(rt.alloc(), Delimiter::Comma, article, sign, request.number)?;
+/// Why it isn't entered: there is no such database, say. [`enter`] alone makes one.
+pub fn enter_typed<'a>(rt: &HostRuntime, job: &Job<'a>, sign: &str) -> Result<u8, Trouble<'a>> {
+    if is_new(rt, job.db)? {
+        return Err(troubles::no_file(rt.alloc(), job.db));
+    }
+    let article = job.articles.first().copied().unwrap_or("");
+    let text = typed_text(rt.alloc(), Delimiter::Comma, article, sign, job.number)?;
     let state = random_state(rt)?;
-    let output = output_of(rt, request)?;
+    let output = output_of(rt, job)?;
     let inputs = Typed { text };
-    let entered = enter_named(rt.alloc(), state, &inputs, &HostDatabases { rt }, request);
-    write(rt, request, output, entered)
+    let entered = enter_named(rt.alloc(), state, &inputs, &HostDatabases { rt }, job);
+    write(rt, job, output, entered)
 }
 
 // Begins a new database with what another one leaves to it.
-fn begin<'a>(rt: &HostRuntime, request: &Job<'a>, closed: &Closed) -> Result<(), Failure<'a>> {
+fn begin<'a>(rt: &HostRuntime, job: &Job<'a>, closed: &Closed) -> Result<(), Trouble<'a>> {
     let (alloc, state) = (rt.alloc(), random_state(rt)?);
-    let inputs = [beginning_of(alloc, request, closed)?];
-    let (mut conn, form) = open_or_make(rt, request.into, request.wait)?;
-    let begun = match form {
-        Contents::Empty => begin_in(alloc, state, request, closed, inputs.as_slice(), &mut conn),
-        Contents::Stock(_) => Err(Failure::HasStock { db: request.into }),
+    let inputs = [beginning_of(alloc, job, closed)?];
+    let (mut conn, contents) = open_or_make(rt, job.into, job.wait)?;
+    let begun = match contents {
+        Contents::Empty => begin_in(alloc, state, job, closed, inputs.as_slice(), &mut conn),
+        Contents::Stock(_) => Err(troubles::has_stock(alloc, job.into)),
     };
     ended(conn, begun)
 }
@@ -136,12 +135,12 @@ fn begin<'a>(rt: &HostRuntime, request: &Job<'a>, closed: &Closed) -> Result<(),
 /// # Errors
 ///
 /// Why there is no balance, or why the new database takes none.
-pub fn close<'a>(rt: &HostRuntime, request: &Job<'a>) -> Result<u8, Failure<'a>> {
-    if is_of_database(rt, request.db, request.into)? {
-        return Err(Failure::Conflict(request.into));
+pub fn close<'a>(rt: &HostRuntime, job: &Job<'a>) -> Result<u8, Trouble<'a>> {
+    if is_of_database(rt, job.db, job.into)? {
+        return Err(troubles::conflict(rt.alloc(), job.into));
     }
-    let (mut conn, shape) = open(rt, request)?;
-    let closed = closed_in(rt.alloc(), request, shape, &mut conn);
-    begin(rt, request, &ended(conn, closed)?)?;
+    let (mut conn, shape) = open(rt, job)?;
+    let closed = closed_in(rt.alloc(), job, shape, &mut conn);
+    begin(rt, job, &ended(conn, closed)?)?;
     Ok(DONE)
 }

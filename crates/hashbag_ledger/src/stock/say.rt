@@ -1,14 +1,13 @@
 //! What all subcommands take of the system.
-use hashbag_ledger_db::failure::Failure;
 use hashbag_shell::output::write_text;
 use hashbag_shell::trouble::Trouble;
 use std::hash::RandomState;
 
 /// Returns the state that bags of strangers' articles take: its keys are random.
-pub fn random_state<'a>(rt: &HostRuntime) -> Result<RandomState, Failure<'a>> {
+pub fn random_state<'a>(rt: &HostRuntime) -> Result<RandomState, Trouble<'a>> {
     match RandomState::new(rt) {
         Ok(state) => Ok(state),
-        Err(error) => Err(Failure::from(Trouble::Random(error))),
+        Err(error) => Err(Trouble::Random(error)),
     }
 }
 

@@ -1,25 +1,31 @@
 //! A batch that is taken back.
 use crate::stock::database::{ended, open};
 use crate::stock::say::{random_state, say};
+use hashbag_ledger_args::command::PROGRAM;
 use hashbag_ledger_args::job::Job;
-use hashbag_ledger_db::failure::Failure;
+use hashbag_ledger_db::troubles;
 use hashbag_ledger_db::undoing::undo_in;
 use hashbag_shell::output::write_text;
+use hashbag_shell::status::DENIED;
+use hashbag_shell::trouble::Trouble;
 
 /// Enters the opposite movements of a batch, all or none. Writes the refusals, or says which batch was entered.
 ///
 /// # Errors
 ///
 /// Why the batch can't be taken back.
-pub fn undo<'a>(rt: &HostRuntime, request: &Job<'a>) -> Result<u8, Failure<'a>> {
-    if request.last == request.batch.is_some() {
-        return Err(Failure::NoBatchNamed);
+pub fn undo<'a>(rt: &HostRuntime, job: &Job<'a>) -> Result<u8, Trouble<'a>> {
+    if job.last == job.batch.is_some() {
+        return Err(troubles::no_batch_named(rt.alloc()));
     }
     let state = random_state(rt)?;
-    let (mut conn, shape) = open(rt, request)?;
-    let done = undo_in(rt.alloc(), state, request, shape, &mut conn);
+    let (mut conn, shape) = open(rt, job)?;
+    let done = undo_in(rt.alloc(), state, job, shape, &mut conn);
     let report = ended(conn, done)?;
-    say(rt, request.quiet, report.said.as_str());
+    say(rt, job.quiet, report.said.as_str());
     write_text(&mut rt.stderr(), report.refusals.as_bytes())?;
+    if report.status == DENIED {
+        let _ = eprintln!(rt; "{PROGRAM}: {}: nothing was undone", job.db);
+    }
     Ok(report.status)
 }

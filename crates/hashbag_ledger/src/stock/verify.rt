@@ -2,10 +2,10 @@
 use crate::stock::database::{ended, open};
 use crate::stock::say::random_state;
 use hashbag_ledger_args::job::Job;
-use hashbag_ledger_db::failure::Failure;
 use hashbag_ledger_db::verifying::{Verdict, verify_in};
 use hashbag_shell::output::write_text;
 use hashbag_shell::status::{DENIED, DONE};
+use hashbag_shell::trouble::Trouble;
 use std::io;
 
 /// Counts all movements again, compares the balance, the refusals and the seals that are kept, and says whether they agree.
@@ -13,10 +13,10 @@ use std::io;
 /// # Errors
 ///
 /// Why they can't be read, or the answer can't be written.
-pub fn verify<'a>(rt: &HostRuntime, request: &Job<'a>) -> Result<u8, Failure<'a>> {
+pub fn verify<'a>(rt: &HostRuntime, job: &Job<'a>) -> Result<u8, Trouble<'a>> {
     let state = random_state(rt)?;
-    let (mut conn, shape) = open(rt, request)?;
-    let verdict = verify_in(rt.alloc(), state, request, shape, &mut conn);
+    let (mut conn, shape) = open(rt, job)?;
+    let verdict = verify_in(rt.alloc(), state, job, shape, &mut conn);
     match ended(conn, verdict)? {
         Verdict::Differs(text) => {
             write_text(&mut rt.stderr(), text.as_bytes())?;

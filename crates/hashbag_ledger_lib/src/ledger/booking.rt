@@ -89,8 +89,8 @@ pub fn book_all<S: BuildHasher + Drop>(
 
 /// Enters movements, in turn, into the kept balance, and returns the new balance, and what became of each movement.
 ///
-/// If earlier movements left the kept balance, the new balance, and the earlier refusals followed by the new ones, are those of all these
-/// movements in one turn.
+/// Let earlier movements have left the kept balance. Then the new balance, and the earlier refusals followed by the new ones, are those of
+/// all these movements entered as one batch.
 ///
 /// # Errors
 ///

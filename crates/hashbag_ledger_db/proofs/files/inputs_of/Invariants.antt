@@ -6,5 +6,5 @@ use Rattle.hashbag_ledger_db.proofs.files.inputs_of.Given as goal
 -- so far the inputs are the stock at the beginning and the first files
 abbrev pub invariant-loop-file : goal.invariant-loop-file
 invariant-loop-file g l =
-    (map named l.inputs.items ≡ map (λ file. (file.now, true)) (option_to_list l.fn.request.from) ++ map (λ file. (file.now, false)) (take l.file-index l.fn.request.files.items))
-    × All (IsRead (g.I.Inputs.gives l.fn.files) l.fn.request) l.inputs.items
+    (map named l.inputs.items ≡ map (λ file. (file.now, true)) (option_to_list l.fn.job.from) ++ map (λ file. (file.now, false)) (take l.file-index l.fn.job.files.items))
+    × All (IsRead (g.I.Inputs.gives l.fn.files) l.fn.job) l.inputs.items

@@ -1,7 +1,7 @@
 use Rattle.std.proofs.Common.{◌∷◌, ◌++◌, [], ℕ, List, length, arith, sym, ap, subst}
 use Rattle.hashbag_csv.specs.Sheets.{left, place, read_last}
 use Rattle.hashbag_ledger_lib.specs.declared.movements.Change.{Change}
-use Rattle.hashbag_ledger_lib.specs.Movements.{columns_by, movement_in, said, EntersFile}
+use Rattle.hashbag_ledger_lib.specs.Movements.{columns_by, movement_in, content_of, EntersFile}
 use Rattle.hashbag_ledger_lib.proofs.ReadLemmas.{all_read, enters_none, enters_one, one_read, under_header}
 use Rattle.hashbag_ledger_lib.proofs.reading.enter_movements.Goals as goal
 
@@ -20,8 +20,8 @@ records-preserved g c =
     let (r, next, same) = rw c.in-Some.is at c.in_ok-movement.ensures.read in
     let f = movement_in c.args.reading.scale (columns_by place c.in_ok-columns.columns) in
     record {
-      so_far = c.records.invariant.so_far ++ said m ∷ [];
-      read = one_read f _ c.records.invariant.so_far (left c.records.sheet) (left c.next_movement.new.sheet) r (said m) c.records.invariant.read next same;
+      so_far = c.records.invariant.so_far ++ content_of m ∷ [];
+      read = one_read f _ c.records.invariant.so_far (left c.records.sheet) (left c.next_movement.new.sheet) r (content_of m) c.records.invariant.read next same;
       entered = enters_one c.args.file c.records.invariant.so_far m c.enter_record.new.ledger.refusals.items c.enter_record.new.ledger.stock c.records.invariant.entered (rw c.in-Some.is at c.in_ok-movement.ensures.place) c.in_ok-enter_record.ensures;
     }
 

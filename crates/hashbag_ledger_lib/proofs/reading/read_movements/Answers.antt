@@ -3,7 +3,7 @@ use Rattle.std.proofs.lemmas.List.{map-append}
 use Rattle.std.proofs.lemmas.List.Elements.{All-push}
 use Rattle.hashbag_csv.specs.Sheets.{left, place, read_last}
 use Rattle.hashbag_ledger_lib.specs.declared.movements.Movement.{Movement}
-use Rattle.hashbag_ledger_lib.specs.Movements.{columns_by, movement_in, said}
+use Rattle.hashbag_ledger_lib.specs.Movements.{columns_by, movement_in, content_of}
 use Rattle.hashbag_ledger_lib.proofs.ReadLemmas.{all_read, one_read, under_header}
 use Rattle.hashbag_ledger_lib.proofs.reading.read_movements.Goals as goal
 
@@ -15,7 +15,7 @@ records-init c =
     record {
       places = subst (λ (l : List (Movement (String Global))). All (λ m. m.place.file ≡ c.args.file) l) none (λ k d few. absurd (omega (arith, few)));
       read = under_header c.args.reading.scale c.args.names _ (read_last c.in_ok-sheet.sheet) (left c.in_ok-sheet.sheet) (columns_by place c.in_ok-columns.columns) c.in_ok-sheet.ensures c.in_ok-columns.ensures
-          ∙ ap (λ (l : List (Movement (String Global))). map said l ++ map f (left c.in_ok-sheet.sheet)) none;
+          ∙ ap (λ (l : List (Movement (String Global))). map content_of l ++ map f (left c.in_ok-sheet.sheet)) none;
     }
 
 -- one more movement
@@ -29,8 +29,8 @@ records-preserved c =
     record {
       places = subst (λ (l : List (Movement (String Global))). All (λ m. m.place.file ≡ c.args.file) l) (sym noted)
           (All-push (λ (m : Movement (String Global)). m.place.file ≡ c.args.file) c.records.movements.items m c.records.invariant.places (rw c.in-Some.is at c.in_ok-movement.ensures.place));
-      read = one_read f _ (map said c.records.movements.items) (left c.records.sheet) (left c.next_movement.new.sheet) r (said m) c.records.invariant.read next same
-          ∙ ap (λ l. l ++ map f (left c.next_movement.new.sheet)) (sym (map-append said c.records.movements.items (m ∷ [])) ∙ ap (map said) (sym noted));
+      read = one_read f _ (map content_of c.records.movements.items) (left c.records.sheet) (left c.next_movement.new.sheet) r (content_of m) c.records.invariant.read next same
+          ∙ ap (λ l. l ++ map f (left c.next_movement.new.sheet)) (sym (map-append content_of c.records.movements.items (m ∷ [])) ∙ ap (map content_of) (sym noted));
     }
 
 -- a record less is left
@@ -44,4 +44,4 @@ records-smaller c =
 pub returns-clause-movements : goal.returns-clause-movements
 returns-clause-movements c =
     let none = rw c.in_default.is at c.in_ok-movement.ensures.read in
-    sym (all_read (movement_in c.args.reading.scale (columns_by place c.in_ok-columns.columns)) _ (map said c.records.movements.items) (left c.records.sheet) c.records.invariant.read none)
+    sym (all_read (movement_in c.args.reading.scale (columns_by place c.in_ok-columns.columns)) _ (map content_of c.records.movements.items) (left c.records.sheet) c.records.invariant.read none)

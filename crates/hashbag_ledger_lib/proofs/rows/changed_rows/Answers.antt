@@ -24,10 +24,5 @@ pub returns : goal.returns
 returns c =
     let no_old : c.rows.old.now ≡ [] = nil_from_length _ (eqb-true _ _ (sym c.if-not-is_empty.ensures)) in
     let no_new : c.rows.new.now ≡ [] = nil_from_length _ (eqb-true _ _ (sym c.if-not-is_empty-2.ensures)) in
-    let all = subst (λ (l : List RowChange). Rises c.args.before.now → Rises c.args.after.now → AreChanges c.args.before.now c.args.after.now l) (append-nil c.rows.changes.items)
-    (c.rows.invariant [] (λ _ _. subst₂ (λ (l m : List (String Global × ℕ)). AreChanges l m []) (sym no_old) (sym no_new) none)) in
-    record {
-      makes = λ rises rises_too. (all rises rises_too).makes;
-      rising = λ rises rises_too. (all rises rises_too).rising;
-      needed = λ rises rises_too. (all rises rises_too).needed;
-    }
+    subst (λ (l : List RowChange). Rises c.args.before.now → Rises c.args.after.now → AreChanges c.args.before.now c.args.after.now l) (append-nil c.rows.changes.items)
+    (c.rows.invariant [] (λ _ _. subst₂ (λ (l m : List (String Global × ℕ)). AreChanges l m []) (sym no_old) (sym no_new) none))

@@ -1,0 +1,151 @@
+//! Why a subcommand doesn't do all that it is asked, as the trouble of a program.
+use hashbag_csv::counts::Reading;
+use hashbag_csv::decimals::write_decimal;
+use hashbag_csv::fault::{SheetError, in_file};
+use hashbag_ledger_lib::extras::ExtraError;
+use hashbag_ledger_lib::numbers::MOST;
+use hashbag_ledger_lib::once::Batch;
+use hashbag_shell::status::{
+    BAD_INPUT, DENIED, ENTERED_BEFORE, IN_USE, IO_FAILED, TOTAL_TOO_LARGE,
+};
+use hashbag_shell::trouble::Trouble;
+use hashbag_stock::error::StockError;
+use sqlite::ErrorCode;
+use std::alloc::{AllocError, Global};
+
+// Returns the trouble of bad arguments or bad contents.
+fn bad<'a>(what: Result<String, AllocError>) -> Trouble<'a> {
+    Trouble::with_status(what, BAD_INPUT)
+}
+
+/// Returns the trouble of a database that can't be read or written as a stock.
+pub fn of_stock<'a>(alloc: Global, db: &str, error: StockError) -> Trouble<'a> {
+    let status = match &error {
+        StockError::Memory => return Trouble::Memory,
+        StockError::Busy => IN_USE,
+        StockError::Database(
+            sqlite::Error::SqliteFailure(
+                ErrorCode::CannotOpen
+                | ErrorCode::SystemIoFailure
+                | ErrorCode::DiskFull
+                | ErrorCode::Closed,
+            ),
+        ) => IO_FAILED,
+        _ => BAD_INPUT,
+    };
+    Trouble::with_status(format!(in alloc; "{db}: {error}"), status)
+}
+
+/// Returns the trouble of a stored balance past the maximum. No batch can cause it.
+pub fn start_too_many<'a>(alloc: Global, db: &str) -> Trouble<'a> {
+    let error = StockError::Damaged("a balance past 9223372036854775807 in all");
+    of_stock(alloc, db, error)
+}
+
+/// Returns the trouble of a file that is named for two things.
+pub fn conflict<'a>(alloc: Global, file: &str) -> Trouble<'a> {
+    bad(format!(in alloc; "{file}: both an input and an output, or two outputs"))
+}
+
+/// Returns the trouble of a database that has no file.
+pub fn no_file<'a>(alloc: Global, db: &str) -> Trouble<'a> {
+    Trouble::with_status(format!(in alloc; "{db}: no such file"), IO_FAILED)
+}
+
+/// Returns the trouble of a file without a table.
+pub fn no_stock<'a>(alloc: Global, db: &str) -> Trouble<'a> {
+    bad(format!(in alloc; "{db}: no stock in it yet"))
+}
+
+/// Returns the trouble of a new stock where there is one already.
+pub fn has_stock<'a>(alloc: Global, db: &str) -> Trouble<'a> {
+    bad(format!(in alloc; "{db}: has a stock already, so it takes no other at the beginning"))
+}
+
+/// Returns the trouble of a count in tables of a version that has no counts.
+pub fn no_counts<'a>(alloc: Global, db: &str, version: i64) -> Trouble<'a> {
+    bad(format!(in alloc;
+        "{db}: tables of version {version} take no count: `close --into NEW` makes newer ones"
+    ))
+}
+
+/// Returns the trouble of a stock whose numbers have another scale.
+pub fn other_scale<'a>(alloc: Global, db: &str, kept: u32, asked: u32) -> Trouble<'a> {
+    bad(format!(in alloc; "{db}: numbers have {kept} decimals, not {asked}"))
+}
+
+/// Returns the trouble of a stock that keeps no dates and no notes.
+pub fn no_dates<'a>(alloc: Global, db: &str) -> Trouble<'a> {
+    bad(format!(in alloc;
+        "{db}: keeps no dates and no notes; `close --into NEW` begins a stock that does"
+    ))
+}
+
+/// Returns the trouble of dates and notes that can't be read.
+pub fn of_extras<'a>(alloc: Global, file: &'a str, error: ExtraError) -> Trouble<'a> {
+    match error {
+        ExtraError::NoDate { line, field } => bad(format!(in alloc;
+            "{file}:{line}: no date: `{field}`; a date is written as 2026-02-28"
+        )),
+        ExtraError::Sheet(error) => {
+            let read: Result<(), SheetError> = Err(error);
+            match in_file(alloc, file, read) {
+                Ok(()) => Trouble::Memory,
+                Err(trouble) => trouble,
+            }
+        }
+    }
+}
+
+/// Returns the trouble of a balance on a day that is no date.
+pub fn no_day<'a>(alloc: Global) -> Trouble<'a> {
+    bad("--at takes a date, as 2026-02-28".to_string(alloc))
+}
+
+/// Returns the trouble of movements up to a day that are too many to be added up.
+pub fn moved_too_much<'a>(alloc: Global, db: &str) -> Trouble<'a> {
+    let what = format!(in alloc; "{db}: more than 18446744073709551615 moved up to that day");
+    Trouble::with_status(what, TOTAL_TOO_LARGE)
+}
+
+/// Returns the trouble of a file that was entered before, as this batch.
+pub fn entered_as<'a>(alloc: Global, file: &str, batch: &Batch) -> Trouble<'a> {
+    let (number, name) = (batch.number, batch.file.as_str());
+    let what = format!(in alloc;
+        "{file}: entered before, as batch {number} ({name}); `enter --again` enters it again"
+    );
+    Trouble::with_status(what, ENTERED_BEFORE)
+}
+
+/// Returns the trouble of two files with the same bytes.
+pub fn same_bytes<'a>(alloc: Global, file: &str, other: &str) -> Trouble<'a> {
+    Trouble::with_status(
+        format!(in alloc; "{file}: the same bytes as {other}"),
+        ENTERED_BEFORE,
+    )
+}
+
+/// Returns the trouble of a line whose movement, or the opposite of it, takes the total past the maximum.
+pub fn too_large<'a>(alloc: Global, file: &str, line: u64, reading: Reading) -> Trouble<'a> {
+    let what = match write_decimal(alloc, MOST, reading.scale) {
+        Ok(most) => format!(in alloc; "{file}:{line}: total past {most}"),
+        Err(error) => Err(error),
+    };
+    Trouble::with_status(what, TOTAL_TOO_LARGE)
+}
+
+/// Returns the trouble of a stock that has no batch of that number or file, or none that may be undone.
+pub fn no_batch<'a>(alloc: Global, db: &str, name: &str) -> Trouble<'a> {
+    bad(format!(in alloc; "{db}: no batch {name}"))
+}
+
+/// Returns the trouble of an undo that doesn't name one batch.
+pub fn no_batch_named<'a>(alloc: Global) -> Trouble<'a> {
+    bad("undo takes a batch, by its number or its file, or --last".to_string(alloc))
+}
+
+/// Returns the trouble of a batch that was undone before.
+pub fn undone_before<'a>(alloc: Global, db: &str, number: i64, by: i64) -> Trouble<'a> {
+    let what = format!(in alloc; "{db}: batch {number} was undone by batch {by}");
+    Trouble::with_status(what, DENIED)
+}
