@@ -13,7 +13,7 @@ module _ {T : Type 0} (ts : List ℕ) (cs : List (Option (T × ℕ))) where
   agree_from_first agree = record {
     same_length = agree.same_length;
     filled = λ p _ high. agree.filled p high;
-    marked = λ p e cell. (omega arith, agree.marked p e cell);
+    tagged = λ p e cell. (omega arith, agree.tagged p e cell);
   }
 
   pub all_blank : Agree ts cs → ((p : ℕ) → get_or ts p 0 < 128) → cs ≡ replicate (length ts) None
@@ -31,8 +31,8 @@ module _ {T : Type 0} (ts : List ℕ) (cs : List (Option (T × ℕ))) where
   none_after from to agree le low = record {
     same_length = agree.same_length;
     filled = λ p beyond high. agree.filled p (omega arith) high;
-    marked = λ p e cell.
-        let m = agree.marked p e cell in let high = m.1 in
+    tagged = λ p e cell.
+        let m = agree.tagged p e cell in let high = m.1 in
         elim (cases_lt p to) [
           | inl before ↦ absurd (let l = low p m.0 before in omega arith)
           | inr beyond ↦ (beyond, high)
@@ -48,11 +48,11 @@ module _ {T : Type 0} (ts : List ℕ) (cs : List (Option (T × ℕ))) where
         filled = λ p beyond high.
             let c = agree.filled p (omega arith) high in
             (c.0, get_or-set_other cs place p None None (λ is. absurd (omega arith)) ∙ c.1);
-        marked = λ p e cell.
+        tagged = λ p e cell.
             elim (set_at cs place None None (omega arith) p) [
               | inl x ↦ absurd (let is = x.1 in cc)
               | inr x ↦
-                  let m = agree.marked p e (sym x.1 ∙ cell) in let high = m.1 in
+                  let m = agree.tagged p e (sym x.1 ∙ cell) in let high = m.1 in
                   elim (cases_lt p place) [
                     | inl before ↦ absurd (let l = low p m.0 before in omega arith)
                     | inr beyond ↦ (let other = x.0 in omega arith, high)
@@ -63,4 +63,4 @@ module _ {T : Type 0} (ts : List ℕ) (cs : List (Option (T × ℕ))) where
   pub none_left : (from : ℕ) → AgreeFrom from ts cs → length ts ≤ from → cs ≡ replicate (length ts) None
   none_left from agree le =
       all_same cs (length ts) None None (sym agree.same_length) (λ q lt.
-      none_cases (get_or cs q None) (λ e h. let m = agree.marked q e h in omega arith))
+      none_cases (get_or cs q None) (λ e h. let m = agree.tagged q e h in omega arith))

@@ -3,7 +3,7 @@ use Rattle.std.proofs.Common.{◌≡◌, ◌≢◌, ℕ, zero, suc, ◌<◌, ◌
 use Rattle.std.proofs.lemmas.Bool.{cases_lt, le-leb, lt-leb}
 use Rattle.hashbag_slots.specs.declared.slots.Slot.TheVariants.{Empty, Removed, Moved, Live}
 use Rattle.hashbag_slots.specs.Slots.{path_slot, slot_at, holds, is_live, is_removed, IsNextLive, IsFirstFree}
-use Rattle.hashbag_slots.specs.Columns.{mark_of, IsNextMark, slot_of, slots_of, columns, Agree, IsReached}
+use Rattle.hashbag_slots.specs.Columns.{fingerprint_of, IsNextMark, slot_of, slots_of, columns, Agree, IsReached}
 use Rattle.hashbag_slots.proofs.Paths.{path_below}
 use Rattle.hashbag_slots.proofs.Probing.{false_by, holder}
 
@@ -54,7 +54,7 @@ module _ {T : Type 0} (ts : List ℕ) (cs : List (Option (T × ℕ))) (agree : A
 
   -- a tag below 128 is that of an empty cell
   pub no_cell : get_or ts p 0 < 128 → get_or cs p None ≡ None
-  no_cell low = none_cases (get_or cs p None) (λ e h. let m = agree.marked p e h in omega arith)
+  no_cell low = none_cases (get_or cs p None) (λ e h. let m = agree.tagged p e h in omega arith)
 
   pub dead_at : get_or ts p 0 < 128 → is_live (slot_at (slots_of ts cs) p) ≡ false
   dead_at low = ap is_live at ∙ ap (λ c. is_live (slot_of (get_or ts p 0) c)) (no_cell low) ∙ dead_slot T (get_or ts p 0)
@@ -62,15 +62,15 @@ module _ {T : Type 0} (ts : List ℕ) (cs : List (Option (T × ℕ))) (agree : A
   pub removed_at : get_or ts p 0 < 128 → is_removed (slot_at (slots_of ts cs) p) ≡ nat_eq (get_or ts p 0) 1
   removed_at low = ap is_removed at ∙ ap (λ c. is_removed (slot_of (get_or ts p 0) c)) (no_cell low) ∙ removed_slot T (get_or ts p 0)
 
-  pub marked_at : is_live (slot_at (slots_of ts cs) p) ≡ true → (128 ≤ get_or ts p 0) × (e : T × ℕ) × (get_or cs p None ≡ Some e)
-  marked_at h =
+  pub tagged_at : is_live (slot_at (slots_of ts cs) p) ≡ true → (128 ≤ get_or ts p 0) × (e : T × ℕ) × (get_or cs p None ≡ Some e)
+  tagged_at h =
       let c = cell_of_live (get_or ts p 0) (get_or cs p None) (sym (ap is_live at) ∙ h) in
-      (agree.marked p c.0 c.1, c.0, c.1)
+      (agree.tagged p c.0 c.1, c.0, c.1)
 
   pub alive_at : 128 ≤ get_or ts p 0 → is_live (slot_at (slots_of ts cs) p) ≡ true
   alive_at h = let c = agree.filled p h in ap is_live (live_at c.0 c.1)
 
-  -- a slot is Live exactly if its tag is a mark
+  -- a slot is Live exactly if its tag is a fingerprint
   pub live_by_tag : leb 128 (get_or ts p 0) ≡ is_live (slot_at (slots_of ts cs) p)
   live_by_tag = elim (cases_lt (get_or ts p 0) 128) [
     | inl low ↦ lt-leb 128 (get_or ts p 0) low ∙ sym (dead_at low)
@@ -90,12 +90,12 @@ module _ {T : Type 0} (ts : List ℕ) (cs : List (Option (T × ℕ))) (agree : A
     pub holds_at : (e : T × ℕ) → get_or cs p None ≡ Some e → holds test (slot_at (slots_of ts cs) p) ≡ test e.0
     holds_at e h = ap (holds test) (live_at e h)
 
-    -- a slot with another mark than what passes has holds another value
-    pub holds_other : (hash : T → ℕ) (h : ℕ) → ((v : T) → test v ≡ true → hash v ≡ h) → IsReached hash (columns ts cs) → get_or ts p 0 ≢ mark_of h → holds test (slot_at (slots_of ts cs) p) ≡ false
+    -- a slot with another fingerprint than what passes has holds another value
+    pub holds_other : (hash : T → ℕ) (h : ℕ) → ((v : T) → test v ≡ true → hash v ≡ h) → IsReached hash (columns ts cs) → get_or ts p 0 ≢ fingerprint_of h → holds test (slot_at (slots_of ts cs) p) ≡ false
     holds_other hash h alike reached ne =
         false_by _ (λ yes.
         let found = holder test (slot_at (slots_of ts cs) p) yes in
-        absurd (ne (reached.marks p found.0 found.1 found.2 ∙ ap (λ k. mark_of k) (alike found.0 found.3))))
+        absurd (ne (reached.fingerprints p found.0 found.1 found.2 ∙ ap (λ k. fingerprint_of k) (alike found.0 found.3))))
 
 module _ {T : Type 0} (ts : List ℕ) (cs : List (Option (T × ℕ))) (agree : Agree ts cs) (from : ℕ) where
   -- what the tags say of the next Live slot
@@ -107,7 +107,7 @@ module _ {T : Type 0} (ts : List ℕ) (cs : List (Option (T × ℕ))) (agree : A
     between = λ q a b. dead_at ts cs agree q (h.3 q a b);
   }
 
--- the first tag on the path of a hash that is no mark
+-- the first tag on the path of a hash that is no fingerprint
 pub record IsFirstLow (ts : List ℕ) (hash p : ℕ) : Type 0 where
   pub step : ℕ
   pub within : step < length ts
@@ -129,7 +129,7 @@ module _ {T : Type 0} (ts : List ℕ) (cs : List (Option (T × ℕ))) (agree : A
         on_path = is;
         bound = omega arith;
         free = low_at ts cs agree p first.free;
-        front = λ before low. (marked_at ts cs agree (path_slot (length ts) hash before) (subst (λ n. is_live (slot_at (slots_of ts cs) (path_slot n hash before)) ≡ true) len (first.front before low))).0;
+        front = λ before low. (tagged_at ts cs agree (path_slot (length ts) hash before) (subst (λ n. is_live (slot_at (slots_of ts cs) (path_slot n hash before)) ≡ true) len (first.front before low))).0;
       }
 
   pub first_low : (step : ℕ) → step < length ts → p ≡ path_slot (length ts) hash step → get_or ts p 0 < 128 → ((before : ℕ) → before < step → 128 ≤ get_or ts (path_slot (length ts) hash before) 0) → IsFirstFree hash (slots_of ts cs) p

@@ -3,7 +3,7 @@ use Rattle.std.proofs.Common.{◌≡◌, ℕ, ◌+◌, ◌-◌, ◌%◌, ◌<◌
 use Rattle.std.proofs.Math.Nat.{mod-add-mod, mod-eq_of_lt}
 use Rattle.std.proofs.lemmas.Bool.{cases_eq, cases_lt, eqb-false}
 use Rattle.hashbag_slots.specs.Slots.{path_slot, is_live, holds, slot_at, IsAbsent}
-use Rattle.hashbag_slots.specs.Columns.{mark_of, tag_at, slots_of, columns, Agree, IsReached}
+use Rattle.hashbag_slots.specs.Columns.{fingerprint_of, tag_at, slots_of, columns, Agree, IsReached}
 use Rattle.hashbag_slots.proofs.Probing.{absent_at_stop, holds_dead}
 use Rattle.hashbag_slots.proofs.Reading.{length-slots_of, holds_other, empty_at}
 
@@ -29,31 +29,31 @@ further Q n h s r room before run k lt =
 
 -- `alike`: what passes the test has the hash h
 module _ {T : Type 0} (test : T → Bool) (hash : T → ℕ) (h : ℕ) (alike : (v : T) → test v ≡ true → hash v ≡ h) (ts : List ℕ) (cs : List (Option (T × ℕ))) (agree : Agree ts cs) (reached : IsReached hash (columns ts cs)) where
-  -- slots whose tags are not the mark of the hash hold other values
-  pub others : (mark : ℕ) → mark ≡ mark_of h → (from r : ℕ) → ((p : ℕ) → from ≤ p → p < r → nat_eq (tag_at ts p) mark ≡ false) → (p : ℕ) → from ≤ p → p < r → holds test (slot_at (slots_of ts cs) p) ≡ false
-  others mark is from r differ p a b = holds_other ts cs agree p test hash h alike reached (λ e. eqb-false (tag_at ts p) mark (differ p a b) (e ∙ sym is))
+  -- slots whose tags are not the fingerprint of the hash hold other values
+  pub others : (fingerprint : ℕ) → fingerprint ≡ fingerprint_of h → (from r : ℕ) → ((p : ℕ) → from ≤ p → p < r → nat_eq (tag_at ts p) fingerprint ≡ false) → (p : ℕ) → from ≤ p → p < r → holds test (slot_at (slots_of ts cs) p) ≡ false
+  others fingerprint is from r differ p a b = holds_other ts cs agree p test hash h alike reached (λ e. eqb-false (tag_at ts p) fingerprint (differ p a b) (e ∙ sym is))
 
-  -- a slot holds another value if it does so where its tag is the mark of the hash
-  pub other : (mark : ℕ) → mark ≡ mark_of h → (p : ℕ) → (tag_at ts p ≡ mark → holds test (slot_at (slots_of ts cs) p) ≡ false) → holds test (slot_at (slots_of ts cs) p) ≡ false
-  other mark is p same =
-      elim (cases_eq (tag_at ts p) mark) [
+  -- a slot holds another value if it does so where its tag is the fingerprint of the hash
+  pub other : (fingerprint : ℕ) → fingerprint ≡ fingerprint_of h → (p : ℕ) → (tag_at ts p ≡ fingerprint → holds test (slot_at (slots_of ts cs) p) ≡ false) → holds test (slot_at (slots_of ts cs) p) ≡ false
+  other fingerprint is p same =
+      elim (cases_eq (tag_at ts p) fingerprint) [
         | inl equal ↦ same equal
         | inr differs ↦ holds_other ts cs agree p test hash h alike reached (λ e. differs (e ∙ sym is))
       ]
 
-  -- an Empty slot is at `first + stop`, and no slot with the mark that comes before it on the path holds the value
-  pub absent_near : (mark : ℕ) → mark ≡ mark_of h → (first stop : ℕ) → first ≡ path_slot (length ts) h 0 → first + stop < length ts → tag_at ts (first + stop) ≡ 0
-      → ((p : ℕ) → first ≤ p → p < first + stop → tag_at ts p ≡ mark → holds test (slot_at (slots_of ts cs) p) ≡ false) → IsAbsent test (slots_of ts cs)
-  absent_near mark is first stop at within empty same =
+  -- an Empty slot is at `first + stop`, and no slot with the fingerprint that comes before it on the path holds the value
+  pub absent_near : (fingerprint : ℕ) → fingerprint ≡ fingerprint_of h → (first stop : ℕ) → first ≡ path_slot (length ts) h 0 → first + stop < length ts → tag_at ts (first + stop) ≡ 0
+      → ((p : ℕ) → first ≤ p → p < first + stop → tag_at ts p ≡ fingerprint → holds test (slot_at (slots_of ts cs) p) ≡ false) → IsAbsent test (slots_of ts cs)
+  absent_near fingerprint is first stop at within empty same =
       let ss = slots_of ts cs in
       let there : (k : ℕ) → k ≤ stop → path_slot (length ss) h k ≡ first + k = λ k le.
       ap (λ n. path_slot n h k) (length-slots_of ts cs agree.same_length) ∙ path_near (length ts) h k (omega arith) ∙ ap (λ p. p + k) (sym at) in
       absent_at_stop test hash h alike ss reached.paths stop
-      (λ k lt. subst (λ p. holds test (slot_at ss p) ≡ false) (sym (there k (omega arith))) (other mark is (first + k) (same (first + k) (omega arith) (omega arith))))
+      (λ k lt. subst (λ p. holds test (slot_at ss p) ≡ false) (sym (there k (omega arith))) (other fingerprint is (first + k) (same (first + k) (omega arith) (omega arith))))
       (ap (slot_at ss) (there stop (omega arith)) ∙ empty_at ts cs agree (first + stop) empty)
 
   -- an Empty slot is at p on the path, and no slot before that place is Live
   pub absent_behind : (first p from : ℕ) → first ≡ path_slot (length ts) h 0 → first ≤ p → p < from → p < length ts → tag_at ts p ≡ 0 → ((q : ℕ) → q < from → is_live (slot_at (slots_of ts cs) q) ≡ false) → IsAbsent test (slots_of ts cs)
   absent_behind first p from at le before within empty dead =
       let there : p ≡ first + (p - first) = omega arith in
-      absent_near (mark_of h) refl first (p - first) at (omega arith) (ap (tag_at ts) (sym there) ∙ empty) (λ q a b same. holds_dead test (slot_at (slots_of ts cs) q) (dead q (omega arith)))
+      absent_near (fingerprint_of h) refl first (p - first) at (omega arith) (ap (tag_at ts) (sym there) ∙ empty) (λ q a b same. holds_dead test (slot_at (slots_of ts cs) q) (dead q (omega arith)))

@@ -18,7 +18,7 @@ use Rattle.hashbag_slots.specs.Cells.{cell_at}
 use Rattle.hashbag_slots.specs.Walks.{pass_of, of_turn, live_places, live_places_from, in_pass, turns, turn_places, entry_in, entries_left, first_course, IsCourse, IsWalk}
 use Rattle.hashbag_slots.proofs.Maps.{no_entry}
 use Rattle.hashbag_slots.proofs.Reading.{dead_slot, no_cell, length-slots_of}
-use Rattle.hashbag_slots.proofs.Walking.{is_mark, filter_in, filter_out, length-entries_live}
+use Rattle.hashbag_slots.proofs.Walking.{is_fingerprint, filter_in, filter_out, length-entries_live}
 
 -- a number of slots is a multiple of 16
 pub sixteens : (n : ℕ) → IsSlotCount n → n % 16 ≡ 0
@@ -163,7 +163,7 @@ module _ {T : Type 0} where
 
     pub first_on_course : IsCourse ts us first_course
     first_on_course = record {
-      mask = λ i. bit_at-zero i ∙ sym (ap (λ b. cond b (cond (from_place_on (is_mark (of_turn 5 ts us)) 0 (0 - 16 + i)) 1 0) 0) (le-ltb (0 - 16 + i) 0 (omega arith)));
+      mask = λ i. bit_at-zero i ∙ sym (ap (λ b. cond b (cond (from_place_on (is_fingerprint (of_turn 5 ts us)) 0 (0 - 16 + i)) 1 0) 0) (le-ltb (0 - 16 + i) 0 (omega arith)));
       whole = λ some. absurd (omega arith);
       from = omega arith;
       near = omega arith;

@@ -11,7 +11,7 @@ use Rattle.hashbag_slots.specs.Columns.{Agree, tag_at}
 use Rattle.hashbag_slots.specs.Group.{from_place_on}
 use Rattle.hashbag_slots.specs.Walks.{pass_of, of_turn, live_places, live_places_from, in_pass, turns, turn_places, places_left, entry_in, entries_left, IsCourse, IsNextOn, IsWalk}
 use Rattle.hashbag_slots.proofs.GroupLemmas.{from_place_on-behind, from_place_on-before, tells_same}
-use Rattle.hashbag_slots.proofs.Walking.{is_mark, filter_out, of_turn-odd, of_turn-even}
+use Rattle.hashbag_slots.proofs.Walking.{is_fingerprint, filter_out, of_turn-odd, of_turn-even}
 
 -- no entries are left where their number is 0
 pub none_left : {X : Type 0} (xs : List X) (left : ℕ) → left ≡ length xs → left ≡ 0 → xs ≡ []
@@ -70,9 +70,9 @@ above_both : (l : List ℕ) (m : ℕ) → All (λ q. m ≤ q) l → (b : Bool) �
 above_both l m rest true = All-cons (λ q. m ≤ q) m l (omega arith) rest
 above_both l m rest false = rest
 
-marks_above : (ts : List ℕ) (m : ℕ) → All (λ q. m ≤ q) (live_places m ts)
-marks_above [] m = λ k d lt. absurd (omega arith)
-marks_above (t ∷ ts) m = above_both (live_places (suc m) ts) m (weaken (λ q. suc m ≤ q) (λ q. m ≤ q) (λ q le. omega arith) (live_places (suc m) ts) (marks_above ts (suc m))) (leb 128 t)
+fingerprints_above : (ts : List ℕ) (m : ℕ) → All (λ q. m ≤ q) (live_places m ts)
+fingerprints_above [] m = λ k d lt. absurd (omega arith)
+fingerprints_above (t ∷ ts) m = above_both (live_places (suc m) ts) m (weaken (λ q. suc m ≤ q) (λ q. m ≤ q) (λ q le. omega arith) (live_places (suc m) ts) (fingerprints_above ts (suc m))) (leb 128 t)
 
 filter_map_same : {X Y : Type 0} (f g : X → Option Y) (xs : List X) → All (λ x. f x ≡ g x) xs → filter_map f xs ≡ filter_map g xs
 filter_map_same f g [] h = refl
@@ -138,7 +138,7 @@ module _ (turn p : ℕ) (on_pass : pass_of p ≡ turn / 2) (ts us vs ws : List �
   others =
       let f : ℕ → Bool = λ q. nat_eq (pass_of q) (turn / 2) in let l = drop (p + 1) (of_turn turn ts us) in let ms = live_places (p + 1) l in
       All-append IsOther (turn_places turn (p + 1) ts us) (turns turn ts us)
-      (All-map IsOther (λ q. (turn, q)) (filter f ms) (weaken (λ q. p + 1 ≤ q) (λ q. IsOther (turn, q)) (λ q le. inr (λ e. omega arith)) (filter f ms) (All-filter f (λ q. p + 1 ≤ q) ms (marks_above l (p + 1)))))
+      (All-map IsOther (λ q. (turn, q)) (filter f ms) (weaken (λ q. p + 1 ≤ q) (λ q. IsOther (turn, q)) (λ q le. inr (λ e. omega arith)) (filter f ms) (All-filter f (λ q. p + 1 ≤ q) ms (fingerprints_above l (p + 1)))))
       (turns_others turn (omega arith))
 
   tag_same : (q : ℕ) → p < q → tag_at (of_turn turn vs ws) q ≡ tag_at (of_turn turn ts us) q
@@ -155,9 +155,9 @@ module _ (turn p : ℕ) (on_pass : pass_of p ≡ turn / 2) (ts us vs ws : List �
 
   pub course_goes_on : (next ahead until : ℕ) → next ≡ p + 1 → (let c : Course = record { turn = turn; next = next; ahead = ahead; until = until } in IsCourse ts us c → IsCourse vs ws c)
   course_goes_on next ahead until behind on = record {
-    mask = tells_same (from_place_on (is_mark (of_turn turn ts us)) next) (from_place_on (is_mark (of_turn turn vs ws)) next) (until - 16) until ahead (λ q le. elim (cases_lt q next) [
-      | inl before ↦ from_place_on-before (is_mark (of_turn turn ts us)) next q before ∙ sym (from_place_on-before (is_mark (of_turn turn vs ws)) next q before)
-      | inr beyond ↦ from_place_on-behind (is_mark (of_turn turn ts us)) next q beyond ∙ ap (leb 128) (sym (tag_same q (omega arith))) ∙ sym (from_place_on-behind (is_mark (of_turn turn vs ws)) next q beyond)
+    mask = tells_same (from_place_on (is_fingerprint (of_turn turn ts us)) next) (from_place_on (is_fingerprint (of_turn turn vs ws)) next) (until - 16) until ahead (λ q le. elim (cases_lt q next) [
+      | inl before ↦ from_place_on-before (is_fingerprint (of_turn turn ts us)) next q before ∙ sym (from_place_on-before (is_fingerprint (of_turn turn vs ws)) next q before)
+      | inr beyond ↦ from_place_on-behind (is_fingerprint (of_turn turn ts us)) next q beyond ∙ ap (leb 128) (sym (tag_same q (omega arith))) ∙ sym (from_place_on-behind (is_fingerprint (of_turn turn vs ws)) next q beyond)
     ]) on.mask;
     whole = on.whole;
     from = on.from;

@@ -37,14 +37,14 @@ module _ {T : Type 0} where
         step (Live v n) e m = omega (arith, e, m)
 
 -- whether the slot at a place is Live
-abbrev pub is_mark : List ℕ → ℕ → Bool
-is_mark ts p = leb 128 (tag_at ts p)
+abbrev pub is_fingerprint : List ℕ → ℕ → Bool
+is_fingerprint ts p = leb 128 (tag_at ts p)
 
-marks_at : (ts : List ℕ) (m n : ℕ) → live_places m (drop n ts) ≡ cond (leb 128 (get_or ts n 0)) (m ∷ live_places (suc m) (drop (suc n) ts)) (live_places (suc m) (drop (suc n) ts))
-marks_at [] m zero = refl
-marks_at [] m (suc n) = refl
-marks_at (t ∷ ts) m zero = refl
-marks_at (t ∷ ts) m (suc n) = marks_at ts m n
+fingerprints_at : (ts : List ℕ) (m n : ℕ) → live_places m (drop n ts) ≡ cond (leb 128 (get_or ts n 0)) (m ∷ live_places (suc m) (drop (suc n) ts)) (live_places (suc m) (drop (suc n) ts))
+fingerprints_at [] m zero = refl
+fingerprints_at [] m (suc n) = refl
+fingerprints_at (t ∷ ts) m zero = refl
+fingerprints_at (t ∷ ts) m (suc n) = fingerprints_at ts m n
 
 pub of_turn-odd : {X : Type 0} (turn : ℕ) (newer older : X) → turn % 2 ≡ 1 → of_turn turn newer older ≡ newer
 of_turn-odd turn newer older is = elim (eqb_tells (turn % 2) 1) [
@@ -84,7 +84,7 @@ module _ (ts : List ℕ) (pass : ℕ) where
   skip_one : (n : ℕ) → (pass_of n ≡ pass → tag_at ts n < 128) → in_pass pass (live_places_from n ts) ≡ in_pass pass (live_places_from (suc n) ts)
   skip_one n low =
       let rest = live_places_from (suc n) ts in let f : ℕ → Bool = λ p. nat_eq (pass_of p) pass in
-      ap (in_pass pass) (marks_at ts n n) ∙ elim (cases_lt (tag_at ts n) 128) [
+      ap (in_pass pass) (fingerprints_at ts n n) ∙ elim (cases_lt (tag_at ts n) 128) [
         | inl lt ↦ ap (λ b. in_pass pass (cond b (n ∷ rest) rest)) (lt-leb 128 (tag_at ts n) lt)
         | inr ge ↦ ap (λ b. in_pass pass (cond b (n ∷ rest) rest)) (le-leb 128 (tag_at ts n) ge) ∙ elim (eqb_tells (pass_of n) pass) [
           | inl same ↦ absurd (let l = low same.1 in omega arith)
@@ -103,7 +103,7 @@ module _ (ts : List ℕ) (pass : ℕ) where
   pub comes : (p : ℕ) → 128 ≤ tag_at ts p → pass_of p ≡ pass → in_pass pass (live_places_from p ts) ≡ p ∷ in_pass pass (live_places_from (p + 1) ts)
   comes p live is =
       let rest = live_places_from (suc p) ts in let f : ℕ → Bool = λ q. nat_eq (pass_of q) pass in let e : suc p ≡ p + 1 = omega arith in
-      ap (in_pass pass) (marks_at ts p p) ∙ ap (λ b. in_pass pass (cond b (p ∷ rest) rest)) (le-leb 128 (tag_at ts p) live) ∙ elim (eqb_tells (pass_of p) pass) [
+      ap (in_pass pass) (fingerprints_at ts p p) ∙ ap (λ b. in_pass pass (cond b (p ∷ rest) rest)) (le-leb 128 (tag_at ts p) live) ∙ elim (eqb_tells (pass_of p) pass) [
         | inl same ↦ filter_in f p rest same.0
         | inr other ↦ absurd (other.1 is)
       ] ∙ ap (λ n. p ∷ in_pass pass (live_places_from n ts)) e
@@ -133,7 +133,7 @@ module _ (newer older : List ℕ) where
 
   -- a walk comes to a place, of the 16 from `base` on
   pub next_on : (turn next base place rest : ℕ) → base % 16 ≡ 0 → base ≤ next → next ≤ base + 16 → base + 16 ≤ length (of_turn turn newer older) → pass_of base ≡ turn / 2
-      → place < base + 16 → IsFirstPlace (is_mark (of_turn turn newer older)) next (base + 16) place → IsMaskOf (from_place_on (is_mark (of_turn turn newer older)) (place + 1)) base (base + 16) rest
+      → place < base + 16 → IsFirstPlace (is_fingerprint (of_turn turn newer older)) next (base + 16) place → IsMaskOf (from_place_on (is_fingerprint (of_turn turn newer older)) (place + 1)) base (base + 16) rest
       → IsNextOn newer older turn next place (record { turn = turn; next = place + 1; ahead = rest; until = base + 16 })
   next_on turn next base place rest sixteen begun near within is below first tells =
       let ts = of_turn turn newer older in let low = first.low in let live = leb-true 128 (tag_at ts place) (first.hit below) in
@@ -146,7 +146,7 @@ module _ (newer older : List ℕ) where
         behind = refl;
         first = left_skip turn next place low (λ q a b i. leb-false 128 (tag_at ts q) (first.before q a b)) ∙ left_comes turn place live here;
         course = record {
-          mask = subst (λ b. IsMaskOf (from_place_on (is_mark ts) (place + 1)) b (base + 16) rest) back tells;
+          mask = subst (λ b. IsMaskOf (from_place_on (is_fingerprint ts) (place + 1)) b (base + 16) rest) back tells;
           whole = λ some. omega arith;
           from = omega arith;
           near = omega arith;

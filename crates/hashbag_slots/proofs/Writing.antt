@@ -6,9 +6,9 @@ use Rattle.std.specs.Cmp.{IsEquivalence}
 use Rattle.hashbag_slots.specs.declared.slots.Slot.{Slot}
 use Rattle.hashbag_slots.specs.declared.slots.Slot.TheVariants.{Empty, Live}
 use Rattle.hashbag_slots.specs.Slots.{IsSlotCount, path_slot, slot_at, is_live, KeepsPaths, IsTable, IsAbsent}
-use Rattle.hashbag_slots.specs.Columns.{mark_of, slot_of, slots_of, columns, Agree, IsColumns, IsReached}
+use Rattle.hashbag_slots.specs.Columns.{fingerprint_of, slot_of, slots_of, columns, Agree, IsColumns, IsReached}
 use Rattle.hashbag_slots.proofs.Edits.{set_cases}
-use Rattle.hashbag_slots.proofs.Reading.{length-slots_of, dead_slot, removed_slot, live_at, dead_at, alive_at, removed_at, marked_at}
+use Rattle.hashbag_slots.proofs.Reading.{length-slots_of, dead_slot, removed_slot, live_at, dead_at, alive_at, removed_at, tagged_at}
 use Rattle.hashbag_slots.proofs.Tables.{slot_at-replicate, IsTable-empty, IsTable-put, IsTable-take, IsTable-rewrite, KeepsPaths-empty, KeepsPaths-keep, KeepsPaths-place}
 
 pub some_cell : {T : Type 0} (e f : T × ℕ) → (let c : Option (T × ℕ) = Some e in c) ≡ Some f → e ≡ f
@@ -78,11 +78,11 @@ module _ {T : Type 0} (ts : List ℕ) (cs : List (Option (T × ℕ))) (agree : A
           let other : get_or (slice_set ts p t) q 0 ≡ get_or ts q 0 = get_or-set_other ts p q t 0 x.0 in
           let c = agree.filled q (omega arith) in (c.0, x.1 ∙ c.1)
     ];
-    marked = λ q f h. elim (set_at ts p t 0 within q) [
+    tagged = λ q f h. elim (set_at ts p t 0 within q) [
       | inl x ↦ let is = x.1 in omega arith
       | inr x ↦
           let other : get_or (slice_set cs p (Some e)) q None ≡ get_or cs q None = get_or-set_other cs p q (Some e) None x.0 in
-          let m = agree.marked q f (sym other ∙ h) in let is = x.1 in omega arith
+          let m = agree.tagged q f (sym other ∙ h) in let is = x.1 in omega arith
     ];
   }
 
@@ -94,10 +94,10 @@ module _ {T : Type 0} (ts : List ℕ) (cs : List (Option (T × ℕ))) (agree : A
       | inr x ↦
           let c = agree.filled q (let is = x.1 in omega arith) in (c.0, get_or-set_other cs p q None None x.0 ∙ c.1)
     ];
-    marked = λ q f h. elim (set_at cs p None None in_cells q) [
+    tagged = λ q f h. elim (set_at cs p None None in_cells q) [
       | inl x ↦ absurd (let is = x.1 in cc)
       | inr x ↦
-          let m = agree.marked q f (sym x.1 ∙ h) in let other = get_or-set_other ts p q t 0 x.0 in omega arith
+          let m = agree.tagged q f (sym x.1 ∙ h) in let other = get_or-set_other ts p q t 0 x.0 in omega arith
     ];
   }
 
@@ -108,20 +108,20 @@ module _ {T : Type 0} (ts : List ℕ) (cs : List (Option (T × ℕ))) (agree : A
   inside = let l = length-slots_of ts cs agree.same_length in omega arith
 
   -- ---- what is reached stays reached
-  marks-set : (hash : T → ℕ) → IsReached hash (columns ts cs) → (t : ℕ) (c : Option (T × ℕ)) → ((v : T) (n : ℕ) → slot_of t c ≡ Live v n → t ≡ mark_of (hash v))
-      → (q : ℕ) (v : T) (n : ℕ) → slot_at (slots_of (slice_set ts p t) (slice_set cs p c)) q ≡ Live v n → get_or (slice_set ts p t) q 0 ≡ mark_of (hash v)
-  marks-set hash reached t c new q v n h =
+  fingerprints-set : (hash : T → ℕ) → IsReached hash (columns ts cs) → (t : ℕ) (c : Option (T × ℕ)) → ((v : T) (n : ℕ) → slot_of t c ≡ Live v n → t ≡ fingerprint_of (hash v))
+      → (q : ℕ) (v : T) (n : ℕ) → slot_at (slots_of (slice_set ts p t) (slice_set cs p c)) q ≡ Live v n → get_or (slice_set ts p t) q 0 ≡ fingerprint_of (hash v)
+  fingerprints-set hash reached t c new q v n h =
       let h' : slot_at (slice_set ss p (slot_of t c)) q ≡ Live v n = sym (ap (λ xs. slot_at xs q) (set-slots_of ts cs p t c agree.same_length)) ∙ h in
       elim (set_cases ss p (slot_of t c) inside q) [
         | inl x ↦ ap (λ r. get_or (slice_set ts p t) r 0) x.0 ∙ get_or-set_same ts p t 0 within ∙ new v n (sym x.1 ∙ h')
-        | inr x ↦ get_or-set_other ts p q t 0 x.0 ∙ reached.marks q v n (sym x.1 ∙ h')
+        | inr x ↦ get_or-set_other ts p q t 0 x.0 ∙ reached.fingerprints q v n (sym x.1 ∙ h')
       ]
 
-  pub IsReached-set : (hash : T → ℕ) → IsReached hash (columns ts cs) → (t : ℕ) (c : Option (T × ℕ)) → ((v : T) (n : ℕ) → slot_of t c ≡ Live v n → t ≡ mark_of (hash v))
+  pub IsReached-set : (hash : T → ℕ) → IsReached hash (columns ts cs) → (t : ℕ) (c : Option (T × ℕ)) → ((v : T) (n : ℕ) → slot_of t c ≡ Live v n → t ≡ fingerprint_of (hash v))
       → KeepsPaths hash (slice_set ss p (slot_of t c)) → IsReached hash (columns (slice_set ts p t) (slice_set cs p c))
   IsReached-set hash reached t c new rule = record {
     paths = subst (KeepsPaths hash) (sym (set-slots_of ts cs p t c agree.same_length)) rule;
-    marks = marks-set hash reached t c new;
+    fingerprints = fingerprints-set hash reached t c new;
   }
 
 module _ {T : Type 0} (n : ℕ) where
@@ -136,7 +136,7 @@ module _ {T : Type 0} (n : ℕ) where
   Agree-blank = record {
     same_length = length-replicate n 0 ∙ sym (length-replicate n None);
     filled = λ p h. absurd (omega (arith, low_zeros n p, h));
-    marked = λ p e h. absurd (let none : get_or nothing p None ≡ None = blank_same n p None in cc);
+    tagged = λ p e h. absurd (let none : get_or nothing p None ≡ None = blank_same n p None in cc);
   }
 
   IsColumns-blank : (eq : T → T → Bool) → IsSlotCount n → IsColumns eq (replicate n 0) nothing 0 0
@@ -145,7 +145,7 @@ module _ {T : Type 0} (n : ℕ) where
   IsReached-blank : (hash : T → ℕ) → IsReached hash (columns (replicate n 0) nothing)
   IsReached-blank hash = record {
     paths = subst (KeepsPaths hash) (sym (slots_of-empty n)) (KeepsPaths-empty hash n);
-    marks = λ p v k h. absurd (let e = slot_at-replicate {T = T} n p in let s = ap (λ ss. slot_at ss p) (slots_of-empty n) in cc);
+    fingerprints = λ p v k h. absurd (let e = slot_at-replicate {T = T} n p in let s = ap (λ ss. slot_at ss p) (slots_of-empty n) in cc);
   }
 
 -- columns of nothing, however they are named
@@ -166,7 +166,7 @@ module _ {T : Type 0} (ts : List ℕ) (cs : List (Option (T × ℕ))) where
 
   module _ (agree : Agree ts cs) (p : ℕ) (e : T × ℕ) (cell : get_or cs p None ≡ Some e) where
     here : 128 ≤ get_or ts p 0
-    here = agree.marked p e cell
+    here = agree.tagged p e cell
 
     pub in_tags : p < length ts
     in_tags = elim (cases_lt p (length ts)) [ inl a ↦ a | inr b ↦ absurd (let z = get_or_past ts p 0 b in let h = here in omega arith) ]
@@ -186,7 +186,7 @@ module _ {T : Type 0} (ts : List ℕ) (cs : List (Option (T × ℕ))) where
     pub IsReached-rewrite : (hash : T → ℕ) → IsReached hash (columns ts cs) → (w : T) (n : ℕ) → hash e.0 ≡ hash w → IsReached hash (columns ts (slice_set cs p (Some (w, n))))
     IsReached-rewrite hash reached w n same =
         subst (IsReached hash) (same_tag p (Some (w, n))) (IsReached-set ts cs agree p in_tags hash reached (get_or ts p 0) (Some (w, n))
-        (λ v k h. reached.marks p e.0 e.1 was ∙ ap (λ x. mark_of x) (same ∙ ap hash (let z : w ≡ v = cc in z)))
+        (λ v k h. reached.fingerprints p e.0 e.1 was ∙ ap (λ x. fingerprint_of x) (same ∙ ap hash (let z : w ≡ v = cc in z)))
         (KeepsPaths-keep hash (slots_of ts cs) reached.paths p (Live w n) in_slots (λ h. cc) (λ v k h. (e.0, e.1, was, same ∙ ap hash (let z : w ≡ v = cc in z)))))
 
     pub IsReached-take : (hash : T → ℕ) → IsReached hash (columns ts cs) → (t : ℕ) → is_live {T = T} (slot_of t None) ≡ false → (slot_of {T = T} t None ≡ Empty → ⊥) → IsReached hash (columns (slice_set ts p t) (slice_set cs p None))
@@ -195,13 +195,13 @@ module _ {T : Type 0} (ts : List ℕ) (cs : List (Option (T × ℕ))) where
         (KeepsPaths-keep hash (slots_of ts cs) reached.paths p (slot_of t None) in_slots full (λ v k h. absurd (let z = ap is_live h in cc)))
 
   module _ (agree : Agree ts cs) where
-    pub IsReached-place : (hash : T → ℕ) → IsReached hash (columns ts cs) → (v : T) (n t at step : ℕ) → at < length ts → step < length ts → at ≡ path_slot (length ts) (hash v) step → t ≡ mark_of (hash v)
+    pub IsReached-place : (hash : T → ℕ) → IsReached hash (columns ts cs) → (v : T) (n t at step : ℕ) → at < length ts → step < length ts → at ≡ path_slot (length ts) (hash v) step → t ≡ fingerprint_of (hash v)
         → ((before : ℕ) → before < step → 128 ≤ get_or ts (path_slot (length ts) (hash v) before) 0) → IsReached hash (columns (slice_set ts at t) (slice_set cs at (Some (v, n))))
-    IsReached-place hash reached v n t at step within lt is mark front =
+    IsReached-place hash reached v n t at step within lt is fingerprint front =
         let ss = slots_of ts cs in
         let len : length ss ≡ length ts = length-slots_of ts cs agree.same_length in
         let at' : path_slot (length ss) (hash v) step ≡ at = ap (λ k. path_slot k (hash v) step) len ∙ sym is in
-        IsReached-set ts cs agree at within hash reached t (Some (v, n)) (λ w k h. mark ∙ ap (λ x. mark_of (hash x)) (let z : v ≡ w = cc in z))
+        IsReached-set ts cs agree at within hash reached t (Some (v, n)) (λ w k h. fingerprint ∙ ap (λ x. fingerprint_of (hash x)) (let z : v ≡ w = cc in z))
         (subst (λ q. KeepsPaths hash (slice_set ss q (Live v n))) at' (KeepsPaths-place hash ss reached.paths v n step (omega arith)
         (λ before low. alive_at ts cs agree (path_slot (length ss) (hash v) before) (subst (λ k. 128 ≤ get_or ts (path_slot k (hash v) before) 0) (sym len) (front before low)))))
 
@@ -239,6 +239,6 @@ module _ {T : Type 0} (eq : T → T → Bool) (laws : IsEquivalence eq) (ts : Li
   -- the cell of a Live slot has its value and its count, which is at least 1
   pub cell_at : is_live (slot_at slots p) ≡ true → (e : T × ℕ) × (get_or cs p None ≡ Some e) × (slot_at slots p ≡ Live e.0 e.1) × (0 < e.1)
   cell_at h =
-      let m = marked_at ts cs cols.agree p h in
+      let m = tagged_at ts cs cols.agree p h in
       let w = live_at ts cs cols.agree p m.1 m.2 in
       (m.1, m.2, w, cols.table.distinct.positive p m.1.0 m.1.1 w)

@@ -6,9 +6,9 @@ use Rattle.hashbag_slots.specs.declared.slots.Slot.TheVariants.{Empty, Removed, 
 use Rattle.hashbag_slots.specs.Cells.{cell_at}
 use Rattle.hashbag_slots.specs.Slots.{path_slot, slot_at, live_count, removed_count, entries_in, KeepsPaths, PlacesAll, Carries, AreApart, IsTable}
 
--- the tag of a Live slot, its mark: 128 plus the top 7 bits of its value's hash
-abbrev pub mark_of : ℕ → ℕ
-mark_of hash = hash / 2 ^ 57 + 128
+-- the tag of a Live slot, its fingerprint: 128 plus the top 7 bits of its value's hash
+abbrev pub fingerprint_of : ℕ → ℕ
+fingerprint_of hash = hash / 2 ^ 57 + 128
 
 -- the tag at a place, and 0 past the end
 abbrev pub tag_at : List ℕ → ℕ → ℕ
@@ -47,19 +47,19 @@ module _ {T : Type 0} where
   pub record Agree (ts : List ℕ) (cs : List (Option (T × ℕ))) : Type 0 where
     pub same_length : length ts ≡ length cs
     pub filled : (p : ℕ) → 128 ≤ tag_at ts p → (e : T × ℕ) × (cell_at cs p ≡ Some e)
-    pub marked : (p : ℕ) (e : T × ℕ) → cell_at cs p ≡ Some e → 128 ≤ tag_at ts p
+    pub tagged : (p : ℕ) (e : T × ℕ) → cell_at cs p ≡ Some e → 128 ≤ tag_at ts p
 
   -- from the place `from` on, a cell has a value exactly if the tag is 128 or more. All cells before it are empty, whatever their tags
   pub record AgreeFrom (from : ℕ) (ts : List ℕ) (cs : List (Option (T × ℕ))) : Type 0 where
     pub same_length : length ts ≡ length cs
     pub filled : (p : ℕ) → from ≤ p → 128 ≤ tag_at ts p → (e : T × ℕ) × (cell_at cs p ≡ Some e)
-    pub marked : (p : ℕ) (e : T × ℕ) → cell_at cs p ≡ Some e → (from ≤ p) × (128 ≤ tag_at ts p)
+    pub tagged : (p : ℕ) (e : T × ℕ) → cell_at cs p ≡ Some e → (from ≤ p) × (128 ≤ tag_at ts p)
 
   -- each Live value of a table is found under this hash: a probe for it meets no Empty slot before its slot, and the
-  -- tag of its slot is the mark of its hash. Each call requires and ensures it
+  -- tag of its slot is the fingerprint of its hash. Each call requires and ensures it
   pub record IsReached (hash : T → ℕ) (table : Columns T) : Type 0 where
     pub paths : KeepsPaths hash table.slots
-    pub marks : (p : ℕ) (v : T) (n : ℕ) → slot_at table.slots p ≡ Live v n → tag_at table.tags p ≡ mark_of (hash v)
+    pub fingerprints : (p : ℕ) (v : T) (n : ℕ) → slot_at table.slots p ≡ Live v n → tag_at table.tags p ≡ fingerprint_of (hash v)
 
   -- `many` slots of an older table, from the place `from` on, are carried into a newer one: each Live value is placed in the newer one in
   -- turn, in the first slot on its path that was not Live, and its slot in the older one becomes Moved

@@ -4,7 +4,7 @@ use Rattle.std.proofs.Common.{zero, suc, lit<, lit≤, inl, inr, arith}
 use Rattle.hashbag_slots.specs.declared.slots.Slot.{Slot}
 use Rattle.hashbag_slots.specs.declared.slots.Slot.TheVariants.{Empty, Removed, Moved, Live}
 use Rattle.hashbag_slots.specs.Cells.{cell_at, filled_values}
-use Rattle.hashbag_slots.specs.Columns.{mark_of, tag_at, slots_of}
+use Rattle.hashbag_slots.specs.Columns.{fingerprint_of, tag_at, slots_of}
 use Rattle.hashbag_slots.specs.Slots.{IsSlotCount, path_slot, is_live, holds, live_count, removed_count, slot_at, HoldsAt, IsNextLive, entry_at, entries, recounted, raised, count_in, Places, PlacesAll, carried, entries_in}
 
 -- 16 slots: 31 begins at the last one, which 15 has, and so it lies in slot 0. In slot 1 there was a value, and in slot 2
@@ -116,10 +116,10 @@ all_placed = (after, record { places = placed; first = record { step = 2; within
 
 -- ---- tags and cells
 
-least_mark : mark_of 31 ≡ 128
+least_mark : fingerprint_of 31 ≡ 128
 least_mark = refl
 
-greatest_mark : mark_of 18446744073709551615 ≡ 255
+greatest_mark : fingerprint_of 18446744073709551615 ≡ 255
 greatest_mark = refl
 
 no_tag : tag_at (128 ∷ 1 ∷ []) 2 ≡ 0

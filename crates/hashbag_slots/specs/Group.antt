@@ -26,6 +26,6 @@ IsTagMask ts tag from until bits = IsMaskOf (λ p. tag_at ts p == tag) from unti
 abbrev pub IsTagMaskBeforeEmpty : List ℕ → ℕ → ℕ → ℕ → Bool → Type 0
 IsTagMaskBeforeEmpty ts tag from bits ends = (stop : ℕ) × IsFirstPlace (λ p. tag_at ts p == 0) from (from + 16) stop × IsTagMask ts tag from stop bits × (ends ≡ nat_lt stop (from + 16))
 
--- of the slots from the place `from` on that the bits mark as having this tag, none holds a value that passes the test
+-- of the slots from the place `from` on that the bits fingerprint as having this tag, none holds a value that passes the test
 abbrev pub IsAbsentAmong : {T : Type 0} → (T → Bool) → Columns T → ℕ → ℕ → ℕ → Type 0
 IsAbsentAmong test table tag from bits = (until : ℕ) → IsTagMask table.tags tag from until bits → (p : ℕ) → from ≤ p → p < until → tag_at table.tags p ≡ tag → holds test (slot_at table.slots p) ≡ false

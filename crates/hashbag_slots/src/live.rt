@@ -172,7 +172,7 @@ fn drop_group<T: Drop>(tags: &[u8], cells: &mut Cells<(T, usize)>, from: usize)
     ensures { AgreeFrom (from + 16) tags.now cells.new }
 {
     let mut ahead = match_live(tags, from);
-    'marks: while ahead != 0 {
+    'fingerprints: while ahead != 0 {
         let (place, rest) = take_lowest(ahead, from);
         drop(cells.take(place));
         ahead = rest;

@@ -1,8 +1,8 @@
 //! Probes along the path of a hash: where a value is, and the first slot that is free for one.
 //!
 //! A path begins at the hash modulo the number of slots, has the slots in turn, and has slot 0 after the last one. A probe reads tags,
-//! sixteen at once, and a cell only if its tag is the mark of that hash. If hashes are spread evenly, one in 128 of the other values on
-//! the path has the same mark.
+//! sixteen at once, and a cell only if its tag is the fingerprint of that hash. If hashes are spread evenly, one in 128 of the other values on
+//! the path has the same fingerprint.
 //!
 //! In clauses `hash_under ..` is the hash under the state, `HoldsAt` says that a place has the value that the key names, and `IsAbsent` that
 //! none has. `Agree`: the cells of Live slots have a value, and no others. `IsFirstFree`: it is the first slot on the path that isn't Live.
@@ -20,7 +20,7 @@ use crate::group::{
     take_lowest,
 };
 use crate::key::Key;
-use crate::tags::{EMPTY, LEAST_MARK, mark_of};
+use crate::tags::{EMPTY, LEAST_MARK, fingerprint_of};
 use std::hash::{BuildHasher, Hash};
 
 // A table with more slots than this is looked up at its home slot first: its cells are seldom in the processor's cache.
@@ -77,12 +77,12 @@ fn find_probing<T: Eq + Hash, S: BuildHasher, Q: Key<T>>(
     ensures absent { IfNone result (IsAbsent (Q.names key) (slots_of tags.now cells.now)) }
 {
     let count = tags.len();
-    let mark = mark_of(hash);
+    let fingerprint = fingerprint_of(hash);
     let mut step = 0;
     'steps: while step < count {
         let place = path_slot(hash, step, count);
         if place + GROUP_WIDTH <= count {
-            let lane = first_equal(tags, place, mark);
+            let lane = first_equal(tags, place, fingerprint);
             if lane < GROUP_WIDTH {
                 if is_named(cells, place + lane, key) {
                     return Some(place + lane);
@@ -95,7 +95,7 @@ fn find_probing<T: Eq + Hash, S: BuildHasher, Q: Key<T>>(
             }
         } else {
             let tag = tags[place];
-            if tag == mark {
+            if tag == fingerprint {
                 if is_named(cells, place, key) {
                     return Some(place);
                 }
@@ -108,25 +108,25 @@ fn find_probing<T: Eq + Hash, S: BuildHasher, Q: Key<T>>(
     None
 }
 
-// Returns the place of an equal value among at most 16 slots from `from` on. Bit i of `bits` says whether the tag at `from + i` is the mark.
+// Returns the place of an equal value among at most 16 slots from `from` on. Bit i of `bits` says whether the tag at `from + i` is the fingerprint.
 #[inline(always)]
-fn find_marked<T: Eq + Hash, Q: Key<T>>(
+fn find_tagged<T: Eq + Hash, Q: Key<T>>(
     tags: &[u8],
     cells: &Cells<(T, usize)>,
     from: usize,
     bits: u64,
-    mark: u8,
+    fingerprint: u8,
     key: Q,
 ) -> Option<usize>
     requires within { from + 16 ≤ length tags.now }
-    requires mask { (until : ℕ) × (until ≤ from + 16) × IsTagMask tags.now mark from until bits }
-    requires mark { 128 ≤ mark }
+    requires mask { (until : ℕ) × (until ≤ from + 16) × IsTagMask tags.now fingerprint from until bits }
+    requires fingerprint { 128 ≤ fingerprint }
     requires agree { Agree tags.now cells.now }
     ensures found { IfSome result (HoldsAt (Q.names key) (slots_of tags.now cells.now)) }
-    ensures absent { IfNone result (IsAbsentAmong (Q.names key) (columns tags.now cells.now) mark from bits) }
+    ensures absent { IfNone result (IsAbsentAmong (Q.names key) (columns tags.now cells.now) fingerprint from bits) }
 {
     let mut ahead = bits;
-    'marks: while ahead != 0 {
+    'fingerprints: while ahead != 0 {
         // The bit is cleared late, so that a hit doesn't pay for it.
         let place = lowest(ahead, from);
         if is_named(cells, place, key) {
@@ -189,9 +189,9 @@ pub fn probe_first_group<T: Eq + Hash, S: BuildHasher, Q: Key<T>>(
     if first + GROUP_WIDTH > count {
         return FirstGroup::Open;
     }
-    let mark = mark_of(hash);
-    let marked = match_tag(tags, first, mark);
-    if let Some(place) = find_marked(tags, cells, first, marked, mark, key) {
+    let fingerprint = fingerprint_of(hash);
+    let tagged = match_tag(tags, first, fingerprint);
+    if let Some(place) = find_tagged(tags, cells, first, tagged, fingerprint, key) {
         return FirstGroup::Found(place);
     }
     if first_equal(tags, first, EMPTY) < GROUP_WIDTH {
@@ -218,7 +218,7 @@ fn find_at_home<T: Eq + Hash, Q: Key<T>>(
         return None;
     }
     let first = path_slot(hash, 0, count);
-    if tags[first] == mark_of(hash) && is_named(cells, first, key) {
+    if tags[first] == fingerprint_of(hash) && is_named(cells, first, key) {
         return Some(first);
     }
     None
@@ -231,7 +231,7 @@ fn find_at_home<T: Eq + Hash, Q: Key<T>>(
 /// tried first. Its cell then loads without waiting for the other tags. In a small table a wrong guess costs more than it saves.
 ///
 /// Of the first 16 slots only those before the first Empty one are read. No slot after that holds the value, so a cell there with the same
-/// mark would be read for nothing.
+/// fingerprint would be read for nothing.
 #[inline(always)]
 pub fn find_place<T: Eq + Hash, S: BuildHasher, Q: Key<T>>(
     tags: &[u8],
@@ -260,9 +260,9 @@ pub fn find_place<T: Eq + Hash, S: BuildHasher, Q: Key<T>>(
     if first + GROUP_WIDTH > count {
         return find_probing(tags, cells, state, hash, key);
     }
-    let mark = mark_of(hash);
-    let (marked, ends) = match_tag_before_empty(tags, first, mark);
-    if let Some(place) = find_marked(tags, cells, first, marked, mark, key) {
+    let fingerprint = fingerprint_of(hash);
+    let (tagged, ends) = match_tag_before_empty(tags, first, fingerprint);
+    if let Some(place) = find_tagged(tags, cells, first, tagged, fingerprint, key) {
         return Some(place);
     }
     if ends {

@@ -27,7 +27,7 @@ use crate::cells::Cells;
 use crate::live::{Course, drop_if_live, next_live};
 pub use crate::probe::FirstGroup;
 use crate::probe::first_free;
-use crate::tags::{LEAST_MARK, REMOVED, empty, empty_tags, mark_of};
+use crate::tags::{LEAST_MARK, REMOVED, empty, empty_tags, fingerprint_of};
 use crate::walk::{IntoWalk, Walk};
 use std::alloc::{AllocError, Global};
 use std::hash::{BuildHasher, Hash};
@@ -371,7 +371,7 @@ impl<T: Eq + Hash> Slots<T> {
         ensures reached { IsReached (hash_under T.hash_input S.BuildHasher S.Hasher.Hasher state.now) self.new }
     {
         self.removed -= usize::from(self.tags[place] == REMOVED);
-        self.tags[place] = mark_of(hash);
+        self.tags[place] = fingerprint_of(hash);
         self.cells.put(place, (value, n));
         self.live += 1;
     }

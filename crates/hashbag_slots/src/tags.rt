@@ -5,9 +5,9 @@
 //! | 0 | Empty |
 //! | 1 | Removed |
 //! | 2 | Moved |
-//! | 128 plus the top 7 bits of the hash: its mark | Live |
+//! | 128 plus the top 7 bits of the hash: its fingerprint | Live |
 ghost use Rattle.std.specs.Prelude.{◌≡◌, ◌≤◌, length, IfOk, IsOk, replicate};
-ghost use Rattle.hashbag_slots.specs.Columns.{mark_of};
+ghost use Rattle.hashbag_slots.specs.Columns.{fingerprint_of};
 
 use std::alloc::{AllocError, Global};
 
@@ -26,8 +26,8 @@ pub const LEAST_MARK: u8 = 128;
 /// Returns the tag of a Live slot whose value has this hash: 128 plus the top 7 bits of the hash, which are above those that choose the
 /// place.
 #[inline(always)]
-pub fn mark_of(hash: u64) -> u8
-    ensures mark { result ≡ mark_of hash }
+pub fn fingerprint_of(hash: u64) -> u8
+    ensures fingerprint { result ≡ fingerprint_of hash }
     ensures least { 128 ≤ result }
 {
     (hash >> 57) as u8 + LEAST_MARK

@@ -1,12 +1,12 @@
 //! Decoding of bytes that come in blocks, however they are cut.
 ghost use Rattle.std.specs.Prelude.{◌≡◌, ◌++◌, [], ℕ, List, None, Some, string_bytes, IfErr, OnOk};
-ghost use Rattle.hashbag_text.specs.declared.fault.Fault.{Fault};
+ghost use Rattle.hashbag_text.specs.declared.bad_bytes.BadBytes.{BadBytes};
 ghost use Rattle.hashbag_text.specs.Encodings.{decoded};
 ghost use Rattle.hashbag_text.specs.Decoders.{DecodesTo, DecodesToNone, left_of};
 ghost use Rattle.hashbag_text.specs.States.{spelled};
 
+use crate::bad_bytes::DecodeError;
 use crate::encoding::Encoding;
-use crate::fault::DecodeError;
 use crate::state::State;
 
 /// What was decoded of bytes so far.
@@ -59,15 +59,15 @@ impl Decoder {
     /// decoder is of no use.
     pub fn push(&mut self, block: &[u8], text: &mut String) -> Result<(), DecodeError>
         ensures text { OnOk result (DecodesTo self.old block.now (string_bytes text.old) self.new (string_bytes text.new)) }
-        ensures fault { IfErr result (λ e. (line : ℕ) → (fault : Fault) → e ≡ DecodeError.Line line fault → DecodesToNone self.old block.now) }
+        ensures bad_bytes { IfErr result (λ e. (line : ℕ) → (bad_bytes : BadBytes) → e ≡ DecodeError.Line line bad_bytes → DecodesToNone self.old block.now) }
     {
         for byte in block {
             let (state, c) = match self.state.after(*byte) {
                 Ok(after) => after,
-                Err(fault) => {
+                Err(bad_bytes) => {
                     return Err(DecodeError::Line {
                         line: self.line,
-                        fault,
+                        bad_bytes,
                     });
                 }
             };
@@ -87,13 +87,13 @@ impl Decoder {
     /// `Line` if a character isn't whole.
     pub fn end(self) -> Result<(), DecodeError>
         ensures whole { OnOk result (left_of self [] ≡ Some []) }
-        ensures fault { IfErr result (λ e. left_of self [] ≡ None) }
+        ensures bad_bytes { IfErr result (λ e. left_of self [] ≡ None) }
     {
         match self.state.end() {
             Ok(()) => Ok(()),
-            Err(fault) => Err(DecodeError::Line {
+            Err(bad_bytes) => Err(DecodeError::Line {
                 line: self.line,
-                fault,
+                bad_bytes,
             }),
         }
     }

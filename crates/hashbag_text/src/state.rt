@@ -3,8 +3,8 @@ ghost use Rattle.std.specs.Prelude.{◌≡◌, ◌∷◌, [], ℕ, List, None, S
 ghost use Rattle.hashbag_text.specs.Encodings.{decoded, yields};
 ghost use Rattle.hashbag_text.specs.States.{left};
 
+use crate::bad_bytes::BadBytes;
 use crate::encoding::Encoding;
-use crate::fault::Fault;
 use crate::high::High;
 use crate::utf16::{ByteOrder, after_unit};
 use crate::windows_1252::windows_1252;
@@ -41,18 +41,18 @@ impl State {
     /// # Errors
     ///
     /// What is wrong with it.
-    pub fn after(self, byte: u8) -> Result<(State, Option<char>), Fault>
+    pub fn after(self, byte: u8) -> Result<(State, Option<char>), BadBytes>
         // Whatever bytes come behind it, the text is that character, and then what is left.
         ensures character { IfOk result (λ r. (bytes : List ℕ) → left self (byte ∷ bytes) ≡ yields r.1 (left r.0 bytes)) }
 
         // Whatever bytes come behind it, there is no text.
-        ensures fault { OnErr result ((bytes : List ℕ) → left self (byte ∷ bytes) ≡ None) }
+        ensures bad_bytes { OnErr result ((bytes : List ℕ) → left self (byte ∷ bytes) ≡ None) }
     {
         match self {
             State::Mark(None) => Ok((State::Mark(Some(byte)), None)),
             State::Mark(Some(first)) => match ByteOrder::of_mark(first, byte) {
                 Some(order) => Ok((State::Units(order, None, None), None)),
-                None => Err(Fault::NoMark),
+                None => Err(BadBytes::NoMark),
             },
             State::Units(order, high, None) => { Ok((State::Units(order, high, Some(byte)), None)) }
             State::Units(order, high, Some(first)) => {
@@ -62,7 +62,7 @@ impl State {
             State::Latin1 => Ok((self, Some(char::from(byte)))),
             State::Windows1252 => match windows_1252(byte) {
                 Some(c) => Ok((self, Some(c))),
-                None => Err(Fault::NoCharacter(byte)),
+                None => Err(BadBytes::NoCharacter(byte)),
             },
         }
     }
@@ -72,15 +72,15 @@ impl State {
     /// # Errors
     ///
     /// What is missing.
-    pub fn end(self) -> Result<(), Fault>
+    pub fn end(self) -> Result<(), BadBytes>
         ensures whole { OnOk result (left self [] ≡ Some []) }
-        ensures fault { OnErr result (left self [] ≡ None) }
+        ensures bad_bytes { OnErr result (left self [] ≡ None) }
     {
         match self {
             State::Mark(None) => Ok(()),
-            State::Mark(Some(_)) => Err(Fault::NoMark),
-            State::Units(_, _, Some(_)) => Err(Fault::OddByte),
-            State::Units(_, Some(_), None) => Err(Fault::LoneSurrogate),
+            State::Mark(Some(_)) => Err(BadBytes::NoMark),
+            State::Units(_, _, Some(_)) => Err(BadBytes::OddByte),
+            State::Units(_, Some(_), None) => Err(BadBytes::LoneSurrogate),
             State::Units(_, None, None) => Ok(()),
             State::Latin1 => Ok(()),
             State::Windows1252 => Ok(()),

@@ -4,7 +4,7 @@ ghost use Rattle.core.specs.Char.Utf16.{is_low_surrogate, lone_unit_char, surrog
 ghost use Rattle.hashbag_text.specs.Encodings.{order_of, text_of_units, unit_of};
 ghost use Rattle.hashbag_text.specs.States.{EndsUnit, with_high};
 
-use crate::fault::Fault;
+use crate::bad_bytes::BadBytes;
 use crate::high::High;
 
 /// Which byte of a unit comes first.
@@ -70,23 +70,23 @@ fn lone_char(unit: u16) -> Option<char>
 /// # Errors
 ///
 /// `LoneSurrogate` if a second unit of a pair is wanted and this is none, or if none is wanted and this is one.
-pub fn after_unit(high: Option<High>, unit: u16) -> Result<(Option<High>, Option<char>), Fault>
+pub fn after_unit(high: Option<High>, unit: u16) -> Result<(Option<High>, Option<char>), BadBytes>
     ensures character { IfOk result (EndsUnit high unit) }
 
     // Whatever units come behind it, there is no text.
-    ensures fault { OnErr result ((units : List ℕ) → text_of_units (with_high high (unit ∷ units)) ≡ None) }
+    ensures bad_bytes { OnErr result ((units : List ℕ) → text_of_units (with_high high (unit ∷ units)) ≡ None) }
 {
     if let Some(high) = high {
         if is_low(unit) {
             return Ok((None, pair_char(high, unit)));
         }
-        return Err(Fault::LoneSurrogate);
+        return Err(BadBytes::LoneSurrogate);
     }
     if let Some(high) = High::of_unit(unit) {
         return Ok((Some(high), None));
     }
     match lone_char(unit) {
         Some(c) => Ok((None, Some(c))),
-        None => Err(Fault::LoneSurrogate),
+        None => Err(BadBytes::LoneSurrogate),
     }
 }

@@ -1,11 +1,11 @@
 //! Decoding of bytes that are there at once.
 ghost use Rattle.std.specs.Prelude.{◌≡◌, ℕ, None, Some, string_bytes, IfErr, IfOk};
-ghost use Rattle.hashbag_text.specs.declared.fault.Fault.{Fault};
+ghost use Rattle.hashbag_text.specs.declared.bad_bytes.BadBytes.{BadBytes};
 ghost use Rattle.hashbag_text.specs.Encodings.{decoded};
 
+use crate::bad_bytes::DecodeError;
 use crate::decoder::Decoder;
 use crate::encoding::Encoding;
-use crate::fault::DecodeError;
 use std::alloc::Global;
 
 /// Returns the text of bytes.
@@ -15,7 +15,7 @@ use std::alloc::Global;
 /// `Line` if the bytes aren't text in this encoding. `Memory` if an allocation fails.
 pub fn decode(alloc: Global, encoding: Encoding, bytes: &[u8]) -> Result<String, DecodeError>
     ensures text { IfOk result (λ text. decoded encoding bytes.now ≡ Some (string_bytes text)) }
-    ensures fault { IfErr result (λ e. (line : ℕ) → (fault : Fault) → e ≡ DecodeError.Line line fault → decoded encoding bytes.now ≡ None) }
+    ensures bad_bytes { IfErr result (λ e. (line : ℕ) → (bad_bytes : BadBytes) → e ≡ DecodeError.Line line bad_bytes → decoded encoding bytes.now ≡ None) }
 {
     let mut decoder = Decoder::new(encoding);
     let Ok(mut text) = String::with_capacity(alloc, bytes.len()) else {

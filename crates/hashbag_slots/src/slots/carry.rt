@@ -60,7 +60,7 @@ impl<T: Eq + Hash> Slots<T> {
         // Only for the proof: it uses the clauses `value` and `bound` of `slots`.
         let _slots = older.slots();
         let mut ahead = older.live_among(from);
-        'marks: while ahead != 0 {
+        'fingerprints: while ahead != 0 {
             let (place, rest) = take_lowest(ahead, from);
             self.carry_slot(state, older, place);
             ahead = rest;

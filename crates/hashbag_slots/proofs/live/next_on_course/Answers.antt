@@ -5,7 +5,7 @@ use Rattle.hashbag_slots.specs.Group.{IsMaskOf, from_place_on}
 use Rattle.hashbag_slots.specs.declared.live.Course.{Course}
 use Rattle.hashbag_slots.specs.Walks.{of_turn, pass_of, places_left, IsNextOn}
 use Rattle.hashbag_slots.proofs.GroupLemmas.{none_told}
-use Rattle.hashbag_slots.proofs.Walking.{is_mark, same_pass, next_on, next_on_earlier, left_skip}
+use Rattle.hashbag_slots.proofs.Walking.{is_fingerprint, same_pass, next_on, next_on_earlier, left_skip}
 use Rattle.hashbag_slots.proofs.live.next_on_course.Goals as goal
 
 pub overflow_sub-until : goal.overflow_sub-until
@@ -22,7 +22,7 @@ none_earlier ns os turn next from same (Some x) none = tt
 pub returns : goal.returns
 returns c =
     let ns = c.args.newer.now in let os = c.args.older.now in let turn = c.args.course.turn in let next = c.args.course.next in let until = c.args.course.until in
-    let course = c.requires.course in let near = course.near in let live = is_mark (of_turn turn ns os) in
+    let course = c.requires.course in let near = course.near in let live = is_fingerprint (of_turn turn ns os) in
     let none = none_told live (until - 16) next until c.args.course.ahead course.mask (omega arith) c.if-ahead-ne0.false in
     let same : places_left turn next ns os ≡ places_left turn until ns os = left_skip ns os turn next until course.from (λ q a b is. leb-false _ _ (none q a b)) in
     record {
@@ -35,7 +35,7 @@ returns-then-ahead-ne0 c =
     let ns = c.args.newer.now in let os = c.args.older.now in let turn = c.args.course.turn in let next = c.args.course.next in let until = c.args.course.until in
     let course = c.requires.course in let near = course.near in let from = course.from in let within = course.within in let sixteen = course.sixteen in
     let whole = course.whole (omega arith) in
-    let live = is_mark (of_turn turn ns os) in let place = c.take_lowest-place.result.0 in let rest = c.take_lowest-place.result.1 in
+    let live = is_fingerprint (of_turn turn ns os) in let place = c.take_lowest-place.result.0 in let rest = c.take_lowest-place.result.1 in
     let base : ℕ = until - 16 in let up : base + 16 ≡ until = omega arith in
     let e = c.take_lowest-place.ensures in
     let below = e.before_until live next until course.mask in let first = e.first live next until (omega arith) course.mask in let low = first.low in

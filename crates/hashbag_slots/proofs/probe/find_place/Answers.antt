@@ -6,8 +6,8 @@ use Rattle.hashbag_slots.proofs.Hashing.{hash_named}
 use Rattle.hashbag_slots.proofs.Strides.{absent_near}
 use Rattle.hashbag_slots.proofs.probe.find_place.Goals as goal
 
-pub find_marked-requires-clause-mask : goal.find_marked-requires-clause-mask
-find_marked-requires-clause-mask g c = let e = c.match_tag_before_empty-marked.ensures in (e.0, e.1.high, e.2)
+pub find_tagged-requires-clause-mask : goal.find_tagged-requires-clause-mask
+find_tagged-requires-clause-mask g c = let e = c.match_tag_before_empty-tagged.ensures in (e.0, e.1.high, e.2)
 
 pub returns-then-ends-clause-absent : goal.returns-then-ends-clause-absent
 returns-then-ends-clause-absent g c =
@@ -15,10 +15,10 @@ returns-then-ends-clause-absent g c =
     let test : g.row.T.Denot → Bool = g.Q.Key.names c.args.key in
     let alike : (v : g.row.T.Denot) → test v ≡ true → hash v ≡ c.args.hash = hash_named g.T.Hash.hash_input g.Q.Hash.hash_input g.S.BuildHasher g.S.Hasher.Hasher c.args.state.now c.args.key test (g.met.Q.Key.hashed_alike c.args.key) c.args.hash c.requires.hashed in
     let ts = c.args.tags.now in let room = c.if-first-count.false in let first = c.path_slot-first.result in
-    let e = c.match_tag_before_empty-marked.ensures in let stop : ℕ = e.0 in let low = e.1.low in
+    let e = c.match_tag_before_empty-tagged.ensures in let stop : ℕ = e.0 in let low = e.1.low in
     let short : stop < first + 16 = ltb-true _ _ (sym e.3 ∙ c.if-ends.true) in let there : stop ≡ first + (stop - first) = omega arith in
     absent_near test hash c.args.hash alike ts c.args.cells.now c.requires.agree c.requires.reached
-    c.mark_of-mark.result c.mark_of-mark.ensures.mark
+    c.fingerprint_of-fingerprint.result c.fingerprint_of-fingerprint.ensures.fingerprint
     first (stop - first) c.path_slot-first.ensures.value
     (omega arith) (ap (tag_at ts) (sym there) ∙ eqb-true _ _ (e.1.hit short))
     (λ p a b same. c.in_default.ensures.absent stop e.2 p a (omega arith) same)

@@ -16,10 +16,10 @@ returns-then-first_equal-lt-GROUP_WIDTH-clause-absent g c =
     let alike : (v : g.row.T.Denot) → test v ≡ true → hash v ≡ c.args.hash = hash_named g.T.Hash.hash_input g.Q.Hash.hash_input g.S.BuildHasher g.S.Hasher.Hasher c.args.state.now c.args.key test (g.met.Q.Key.hashed_alike c.args.key) c.args.hash c.requires.hashed in
     let ts = c.args.tags.now in let room = c.if-first-count.false in let short = c.if-first_equal-lt-GROUP_WIDTH.true in
     absent_near test hash c.args.hash alike ts c.args.cells.now c.requires.agree c.requires.reached
-    c.mark_of-mark.result c.mark_of-mark.ensures.mark
+    c.fingerprint_of-fingerprint.result c.fingerprint_of-fingerprint.ensures.fingerprint
     c.path_slot-first.result c.first_equal.result c.path_slot-first.ensures.value
     (omega arith) (eqb-true _ _ (c.first_equal.ensures.first.hit (omega arith)))
-    (λ p a b same. c.in_default.ensures.absent (c.path_slot-first.result + 16) c.match_tag-marked.ensures p a (omega arith) same)
+    (λ p a b same. c.in_default.ensures.absent (c.path_slot-first.result + 16) c.match_tag-tagged.ensures p a (omega arith) same)
 
 pub returns-then-first_equal-lt-GROUP_WIDTH-clause-free :
     goal.returns-then-first_equal-lt-GROUP_WIDTH-clause-free
@@ -48,6 +48,6 @@ returns-clause-open g c =
     let full : tag_at ts p ≢ 0 = eqb-false _ _ (c.first_equal.ensures.first.before p (omega arith) (omega arith)) in (
       full,
       other test hash c.args.hash alike ts c.args.cells.now c.requires.agree c.requires.reached
-          c.mark_of-mark.result c.mark_of-mark.ensures.mark p
-          (λ same. c.in_default.ensures.absent (c.path_slot-first.result + 16) c.match_tag-marked.ensures p (omega arith) (omega arith) same),
+          c.fingerprint_of-fingerprint.result c.fingerprint_of-fingerprint.ensures.fingerprint p
+          (λ same. c.in_default.ensures.absent (c.path_slot-first.result + 16) c.match_tag-tagged.ensures p (omega arith) (omega arith) same),
     ))

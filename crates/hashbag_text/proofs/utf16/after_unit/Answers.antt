@@ -9,8 +9,8 @@ returns-then-is_low-clause-character c units =
     let low : is_low_surrogate c.args.unit ≡ true = cc in
     pair_left _ c.in-Some.high c.args.unit c.in-Some.is low units ∙ ap (λ r. yields r (text_of_units units)) (sym c.pair_char.ensures)
 
-pub returns-in-Some-clause-fault : goal.returns-in-Some-clause-fault
-returns-in-Some-clause-fault c =
+pub returns-in-Some-clause-bad_bytes : goal.returns-in-Some-clause-bad_bytes
+returns-in-Some-clause-bad_bytes c =
     let other : is_low_surrogate c.args.unit ≡ false = cc in
     not_low _ c.in-Some.high c.args.unit c.in-Some.is other
 
@@ -19,7 +19,7 @@ returns-in-Some-lone_char-clause-character c =
     let none : c.args.high ≡ None = cc in
     lone_left c.args.high c.args.unit (Some c.in-Some-lone_char.c) none c.in_default-of_unit.ensures (sym c.in-Some-lone_char.is ∙ c.lone_char.ensures)
 
-pub returns-in-None-clause-fault : goal.returns-in-None-clause-fault
-returns-in-None-clause-fault c =
+pub returns-in-None-clause-bad_bytes : goal.returns-in-None-clause-bad_bytes
+returns-in-None-clause-bad_bytes c =
     let none : c.args.high ≡ None = cc in
     lone_left c.args.high c.args.unit None none c.in_default-of_unit.ensures (sym c.in-None.is ∙ c.lone_char.ensures)

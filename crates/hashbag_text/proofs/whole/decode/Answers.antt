@@ -3,7 +3,7 @@ use Rattle.std.proofs.lemmas.List.{append-nil}
 use Rattle.hashbag_text.specs.Decoders.{left_of}
 use Rattle.hashbag_text.proofs.whole.decode.Goals as goal
 
-pub returns-in-Err-clause-fault : goal.returns-in-Err-clause-fault
-returns-in-Err-clause-fault c = λ line fault is.
+pub returns-in-Err-clause-bad_bytes : goal.returns-in-Err-clause-bad_bytes
+returns-in-Err-clause-bad_bytes c = λ line bad_bytes is.
     let bytes = c.args.bytes.now in
-    sym (c.new-decoder.ensures bytes) ∙ ap (λ (l : List ℕ). left_of c.new-decoder.result l) (sym (append-nil bytes)) ∙ c.in-Err.ensures.fault line fault is []
+    sym (c.new-decoder.ensures bytes) ∙ ap (λ (l : List ℕ). left_of c.new-decoder.result l) (sym (append-nil bytes)) ∙ c.in-Err.ensures.bad_bytes line bad_bytes is []

@@ -2,13 +2,13 @@ use Rattle.std.proofs.Common.{◌≡◌, ℕ, ◌+◌, Some, None, refl, sym, ap
 use Rattle.hashbag_slots.specs.declared.slots.Slot.TheVariants.{Live}
 use Rattle.hashbag_slots.specs.Slots.{is_live, slot_at, raised, count_in}
 use Rattle.hashbag_slots.specs.Columns.{columns, slots_of, IsColumns, IsReached}
-use Rattle.hashbag_slots.proofs.Reading.{marked_at, live_at}
+use Rattle.hashbag_slots.proofs.Reading.{tagged_at, live_at}
 use Rattle.hashbag_slots.proofs.Writing.{set_twice, rewritten, IsColumns-rewrite, IsReached-rewrite}
 use Rattle.hashbag_slots.proofs.slots.Slots.add_at.Goals as goal
 
 pub take-value-requires : goal.take-value-requires
 take-value-requires g c =
-    let m = marked_at c.self.inside.tags.items c.self.inside.cells c.self.invariant.agree c.args.place (ap (λ s. is_live (slot_at s.slots c.args.place)) c.self.view_is ∙ c.requires.live) in
+    let m = tagged_at c.self.inside.tags.items c.self.inside.cells c.self.invariant.agree c.args.place (ap (λ s. is_live (slot_at s.slots c.args.place)) c.self.view_is ∙ c.requires.live) in
     (m.1, m.2)
 
 pub overflow_add-count : goal.overflow_add-count

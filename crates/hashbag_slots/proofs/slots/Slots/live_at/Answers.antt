@@ -1,11 +1,11 @@
 use Rattle.std.proofs.Common.{sym, ap, ◌∙◌}
 use Rattle.hashbag_slots.specs.Slots.{is_live, slot_entry, slot_at}
-use Rattle.hashbag_slots.proofs.Reading.{marked_at, live_at}
+use Rattle.hashbag_slots.proofs.Reading.{tagged_at, live_at}
 use Rattle.hashbag_slots.proofs.slots.Slots.live_at.Goals as goal
 
 pub get-requires : goal.get-requires
 get-requires g c =
-    let m = marked_at c.self.inside.tags.items c.self.inside.cells c.self.invariant.agree c.args.place (ap (λ s. is_live (slot_at s.slots c.args.place)) c.self.view_is ∙ c.requires) in
+    let m = tagged_at c.self.inside.tags.items c.self.inside.cells c.self.invariant.agree c.args.place (ap (λ s. is_live (slot_at s.slots c.args.place)) c.self.view_is ∙ c.requires) in
     (m.1, m.2)
 
 pub returns : goal.returns

@@ -5,7 +5,7 @@ use Rattle.core.specs.Int.{from_bool}
 use Rattle.hashbag_slots.specs.Hashing.{hash_under}
 use Rattle.hashbag_slots.specs.declared.slots.Slot.TheVariants.{Live}
 use Rattle.hashbag_slots.specs.Slots.{path_slot, is_live, slot_at, IsAbsent, IsFirstFree}
-use Rattle.hashbag_slots.specs.Columns.{mark_of, columns, slots_of, IsColumns, IsReached}
+use Rattle.hashbag_slots.specs.Columns.{fingerprint_of, columns, slots_of, IsColumns, IsReached}
 use Rattle.hashbag_slots.proofs.Paths.{count_bound}
 use Rattle.hashbag_slots.proofs.Reading.{length-slots_of, dead_at, removed_at, no_cell, first_free}
 use Rattle.hashbag_slots.proofs.Tables.{some_removed}
@@ -66,21 +66,21 @@ pub invariant_of-self : goal.invariant_of-self
 invariant_of-self g c =
     let eq = g.T.PartialEq.eq in
     let ts = c.self.inside.tags.items in let cs = c.self.inside.cells in let at = c.args.place in
-    let live : ℕ = c.self.inside.live in let removed : ℕ = c.self.inside.removed in let mark = c.mark_of.result in
+    let live : ℕ = c.self.inside.live in let removed : ℕ = c.self.inside.removed in let fingerprint = c.fingerprint_of.result in
     let v = c.args.value in let n : ℕ = c.args.n in
     let first = first_free ts cs c.self.invariant.agree c.args.hash at (subst (λ s. IsFirstFree c.args.hash s.slots at) (sym c.self.view_is) c.requires.free) in
     let bound = first.bound in
     let one : c.from.result ≡ cond (nat_eq (get_or ts at 0) 1) 1 0 = c.from.ensures ∙ counts (nat_eq c.index.result.now 1) ∙ ap (λ t. cond (nat_eq t 1) 1 0) (get_or_read ts at c.index.result.now bound c.index.ensures 0) in
     let absent = subst (λ s. IsAbsent (eq v) s.slots) (sym c.self.view_is) c.requires.absent in
-    subst (λ ds. IsColumns eq (slice_set ts at mark) ds (live + 1) (removed - c.from.result)) (sym c.put.ensures)
-    (subst (λ k. IsColumns eq (slice_set ts at mark) (slice_set cs at (Some (v, n))) (live + 1) (removed - k)) (sym one)
-    (IsColumns-put eq g.met.T.Eq.laws ts cs live removed at c.self.invariant v n mark bound first.free c.mark_of.ensures.least absent c.requires.positive))
+    subst (λ ds. IsColumns eq (slice_set ts at fingerprint) ds (live + 1) (removed - c.from.result)) (sym c.put.ensures)
+    (subst (λ k. IsColumns eq (slice_set ts at fingerprint) (slice_set cs at (Some (v, n))) (live + 1) (removed - k)) (sym one)
+    (IsColumns-put eq g.met.T.Eq.laws ts cs live removed at c.self.invariant v n fingerprint bound first.free c.fingerprint_of.ensures.least absent c.requires.positive))
 
 pub returns-clause-after : goal.returns-clause-after
 returns-clause-after g c =
-    let ts = c.self.inside.tags.items in let cs = c.self.inside.cells in let at = c.args.place in let mark = c.mark_of.result in
+    let ts = c.self.inside.tags.items in let cs = c.self.inside.cells in let at = c.args.place in let fingerprint = c.fingerprint_of.result in
     let v = c.args.value in let n : ℕ = c.args.n in
-    ap (slots_of (slice_set ts at mark)) c.put.ensures ∙ set-slots_of ts cs at mark (Some (v, n)) c.self.invariant.agree.same_length ∙ ap (λ s. slice_set s.slots at (Live v n)) c.self.view_is
+    ap (slots_of (slice_set ts at fingerprint)) c.put.ensures ∙ set-slots_of ts cs at fingerprint (Some (v, n)) c.self.invariant.agree.same_length ∙ ap (λ s. slice_set s.slots at (Live v n)) c.self.view_is
 
 pub returns-clause-placed : goal.returns-clause-placed
 returns-clause-placed g c =
@@ -97,11 +97,11 @@ returns-clause-placed g c =
 pub returns-clause-reached : goal.returns-clause-reached
 returns-clause-reached g c =
     let hash : g.row.T.Denot → ℕ = hash_under g.T.Hash.hash_input g.S.BuildHasher g.S.Hasher.Hasher c.args.state.now in
-    let ts = c.self.inside.tags.items in let cs = c.self.inside.cells in let at = c.args.place in let mark = c.mark_of.result in
+    let ts = c.self.inside.tags.items in let cs = c.self.inside.cells in let at = c.args.place in let fingerprint = c.fingerprint_of.result in
     let v = c.args.value in let n : ℕ = c.args.n in
     let first = first_free ts cs c.self.invariant.agree c.args.hash at (subst (λ s. IsFirstFree c.args.hash s.slots at) (sym c.self.view_is) c.requires.free) in
     let hashed : c.args.hash ≡ hash v = c.requires.hashed in
     let reached = subst (IsReached hash) (sym c.self.view_is) c.requires.reached in
-    let done = IsReached-place ts cs c.self.invariant.agree hash reached v n mark at first.step first.bound first.within (first.on_path ∙ ap (λ h. path_slot (length ts) h first.step) hashed) (c.mark_of.ensures.mark ∙ ap (λ h. mark_of h) hashed)
+    let done = IsReached-place ts cs c.self.invariant.agree hash reached v n fingerprint at first.step first.bound first.within (first.on_path ∙ ap (λ h. path_slot (length ts) h first.step) hashed) (c.fingerprint_of.ensures.fingerprint ∙ ap (λ h. fingerprint_of h) hashed)
     (λ before lt. subst (λ h. 128 ≤ get_or ts (path_slot (length ts) h before) 0) hashed (first.front before lt)) in
-    subst (λ ds. IsReached hash (columns (slice_set ts at mark) ds)) (sym c.put.ensures) done
+    subst (λ ds. IsReached hash (columns (slice_set ts at fingerprint) ds)) (sym c.put.ensures) done

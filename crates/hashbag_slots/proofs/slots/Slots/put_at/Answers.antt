@@ -2,14 +2,14 @@ use Rattle.std.proofs.Common.{◌≡◌, ℕ, Some, None, sym, ap, subst, ◌∙
 use Rattle.hashbag_slots.specs.declared.slots.Slot.TheVariants.{Live}
 use Rattle.hashbag_slots.specs.Slots.{is_live, holds, slot_at, count_in}
 use Rattle.hashbag_slots.specs.Columns.{columns, slots_of, IsColumns, IsReached}
-use Rattle.hashbag_slots.proofs.Reading.{marked_at, live_at}
+use Rattle.hashbag_slots.proofs.Reading.{tagged_at, live_at}
 use Rattle.hashbag_slots.proofs.Writing.{set_twice, rewritten, IsColumns-rewrite, IsReached-rewrite}
 use Rattle.hashbag_slots.proofs.Probing.{holder}
 use Rattle.hashbag_slots.proofs.slots.Slots.put_at.Goals as goal
 
 pub take-former-requires : goal.take-former-requires
 take-former-requires g c =
-    let m = marked_at c.self.inside.tags.items c.self.inside.cells c.self.invariant.agree c.args.place (ap (λ s. is_live (slot_at s.slots c.args.place)) c.self.view_is ∙ ap is_live (holder (g.T.PartialEq.eq c.args.value) (slot_at c.args.self.now.slots c.args.place) c.requires.equal).2) in
+    let m = tagged_at c.self.inside.tags.items c.self.inside.cells c.self.invariant.agree c.args.place (ap (λ s. is_live (slot_at s.slots c.args.place)) c.self.view_is ∙ ap is_live (holder (g.T.PartialEq.eq c.args.value) (slot_at c.args.self.now.slots c.args.place) c.requires.equal).2) in
     (m.1, m.2)
 
 pub returns-clause-former : goal.returns-clause-former

@@ -5,7 +5,7 @@ use Rattle.hashbag_slots.specs.declared.slots.Slot.TheVariants.{Empty}
 use Rattle.hashbag_slots.specs.Slots.{is_live, is_removed, slot_at}
 use Rattle.hashbag_slots.specs.Columns.{columns, slot_of, slots_of, IsColumns, IsReached}
 use Rattle.hashbag_slots.proofs.Paths.{count_bound}
-use Rattle.hashbag_slots.proofs.Reading.{dead_slot, marked_at, live_at}
+use Rattle.hashbag_slots.proofs.Reading.{dead_slot, tagged_at, live_at}
 use Rattle.hashbag_slots.proofs.Writing.{in_tags, IsColumns-take, IsReached-take, set-slots_of}
 use Rattle.hashbag_slots.proofs.slots.Slots.take_leaving.Goals as goal
 
@@ -28,12 +28,12 @@ not_empty T (suc (suc (suc t))) some few e = absurd (omega arith)
 pub index_mut-requires : goal.index_mut-requires
 index_mut-requires g c =
     let ts = c.self.inside.tags.items in let cs = c.self.inside.cells in
-    let m = marked_at ts cs c.self.invariant.agree c.args.place (ap (λ s. is_live (slot_at s.slots c.args.place)) c.self.view_is ∙ c.requires.live) in
+    let m = tagged_at ts cs c.self.invariant.agree c.args.place (ap (λ s. is_live (slot_at s.slots c.args.place)) c.self.view_is ∙ c.requires.live) in
     let l = in_tags ts cs c.self.invariant.agree c.args.place m.1 m.2 in let k = c.self.inside.tags.ok.0 in omega arith
 
 pub take-requires : goal.take-requires
 take-requires g c =
-    let m = marked_at c.self.inside.tags.items c.self.inside.cells c.self.invariant.agree c.args.place (ap (λ s. is_live (slot_at s.slots c.args.place)) c.self.view_is ∙ c.requires.live) in
+    let m = tagged_at c.self.inside.tags.items c.self.inside.cells c.self.invariant.agree c.args.place (ap (λ s. is_live (slot_at s.slots c.args.place)) c.self.view_is ∙ c.requires.live) in
     (m.1, m.2)
 
 pub overflow_add-self : goal.overflow_add-self

@@ -3,7 +3,7 @@ use thiserror::Error;
 
 /// What is wrong with bytes.
 #[derive(Clone, Copy, PartialEq, Eq, Debug, Error)]
-pub enum Fault {
+pub enum BadBytes {
     /// The bytes don't begin with a byte order mark of UTF-16.
     #[error("not UTF-16: no byte order mark; UTF-16LE and UTF-16BE need none")]
     NoMark,
@@ -26,7 +26,7 @@ pub enum DecodeError {
         /// The line of the text that it is found in, from 1.
         line: u64,
         /// What is wrong.
-        fault: Fault,
+        bad_bytes: BadBytes,
     },
     /// An allocation failed.
     Memory,
