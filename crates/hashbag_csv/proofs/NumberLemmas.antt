@@ -10,7 +10,7 @@ use Rattle.std.proofs.lemmas.List.Sums.{passes_at_first, split_at_first}
 use Rattle.std.proofs.lemmas.Str.Parse.{digit_from_value}
 use Rattle.std.proofs.lemmas.Str.Pattern.{IsSplitOnceResult, split_once_first}
 use Rattle.hashbag_csv.specs.Decimals.{IsDecimal, part_of, whole_of}
-use Rattle.hashbag_csv.specs.Faults.{HasMark, HasParts, is_grouped}
+use Rattle.hashbag_csv.specs.Faults.{HasMark, HasParts, IsCutAtMark, is_grouped}
 
 -- ---- digits
 
@@ -41,7 +41,7 @@ numeral_is b ds some is = (λ t. (some, digits_to ds (sym is ∙ t)), λ n. is �
 module _ (mark : ℕ) (low : mark < 48) where
   cut_at : (s : List ℕ) (r : Option (Bor (List ℕ) × Bor (List ℕ)))
       → MatchOption r (position_or_len (λ b. b == mark) s ≡ length s) (λ x. (position_or_len (λ b. b == mark) s < length s) × (x.0.now ≡ before_first (λ b. b == mark) s) × (x.1.now ≡ after_first (λ b. b == mark) s))
-      → MatchOption r (¬ (HasMark mark s)) (λ x. HasMark mark s × (x.0.now ≡ whole_of mark s) × (x.1.now ≡ part_of mark s))
+      → IsCutAtMark mark s r
   unfolding HasMark
   cut_at s None none = λ has.
       let all : whole_of mark s ≡ s = take_all (position_or_len (λ b. b == mark) s) s (omega (arith, none)) in
@@ -53,7 +53,7 @@ module _ (mark : ℕ) (low : mark < 48) where
       (split_at_first (λ b. b == mark) s 0 h.0 ∙ ap (λ (c : ℕ). whole_of mark s ++ c ∷ part_of mark s) is, h.1, h.2)
 
   pub cut_is : (c : ℕ) (s : List ℕ) (r : Option (Bor (List ℕ) × Bor (List ℕ))) → c ≡ mark → IsSplitOnceResult c s r
-      → MatchOption r (¬ (HasMark mark s)) (λ x. HasMark mark s × (x.0.now ≡ whole_of mark s) × (x.1.now ≡ part_of mark s))
+      → IsCutAtMark mark s r
   cut_is c s r is cut = cut_at s r (split_once_first mark s r (subst (λ (k : ℕ). IsSplitOnceResult k s r) is cut) (omega (arith, low)))
 
 -- ---- groups of digits

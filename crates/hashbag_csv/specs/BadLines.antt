@@ -31,9 +31,13 @@ HasNumber scale form number r = IfSome number (λ p. IsNumberField scale form (g
 abbrev pub IsNumberError : Scale → NumberForm → Option ℕ → Record → SheetError → Type 0
 IsNumberError scale form number r e = (line : ℕ) × (p : ℕ) × (number ≡ Some p) × IsErrorOfField scale form line (get_or r p []) e
 
+-- the error that a field of the record isn't UTF-8, or that the field at the place `number` isn't a number; or `Memory`
+abbrev pub IsFieldError : Scale → NumberForm → Option ℕ → Record → SheetError → Type 0
+IsFieldError scale form number r e = IsTextError e ⊎ IsNumberError scale form number r e
+
 -- the error of a record that isn't read as a line; `fits` is whether the record fits the header
 abbrev pub IsLineError : Scale → NumberForm → Option ℕ → Bool → Record → SheetError → Type 0
-IsLineError scale form number fits r e = IsReadError fits e ⊎ IsTextError e ⊎ IsNumberError scale form number r e
+IsLineError scale form number fits r e = IsReadError fits e ⊎ IsFieldError scale form number r e
 
 -- what is said of a record below a header with `width` fields: `None` if the record is read as a line, else its error, which isn't `Memory`
 abbrev pub IsSaidOf : Scale → NumberForm → Option ℕ → Bool → ℕ → Record → Option SheetError → Type 0

@@ -1,5 +1,5 @@
 -- The lines of a list of articles, each with a number.
-use Rattle.std.specs.Prelude.{ℕ, List, [], ◌∷◌, String, string_bytes, Some, None, false}
+use Rattle.std.specs.Prelude.{◌≡◌, ℕ, List, [], ◌∷◌, map, String, string_bytes, Some, None, false}
 use Rattle.std.specs.Global.{Global}
 use Rattle.hashbag_csv.specs.Lines.{lines_in}
 use Rattle.hashbag_csv.specs.Readers.{Record}
@@ -17,3 +17,7 @@ count_line line = (string_bytes line.0 ∷ [], line.1)
 -- the lines of a text, whose columns of articles and of numbers have these names
 abbrev pub counts_in : Reading → List ℕ → List ℕ → List ℕ → List (Record × ℕ)
 counts_in reading article number text = lines_in reading plain_form (article ∷ []) (Some number) text
+
+-- a list of articles with numbers has the lines of a text, in their order
+abbrev pub AreCountsIn : Reading → List ℕ → List ℕ → List ℕ → List (String Global × ℕ) → Type 0
+AreCountsIn reading article number text counts = map count_line counts ≡ counts_in reading article number text

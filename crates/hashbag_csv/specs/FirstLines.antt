@@ -7,11 +7,12 @@ use Rattle.std.specs.String.{string_bytes}
 use Rattle.hashbag_csv.specs.Articles.{same_article}
 use Rattle.hashbag_csv.specs.Lines.{fields_at, place_of}
 use Rattle.hashbag_csv.specs.Readers.{Record, records_in}
-use Rattle.hashbag_csv.specs.Sheets.{place}
+use Rattle.hashbag_csv.specs.Sheets.{left, place, read_last}
 use Rattle.hashbag_csv.specs.declared.delimiter.Delimiter.{Delimiter}
 use Rattle.hashbag_csv.specs.declared.first_lines.Names.{Names}
 use Rattle.hashbag_csv.specs.declared.key_form.KeyForm.{KeyForm}
 use Rattle.hashbag_csv.specs.declared.sheet.Column.{Column}
+use Rattle.hashbag_csv.specs.declared.sheet.Sheet.{Sheet}
 
 -- the form of fields that are read as they are
 abbrev pub as_it_is : KeyForm
@@ -28,6 +29,14 @@ carried_at form keys carried r = (fields_at form keys r, fields_at as_it_is carr
 -- the article and carried fields of a record, by the columns `keys` and `carried`
 abbrev pub carried_by : KeyForm → List Column → List Column → Record → Carried
 carried_by form keys carried = carried_at form (map place keys) (map place carried)
+
+-- the article and carried fields of the record that was read last, in a list
+abbrev pub carried_last : KeyForm → List Column → List Column → Sheet → List Carried
+carried_last form keys carried s = carried_by form keys carried (read_last s) ∷ []
+
+-- the articles and carried fields of the records that aren't read
+abbrev pub carried_left : KeyForm → List Column → List Column → Sheet → List Carried
+carried_left form keys carried s = map (carried_by form keys carried) (left s)
 
 -- the articles and carried fields below a header, which is the first of these records; `keys` and `carried` name its columns; a column that
 -- the header lacks is empty in each record

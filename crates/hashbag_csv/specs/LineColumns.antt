@@ -1,14 +1,29 @@
 -- The columns of a line, and a line that was read.
 use Rattle.std.specs.Prelude.{◌≡◌, ℕ, List, [], ◌∷◌, map, Option, MatchOption, option_map}
-use Rattle.hashbag_csv.specs.BadLines.{HasNumber, IsLineError, IsSaidOf}
-use Rattle.hashbag_csv.specs.Lines.{line_of}
+use Rattle.std.specs.Borrow.{Bor}
+use Rattle.hashbag_csv.specs.BadLines.{AreBadLines, HasNumber, IsLineError, IsSaidOf}
+use Rattle.hashbag_csv.specs.Lines.{fields_at, line_of, place_of}
 use Rattle.hashbag_csv.specs.Readers.{Record}
 use Rattle.hashbag_csv.specs.Sheets.{ReadsOne, fits_sheet, is_short_allowed, left, place, read_last, width_of}
 use Rattle.hashbag_csv.specs.declared.fault.SheetError.{SheetError}
+use Rattle.hashbag_csv.specs.declared.key_form.KeyForm.{KeyForm}
 use Rattle.hashbag_csv.specs.declared.line_form.LineForm.{LineForm}
 use Rattle.hashbag_csv.specs.declared.lines.LineColumns.{LineColumns}
 use Rattle.hashbag_csv.specs.declared.scale.Scale.{Scale}
+use Rattle.hashbag_csv.specs.declared.sheet.Column.{Column}
 use Rattle.hashbag_csv.specs.declared.sheet.Sheet.{Sheet}
+
+-- the place of the first field with this name in the record that was read last; the number of its fields if none has the name
+abbrev pub place_named : Sheet → Bor (List ℕ) → ℕ
+place_named s name = place_of (read_last s) name.now
+
+-- the fields of these columns in the record that was read last, in this form
+abbrev pub last_fields : KeyForm → List Column → Sheet → Record
+last_fields form columns s = fields_at form (map place columns) (read_last s)
+
+-- the place of a column, if there is one
+abbrev pub place_if : Option Column → Option ℕ
+place_if column = option_map place column
 
 -- the places of the key columns in a record
 abbrev pub key_places : LineColumns → List ℕ
@@ -16,7 +31,7 @@ key_places c = map place c.article.items
 
 -- the place of the number's column in a record, if there is one
 abbrev pub number_place : LineColumns → Option ℕ
-number_place c = option_map place c.number
+number_place c = place_if c.number
 
 -- how the lines are read
 abbrev pub form_of : LineColumns → LineForm
@@ -49,6 +64,10 @@ IsLineErrorBy scale c old new e = IsLineError scale (form_of c).number (number_p
 -- `None` if a record is read as a line with these columns, else its error
 abbrev pub IsCheckOf : Scale → LineColumns → Sheet → Record → Option SheetError → Type 0
 IsCheckOf scale c sheet = IsSaidOf scale (form_of c).number (number_place c) (is_short_allowed sheet) (width_of sheet)
+
+-- `errors` are the errors of the bad ones among the records that aren't read: of all, or of the first `most`
+abbrev pub AreBadLeft : Scale → LineColumns → ℕ → Sheet → List SheetError → Type 0
+AreBadLeft scale c most sheet errors = AreBadLines (IsCheckOf scale c sheet) most (left sheet) errors
 
 -- the next record was read, and `next` is what `IsCheckOf` says of it; or no record was left, and `next` is `None`
 abbrev pub SaysOfNext : Scale → LineColumns → Sheet → Option (Option SheetError) → Sheet → Type 0

@@ -49,3 +49,7 @@ IsErrorOfField scale form line field e = ¬ (IsBlankZero form field) × IsGroupe
 -- the number of a field without its marks between groups, in units of the scale
 abbrev pub grouped_number_in : Scale → Option GroupMark → List ℕ → ℕ
 grouped_number_in scale group field = number_in scale (ungrouped_if (code_of scale.mark) group field)
+
+-- a field is a number, whose whole part may be in groups, and has the value n in units of the scale
+abbrev pub ReadsGrouped : Scale → Option GroupMark → List ℕ → ℕ → Type 0
+ReadsGrouped scale group field n = IsGroupedNumber scale group field × (n ≡ grouped_number_in scale group field)

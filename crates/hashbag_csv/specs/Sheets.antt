@@ -25,6 +25,10 @@ ReadsOne old new = left old ≡ read_last new ∷ left new
 abbrev pub place : Column → ℕ
 place c = c.place
 
+-- the field of this column in the record that was read last; empty if the record ends before it
+abbrev pub last_field : Sheet → Column → List ℕ
+last_field s c = get_or (read_last s) (place c) []
+
 -- the field at this place, and no other, is the name
 abbrev pub IsOnlyAt : List ℕ → Record → ℕ → Type 0
 IsOnlyAt name fields p = (p < length fields) × (get_or fields p [] ≡ name) × ((k : ℕ) → k < length fields → get_or fields k [] ≡ name → k ≡ p)
@@ -52,6 +56,10 @@ is_short_allowed s = s.allows_short
 abbrev pub KeepsHeader : Sheet → Sheet → Type 0
 KeepsHeader old new = (width_of new ≡ width_of old) × (is_short_allowed new ≡ is_short_allowed old)
 
+-- the record that was read last is as wide as the header, and records may be shorter exactly if `short` is true
+abbrev pub IsAtHeader : Bool → Sheet → Type 0
+IsAtHeader short s = (width_of s ≡ length (read_last s)) × (is_short_allowed s ≡ short)
+
 -- whether a record has `width` fields, as the header has, or fewer if `short`
 abbrev pub fits_header : Bool → ℕ → Record → Bool
 fits_header short width r = if short then nat_le (length r) width else length r == width
@@ -59,6 +67,10 @@ fits_header short width r = if short then nat_le (length r) width else length r 
 -- whether a record fits the header of a sheet
 abbrev pub fits_sheet : Sheet → Record → Bool
 fits_sheet s r = fits_header s.allows_short s.width r
+
+-- the next record was read, and it fits the header
+abbrev pub ReadsFitting : Sheet → Sheet → Type 0
+ReadsFitting old new = ReadsOne old new × (fits_sheet old (read_last new) ≡ true)
 
 -- the first of these records is the header, and each record after it fits the header
 abbrev pub FitHeader : Bool → List Record → Type 0

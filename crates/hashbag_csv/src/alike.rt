@@ -36,7 +36,7 @@ fn pair_or_note<'a, A: Article, S: BuildHasher + Drop>(
     loose: Vec<String>,
     article: &'a A,
 ) -> Result<(), AllocError>
-    ensures near { OnOk result (KeepsNear A.fields article.now (map string_bytes loose.items) seen.old pairs.old.items seen.new pairs.new.items) }
+    ensures near { OnOk result (KeepsNear A.fields article.now loose seen.old pairs.old seen.new pairs.new) }
     ensures few { OnOk result (length pairs.new.items ≤ length pairs.old.items + 1) }
 {
     let first: Option<&'a A> = seen.get(&loose).copied();

@@ -3,9 +3,8 @@ ghost use Rattle.std.specs.Prelude.{◌≡◌, [], ◌∷◌, map, IfErr, IfOk};
 ghost use Rattle.std.specs.String.{string_bytes};
 ghost use Rattle.hashbag_csv.specs.Articles.{same_article};
 ghost use Rattle.hashbag_csv.specs.BadLines.{IsTextError};
-ghost use Rattle.hashbag_csv.specs.Lines.{fields_at};
+ghost use Rattle.hashbag_csv.specs.LineColumns.{last_fields};
 ghost use Rattle.hashbag_csv.specs.Readers.{Record};
-ghost use Rattle.hashbag_csv.specs.Sheets.{place, read_last};
 ghost use Rattle.hashbag_csv.specs.ArticleLaws.{one_same, all_same};
 
 use crate::fault::SheetError;
@@ -33,7 +32,7 @@ pub trait Article: Ord + Hash + Sized {
         columns: &[Column<'_>],
         form: KeyForm,
     ) -> Result<Self, SheetError>
-        ensures fields { IfOk result (λ article. fields article ≡ fields_at form (map place columns.now) (read_last sheet.now)) }
+        ensures fields { IfOk result (λ article. fields article ≡ last_fields form columns.now sheet.now) }
         ensures fault { IfErr result (λ e. IsTextError e) };
 
     /// Returns the article's fields.

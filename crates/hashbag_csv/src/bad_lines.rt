@@ -1,8 +1,8 @@
 //! All bad lines of a text, not only the first one.
 ghost use Rattle.std.specs.Prelude.{◌≡◌, ◌∷◌, ◌++◌, [], option_copied, IfOk, OnOk};
-ghost use Rattle.hashbag_csv.specs.BadLines.{AreBadLines, AreBadLinesOf, errors_in};
-ghost use Rattle.hashbag_csv.specs.LineColumns.{IsCheckOf, SaysOfNext};
-ghost use Rattle.hashbag_csv.specs.Sheets.{KeepsHeader, left};
+ghost use Rattle.hashbag_csv.specs.BadLines.{AreBadLinesOf, errors_in};
+ghost use Rattle.hashbag_csv.specs.LineColumns.{AreBadLeft, SaysOfNext};
+ghost use Rattle.hashbag_csv.specs.Sheets.{KeepsHeader};
 
 use crate::article::Article;
 use crate::counts::Reading;
@@ -51,7 +51,7 @@ fn bad_lines_left<A: Article + Drop>(
     scale: Scale,
     max_errors: usize,
 ) -> Result<Vec<SheetError>, SheetError>
-    ensures { IfOk result (λ errors. AreBadLines (IsCheckOf scale columns.now sheet.old) max_errors (left sheet.old) errors.items) }
+    ensures { IfOk result (λ errors. AreBadLeft scale columns.now max_errors sheet.old errors.items) }
 {
     let mut errors = Vec::new(alloc);
     'lines: while errors.len() < max_errors {
@@ -82,7 +82,7 @@ pub fn bad_lines<A: Article + Drop>(
     form: LineForm,
     max_errors: usize,
 ) -> Result<Vec<SheetError>, SheetError>
-    ensures { IfOk result (λ errors. AreBadLinesOf reading form (option_copied number.entry) max_errors text.now errors.items) }
+    ensures { IfOk result (λ e. AreBadLinesOf reading form (option_copied number.entry) max_errors text.now e.items) }
 {
     let mut sheet = Sheet::open_lines(alloc, text, reading.delimiter, form.allows_short)?;
     let columns = LineColumns::named(alloc, &sheet, keys, number, form)?;

@@ -1,6 +1,6 @@
 //! Lists of articles with quantities in CSV texts.
-ghost use Rattle.std.specs.Prelude.{◌≡◌, ◌+◌, ◌≤◌, [], ◌∷◌, map, Some, IfOk};
-ghost use Rattle.hashbag_csv.specs.Counts.{count_line, counts_in, plain_form};
+ghost use Rattle.std.specs.Prelude.{◌≡◌, ◌+◌, ◌≤◌, [], ◌∷◌, Some, IfOk};
+ghost use Rattle.hashbag_csv.specs.Counts.{AreCountsIn, plain_form};
 ghost use Rattle.hashbag_csv.specs.LineColumns.{form_of, key_places, number_place};
 ghost use Rattle.hashbag_csv.specs.Lines.{place_of};
 ghost use Rattle.hashbag_csv.specs.Quantities.{numbers};
@@ -60,8 +60,8 @@ fn columns_of<'n>(
     article: &'n str,
     number: &'n str,
 ) -> Result<LineColumns<'n>, SheetError>
-    ensures article { IfOk result (λ columns. key_places columns ≡ place_of (read_last sheet.now) article.now ∷ []) }
-    ensures number { IfOk result (λ columns. number_place columns ≡ Some (place_of (read_last sheet.now) number.now)) }
+    ensures article { IfOk result (λ c. key_places c ≡ place_of (read_last sheet.now) article.now ∷ []) }
+    ensures number { IfOk result (λ c. number_place c ≡ Some (place_of (read_last sheet.now) number.now)) }
     ensures form { IfOk result (λ columns. form_of columns ≡ plain_form) }
 {
     let articles = [article];
@@ -101,7 +101,7 @@ pub fn read_counts_as(
     reading: Reading,
 ) -> Result<Vec<(String, usize)>, SheetError>
     // Its lines are those that the text has.
-    ensures lines { IfOk result (λ counts. map count_line counts.items ≡ counts_in reading article.now number.now text.now) }
+    ensures lines { IfOk result (λ counts. AreCountsIn reading article.now number.now text.now counts.items) }
     ensures fits { IfOk result (λ counts. numbers counts.items ≤ reading.scale.most) }
 {
     let mut sheet = Sheet::open_with(alloc, text, reading.delimiter)?;

@@ -5,7 +5,7 @@ ghost use Rattle.std.specs.String.{string_bytes};
 ghost use Rattle.std.specs.Str.Parse.{IsNumeral, digits_value};
 ghost use Rattle.hashbag_csv.specs.Decimals.{ArePartsOf, IsSomeIfFits, padded_digits, units_of};
 ghost use Rattle.hashbag_csv.specs.Lines.{number_in};
-ghost use Rattle.hashbag_csv.specs.Scales.{IsNumberIn, number_text};
+ghost use Rattle.hashbag_csv.specs.Scales.{IsNumberIn, IsTextOf, number_text};
 
 use crate::scale::Scale;
 use std::alloc::{AllocError, Global};
@@ -87,7 +87,7 @@ fn padded(alloc: Global, number: usize, width: u32) -> Result<String, AllocError
 /// Returns a number of units as text, with all decimals of the scale. From that text [`read_decimal`] returns the number.
 pub fn write_decimal(alloc: Global, number: usize, scale: Scale) -> Result<String, AllocError>
     ensures text { IfOk result (λ text. string_bytes text ≡ number_text scale number) }
-    ensures reads { IfOk result (λ text. IsNumberIn scale (string_bytes text) × (number_in scale (string_bytes text) ≡ number)) }
+    ensures reads { IfOk result (λ text. IsTextOf scale number (string_bytes text)) }
 {
     let unit = unit_of(scale.decimals);
     let mut text = format!(in alloc; "{}", number / unit)?;

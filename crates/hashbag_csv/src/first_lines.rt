@@ -1,9 +1,9 @@
 //! For each article, the fields that its first line has in other columns.
-ghost use Rattle.std.specs.Prelude.{◌≡◌, ◌∷◌, [], List, map, IfOk, OnOk};
+ghost use Rattle.std.specs.Prelude.{◌≡◌, List, map, IfOk, OnOk};
 ghost use Rattle.std.specs.String.{string_bytes};
-ghost use Rattle.hashbag_csv.specs.FirstLines.{AddsFirsts, Carried, HasFirsts, carried_by, carried_named, first_of};
-ghost use Rattle.hashbag_csv.specs.Lines.{place_of};
-ghost use Rattle.hashbag_csv.specs.Sheets.{left, place, read_last};
+ghost use Rattle.hashbag_csv.specs.FirstLines.{AddsFirsts, Carried, HasFirsts, carried_last, carried_left, carried_named, first_of};
+ghost use Rattle.hashbag_csv.specs.LineColumns.{place_named};
+ghost use Rattle.hashbag_csv.specs.Sheets.{place};
 
 use crate::article::Article;
 use crate::delimiter::Delimiter;
@@ -33,7 +33,7 @@ fn columns_or_empty<'n>(
     sheet: &Sheet<'_>,
     names: &[&'n str],
 ) -> Result<Vec<Column<'n>>, SheetError>
-    ensures { IfOk result (λ columns. map place columns.items ≡ map (λ n. place_of (read_last sheet.now) n.now) names.now) }
+    ensures { IfOk result (λ columns. map place columns.items ≡ map (place_named sheet.now) names.now) }
 {
     let mut columns = Vec::new(alloc);
     for name in names {
@@ -50,7 +50,7 @@ fn carried_columns<'n>(
     sheet: &Sheet<'_>,
     names: Names<'n>,
 ) -> Result<Vec<Column<'n>>, SheetError>
-    ensures { IfOk result (λ columns. map place columns.items ≡ map (λ n. place_of (read_last sheet.now) n.now) names.entry.carried.now) }
+    ensures { IfOk result (λ found. map place found.items ≡ map (place_named sheet.now) names.entry.carried.now) }
 {
     if names.may_lack {
         return columns_or_empty(alloc, sheet, names.carried);
@@ -68,7 +68,7 @@ fn add_line<A: Article + Drop, S: BuildHasher + Drop>(
     form: KeyForm,
     firsts: &mut HashMap<A, Vec<String>, S>,
 ) -> Result<(), SheetError>
-    ensures { OnOk result (AddsFirsts A.eq A.fields (carried_by form keys.now carried.now (read_last sheet.now) ∷ []) firsts.old firsts.new) }
+    ensures { OnOk result (AddsFirsts A.eq A.fields (carried_last form keys.now carried.now sheet.now) firsts.old firsts.new) }
 {
     let article = A::read(alloc, sheet, keys, form)?;
     if firsts.contains_key(&article) {
@@ -94,7 +94,7 @@ fn add_lines<A: Article + Drop, S: BuildHasher + Drop>(
     form: KeyForm,
     firsts: &mut HashMap<A, Vec<String>, S>,
 ) -> Result<(), SheetError>
-    ensures { OnOk result (AddsFirsts A.eq A.fields (map (carried_by form keys.now carried.now) (left sheet.old)) firsts.old firsts.new) }
+    ensures { OnOk result (AddsFirsts A.eq A.fields (carried_left form keys.now carried.now sheet.old) firsts.old firsts.new) }
 {
     'lines: while sheet.read()? {
         add_line(alloc, sheet, keys, carried, form, firsts)?;

@@ -1,12 +1,12 @@
 //! The lines of a sheet: an article, which is the fields of the key columns, and a number. A number is in units of the scale: with two
 //! decimals `1.50` is 150.
-ghost use Rattle.std.specs.Prelude.{◌≡◌, ◌≢◌, ◌⊎◌, [], true, map, get_or, option_map, IfErr, IfOk, IfSome, OnOk};
+ghost use Rattle.std.specs.Prelude.{◌≡◌, ◌≢◌, map, option_map, IfErr, IfOk, IfSome, OnOk};
 ghost use Rattle.std.specs.String.{string_bytes};
-ghost use Rattle.hashbag_csv.specs.BadLines.{HasNumber, IsNumberError, IsTextError};
+ghost use Rattle.hashbag_csv.specs.BadLines.{HasNumber, IsFieldError, IsTextError};
 ghost use Rattle.hashbag_csv.specs.KeyForms.{field_in, trimmed_if};
-ghost use Rattle.hashbag_csv.specs.LineColumns.{HasNumberBy, IsLineErrorBy, ReadsNextLine, form_of, key_places, line_by, number_place};
-ghost use Rattle.hashbag_csv.specs.Lines.{fields_at, number_at, place_of};
-ghost use Rattle.hashbag_csv.specs.Sheets.{KeepsHeader, ReadsOne, fits_sheet, place, read_last};
+ghost use Rattle.hashbag_csv.specs.LineColumns.{HasNumberBy, IsLineErrorBy, ReadsNextLine, form_of, key_places, last_fields, line_by, number_place, place_if, place_named};
+ghost use Rattle.hashbag_csv.specs.Lines.{number_at, place_of};
+ghost use Rattle.hashbag_csv.specs.Sheets.{KeepsHeader, ReadsFitting, ReadsOne, last_field, place, read_last};
 
 use crate::article::Article;
 use crate::decimals::unit_of;
@@ -46,7 +46,7 @@ pub(crate) fn columns_of<'n>(
     sheet: &Sheet<'_>,
     names: &[&'n str],
 ) -> Result<Vec<Column<'n>>, SheetError>
-    ensures { IfOk result (λ columns. map place columns.items ≡ map (λ n. place_of (read_last sheet.now) n.now) names.now) }
+    ensures { IfOk result (λ columns. map place columns.items ≡ map (place_named sheet.now) names.now) }
 {
     let mut columns = Vec::new(alloc);
     for name in names {
@@ -61,7 +61,7 @@ fn number_column_of<'n>(
     sheet: &Sheet<'_>,
     name: Option<&'n str>,
 ) -> Result<Option<Column<'n>>, SheetError>
-    ensures { IfOk result (λ column. option_map place column ≡ option_map (λ n. place_of (read_last sheet.now) n.now) name.entry) }
+    ensures { IfOk result (λ column. place_if column ≡ option_map (place_named sheet.now) name.entry) }
 {
     match name {
         Some(name) => Ok(Some(column_of(sheet, name)?)),
@@ -71,7 +71,7 @@ fn number_column_of<'n>(
 
 // Returns the field of this column in the record that was read last, trimmed if `trim`.
 fn text_of<'s>(sheet: &'s Sheet<'_>, column: Column<'_>, trim: bool) -> Result<&'s str, SheetError>
-    ensures value { IfOk result (λ text. text.now ≡ trimmed_if trim (get_or (read_last sheet.now) (place column.entry) [])) }
+    ensures value { IfOk result (λ text. text.now ≡ trimmed_if trim (last_field sheet.now column.entry)) }
     ensures fault { IfErr result (λ e. IsTextError e) }
 {
     if trim {
@@ -87,7 +87,7 @@ pub(crate) fn key_field(
     column: Column<'_>,
     form: KeyForm,
 ) -> Result<String, SheetError>
-    ensures value { IfOk result (λ field. string_bytes field ≡ field_in form (get_or (read_last sheet.now) (place column.entry) [])) }
+    ensures value { IfOk result (λ field. string_bytes field ≡ field_in form (last_field sheet.now column.entry)) }
     ensures fault { IfErr result (λ e. IsTextError e) }
 {
     let text = text_of(sheet, column, form.trim)?;
@@ -104,7 +104,7 @@ pub(crate) fn fields_of(
     columns: &[Column<'_>],
     form: KeyForm,
 ) -> Result<Vec<String>, SheetError>
-    ensures fields { IfOk result (λ fields. map string_bytes fields.items ≡ fields_at form (map place columns.now) (read_last sheet.now)) }
+    ensures fields { IfOk result (λ fields. map string_bytes fields.items ≡ last_fields form columns.now sheet.now) }
     ensures fault { IfErr result (λ e. IsTextError e) }
 {
     let mut fields = Vec::new(alloc);
@@ -124,9 +124,9 @@ fn number_of(
     scale: Scale,
     form: NumberForm,
 ) -> Result<usize, SheetError>
-    ensures number { IfOk result (λ n. n ≡ number_at scale form (option_map place column.entry) (read_last sheet.now)) }
-    ensures reads { OnOk result (HasNumber scale form (option_map place column.entry) (read_last sheet.now)) }
-    ensures fault { IfErr result (λ e. IsTextError e ⊎ IsNumberError scale form (option_map place column.entry) (read_last sheet.now) e) }
+    ensures number { IfOk result (λ n. n ≡ number_at scale form (place_if column.entry) (read_last sheet.now)) }
+    ensures reads { OnOk result (HasNumber scale form (place_if column.entry) (read_last sheet.now)) }
+    ensures fault { IfErr result (λ e. IsFieldError scale form (place_if column.entry) (read_last sheet.now) e) }
 {
     match column {
         Some(column) => {
@@ -151,8 +151,8 @@ impl<'n> LineColumns<'n> {
         number: Option<&'n str>,
         form: LineForm,
     ) -> Result<LineColumns<'n>, SheetError>
-        ensures keys { IfOk result (λ columns. key_places columns ≡ map (λ n. place_of (read_last sheet.now) n.now) keys.now) }
-        ensures number { IfOk result (λ columns. number_place columns ≡ option_map (λ n. place_of (read_last sheet.now) n.now) number.entry) }
+        ensures keys { IfOk result (λ c. key_places c ≡ map (place_named sheet.now) keys.now) }
+        ensures number { IfOk result (λ c. number_place c ≡ option_map (place_named sheet.now) number.entry) }
         ensures form { IfOk result (λ columns. form_of columns ≡ form) }
     {
         let article = columns_of(alloc, sheet, keys)?;
@@ -180,7 +180,7 @@ impl<'n> LineColumns<'n> {
         ensures line { IfOk result (λ next. ReadsNextLine A.fields (line_by scale self.now) sheet.old next sheet.new) }
 
         // The record that was read has as many fields as the header, or fewer if that is allowed.
-        ensures fits { IfOk result (λ next. IfSome next (λ _. ReadsOne sheet.old sheet.new × (fits_sheet sheet.old (read_last sheet.new) ≡ true))) }
+        ensures fits { IfOk result (λ next. IfSome next (λ _. ReadsFitting sheet.old sheet.new)) }
         ensures number { IfOk result (λ next. IfSome next (λ _. HasNumberBy scale self.now (read_last sheet.new))) }
 
         // `fault`: the error is of the record that was read. `reads_on`: after any error but `Memory` the record has been read, so the next

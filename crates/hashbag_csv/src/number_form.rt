@@ -1,7 +1,7 @@
 //! Fields that are numbers.
 ghost use Rattle.std.specs.Prelude.{◌≡◌, ◌≤◌, IfErr, IfOk};
 ghost use Rattle.hashbag_csv.specs.Lines.{number_by};
-ghost use Rattle.hashbag_csv.specs.NumberForms.{IsErrorOfField, IsGroupedError, IsGroupedNumber, IsNumberField, grouped_number_in};
+ghost use Rattle.hashbag_csv.specs.NumberForms.{IsErrorOfField, IsGroupedError, IsNumberField, ReadsGrouped};
 
 use crate::escaped::shown;
 use crate::fault::{Fault, SheetError};
@@ -27,7 +27,7 @@ fn grouped_number(
     scale: Scale,
     group: Option<GroupMark>,
 ) -> Result<usize, SheetError>
-    ensures number { IfOk result (λ n. IsGroupedNumber scale group field.now × (n ≡ grouped_number_in scale group field.now)) }
+    ensures number { IfOk result (λ n. ReadsGrouped scale group field.now n) }
     ensures most { IfOk result (λ n. n ≤ scale.most) }
     ensures fault { IfErr result (λ e. IsGroupedError scale group line field.now e) }
 {

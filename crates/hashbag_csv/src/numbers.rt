@@ -7,7 +7,7 @@ ghost use Rattle.hashbag_csv.specs.Decimals.{IsDecimal, units};
 ghost use Rattle.hashbag_csv.specs.Faults.{HasGroups, IsCutAtMark, IsErrorOf, IsFaultOf, IsFraction, IsNumberOfDecimals, is_grouped};
 ghost use Rattle.hashbag_csv.specs.Lines.{number_in};
 ghost use Rattle.hashbag_csv.specs.Marks.{code_of};
-ghost use Rattle.hashbag_csv.specs.Scales.{IsNumberIn};
+ghost use Rattle.hashbag_csv.specs.Scales.{IsNumberIn, IsTextOf};
 ghost use Rattle.hashbag_csv.specs.Totals.{IsTotalPast};
 
 use crate::decimals::{read_decimal, write_decimal};
@@ -150,7 +150,7 @@ pub fn scaled_number(
     scale: Scale,
 ) -> Result<usize, SheetError>
     // `digits` is a number of n units in the scale, and n is at most the greatest number of the scale.
-    ensures number { IfOk result (λ n. IsNumberIn scale digits.now × (number_in scale digits.now ≡ n)) }
+    ensures number { IfOk result (λ n. IsTextOf scale n digits.now) }
     ensures most { IfOk result (λ n. n ≤ scale.most) }
 
     // The error has this line and the text's fault, or is `Memory`.

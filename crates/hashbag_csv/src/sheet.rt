@@ -96,12 +96,12 @@ pub struct Sheet<'a> {
 }
 
 impl<'a> Sheet<'a> {
-    ghost use Rattle.std.specs.Prelude.{ℕ, ◌≢◌, ◌∷◌, [], Bool, get_or, length, true, IfErr, IfOk, IfSome, IsTrue, IsUtf8, ◌↔◌};
+    ghost use Rattle.std.specs.Prelude.{ℕ, ◌≢◌, ◌∷◌, [], Bool, get_or, true, IfErr, IfOk, IfSome, IsTrue, IsUtf8, ◌↔◌};
     ghost use Rattle.hashbag_csv.specs.BadLines.{IsTextError};
     ghost use Rattle.hashbag_csv.specs.KeyForms.{trimmed};
     ghost use Rattle.hashbag_csv.specs.Lines.{place_of};
     ghost use Rattle.hashbag_csv.specs.Readers.{IsNext, records_in};
-    ghost use Rattle.hashbag_csv.specs.Sheets.{IsColumnError, IsOnlyAt, IsReadError, KeepsHeader, ReadsOne, fits_sheet, is_short_allowed, left, place, read_last, width_of};
+    ghost use Rattle.hashbag_csv.specs.Sheets.{IsAtHeader, IsColumnError, IsOnlyAt, IsReadError, KeepsHeader, ReadsOne, fits_sheet, last_field, left, place, read_last};
 
     /// Opens the sheet of a text with commas between fields, and reads its header.
     pub fn open(alloc: Global, text: &'a [u8]) -> Result<Sheet<'a>, SheetError>
@@ -134,7 +134,7 @@ impl<'a> Sheet<'a> {
     ) -> Result<Sheet<'a>, SheetError>
         // The header was read last. `left` are the records after it.
         ensures records { IfOk result (λ sheet. records_in delimiter text.now ≡ read_last sheet ∷ left sheet) }
-        ensures width { IfOk result (λ sheet. (width_of sheet ≡ length (read_last sheet)) × (is_short_allowed sheet ≡ allows_short)) }
+        ensures width { IfOk result (λ sheet. IsAtHeader allows_short sheet) }
     {
         if is_utf16(text) {
             let fault = Fault::Utf16;
@@ -384,7 +384,7 @@ impl<'a> Sheet<'a> {
 
     /// Returns the field of a column in the record that was read last, as text.
     pub fn field(&self, column: Column<'_>) -> Result<&str, SheetError>
-        ensures value { IfOk result (λ text. text.now ≡ get_or (read_last self.now) (place column.entry) []) }
+        ensures value { IfOk result (λ text. text.now ≡ last_field self.now column.entry) }
         ensures fault { IfErr result (λ e. IsTextError e) }
     {
         self.text_of(column, self.bytes_at(column.place))
@@ -392,7 +392,7 @@ impl<'a> Sheet<'a> {
 
     /// Returns the field of a column in the record that was read last, as text, without the spaces and tabs at both ends.
     pub fn trimmed_field(&self, column: Column<'_>) -> Result<&str, SheetError>
-        ensures value { IfOk result (λ text. text.now ≡ trimmed (get_or (read_last self.now) (place column.entry) [])) }
+        ensures value { IfOk result (λ text. text.now ≡ trimmed (last_field self.now column.entry)) }
         ensures fault { IfErr result (λ e. IsTextError e) }
     {
         self.text_of(column, trim(self.bytes_at(column.place)))

@@ -5,6 +5,10 @@ use Rattle.hashbag_run_lib.specs.Lines.{no_memory}
 use Rattle.hashbag_run_lib.specs.Output.{IsRunOf}
 use Rattle.hashbag_run_lib.specs.Program.{NamesBadLine}
 
+-- a status with which a run may end
+abbrev pub IsStatus : ℕ → Type 0
+IsStatus status = (status ≡ 0) ⊎ ((status ≡ 2) ⊎ ((status ≡ 3) ⊎ (status ≡ 4)))
+
 -- the known bytes of a writer grew by a beginning of the text
 pub record AppendsPart (old new : Option (List ℕ)) (text : List ℕ) : Type 0 where
   pub part : List ℕ

@@ -1,6 +1,7 @@
 -- The lines that the program writes.
-use Rattle.std.specs.Prelude.{ℕ, ℤ, List, [], ◌∷◌, ◌++◌, codes, decimal, flat_map}
+use Rattle.std.specs.Prelude.{◌≡◌, ℕ, ℤ, List, [], ◌∷◌, ◌++◌, String, codes, decimal, flat_map, string_bytes}
 use Rattle.std.specs.Fmt.{signed_decimal}
+use Rattle.std.specs.Global.{Global}
 use Rattle.std.specs.List.{join_with_byte}
 use Rattle.serde_json.specs.Data.{Data}
 use Rattle.serde_json.specs.Written.{compact_text}
@@ -10,6 +11,10 @@ use Rattle.hashbag_script.specs.declared.script.Reply.TheVariants.{Count, Left, 
 -- a line: words with a space between each two, and a line feed
 abbrev pub line : List (List ℕ) → List ℕ
 line words = join_with_byte 32 words ++ 10 ∷ []
+
+-- these bytes were appended to a text
+abbrev pub AppendsTo : String Global → String Global → List ℕ → Type 0
+AppendsTo old new bytes = string_bytes new ≡ string_bytes old ++ bytes
 
 -- a reply, as words
 abbrev pub reply_words : Reply ℕ → List (List ℕ)

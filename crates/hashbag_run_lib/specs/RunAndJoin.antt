@@ -1,9 +1,18 @@
 -- The theorem over two runs of steps and the joins of what they leave.
-use Rattle.std.specs.Prelude.{ℕ, ◌+◌, ◌<◌, ℤ, Bool, List, All}
+use Rattle.std.specs.Prelude.{◌≡◌, ℕ, ◌+◌, ◌<◌, ℤ, Bool, List, All, map}
+use Rattle.std.specs.Borrow.{Bor}
 use Rattle.hashbag.specs.Bag.{Means}
 use Rattle.hashbag.specs.Joins.{IsOuterJoin, IsDifference, IsNotIn, IsSignedDifference}
 use Rattle.hashbag.specs.Pairs.{Ran, IsDone}
 use Rattle.hashbag.specs.Script.{run}
+
+-- `copies` are `pairs` with copies of the values that `pairs` lends
+abbrev pub AreCopiesOf : {T N : Type 0} → List (Bor T × N) → List (T × N) → Type 0
+AreCopiesOf pairs copies = copies ≡ map (λ e. (e.0.now, e.1)) pairs
+
+-- the same for items with two counts
+abbrev pub AreJoinCopiesOf : {T : Type 0} → List (Bor T × ℕ × ℕ) → List (T × ℕ × ℕ) → Type 0
+AreJoinCopiesOf joins copies = copies ≡ map (λ j. (j.0.now, j.1, j.2)) joins
 
 -- r and q are runs of steps on two bags, and the four lists are the joins of the bags that they leave. For all lists X and Y that the bags
 -- meant before: (1) each step replies as a plain list replies, and each bag means what its list has become; (2) the outer join lists each

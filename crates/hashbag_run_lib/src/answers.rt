@@ -1,4 +1,4 @@
-//! What the steps of two empty bags answer.
+//! The output of the steps of two empty bags.
 ghost use Rattle.std.specs.Prelude.{◌≡◌, false, IfOk, string_bytes};
 ghost use Rattle.serde_json.specs.Written.{has_float};
 ghost use Rattle.serde_json.specs.View.{view};
@@ -17,8 +17,9 @@ use std::alloc::Global;
 struct Answers {
     replies_a: Vec<Reply<u64>>,
     replies_b: Vec<Reply<u64>>,
-    // The joins of the bags that the steps leave, and below the trees of these bags.
+    // The joins of the bags that the steps leave.
     joins: JoinLists<u64>,
+    // The trees of these bags.
     tree_a: Value,
     tree_b: Value,
 }

@@ -1,8 +1,8 @@
 //! A whole run of the program over any reader and writer.
-ghost use Rattle.std.specs.Prelude.{◌≡◌, ◌⊎◌, IfOk, OnOk};
+ghost use Rattle.std.specs.Prelude.{IfOk, OnOk};
 ghost use Rattle.std.specs.Bool.{OnTrue};
 ghost use Rattle.std.specs.Io.KnownBytes.{Appends, Consumes, IsAtEnd};
-ghost use Rattle.hashbag_run_lib.specs.Execution.{AppendsPart, IsExecution, IsSent};
+ghost use Rattle.hashbag_run_lib.specs.Execution.{AppendsPart, IsExecution, IsSent, IsStatus};
 
 use crate::answer::answer;
 pub use crate::answer::{BAD_LINE, DONE, NO_MEMORY};
@@ -44,7 +44,7 @@ fn read_all<R: Read>(alloc: Global, input: &mut R) -> Result<Vec<u8>, ReadError>
     Err(ReadError::Failed)
 }
 
-// Writes the whole text, and returns whether that succeeded. It fails at the first error of the writer, or if the writer takes no byte.
+// Writes the whole text, and returns whether that succeeded. It fails at the first error of the writer, or if the writer accepts no byte.
 fn write_all<W: Write>(output: &mut W, text: &[u8]) -> bool
     ensures whole { OnTrue result (Appends (W.contents output.old) (W.contents output.new) text.now) }
     ensures part { AppendsPart (W.contents output.old) (W.contents output.new) text.now }
@@ -88,7 +88,7 @@ fn send<W: Write>(output: &mut W, text: &str, status: u8) -> u8
 /// | 4 | a read failed | nothing |
 /// | 4 | a write failed | a beginning of the text |
 pub fn execute<R: Read, W: Write>(alloc: Global, input: &mut R, output: &mut W) -> u8
-    ensures statuses { (result ≡ DONE) ⊎ ((result ≡ BAD_LINE) ⊎ ((result ≡ NO_MEMORY) ⊎ (result ≡ IO_FAILED))) }
+    ensures statuses { IsStatus result }
     ensures run { IsExecution (R.remaining input.old) (R.remaining input.new)
         (W.contents output.old) (W.contents output.new) result }
 {

@@ -1,7 +1,7 @@
-//! Two runs of steps, and the joins of what they leave.
-ghost use Rattle.std.specs.Prelude.{◌≡◌, ◌⊎◌, map, IfOk, IfErr, OnErr};
+//! Two runs of steps, and the joins of the bags that they leave.
+ghost use Rattle.std.specs.Prelude.{◌≡◌, ◌⊎◌, IfOk, IfErr, OnErr};
 ghost use Rattle.hashbag.specs.Pairs.{ran, HasNoRoom, IsCutOffAfter};
-ghost use Rattle.hashbag_run_lib.specs.RunAndJoin.{IsRunAndJoined};
+ghost use Rattle.hashbag_run_lib.specs.RunAndJoin.{AreCopiesOf, AreJoinCopiesOf, IsRunAndJoined};
 
 use hashbag::script::{Joins, Reply, Step, joins_of, run_pair};
 use hashbag::{BagError, HashBag};
@@ -26,7 +26,7 @@ fn copied_pairs<T: Copy, N: Copy>(
     alloc: Global,
     pairs: &Vec<(&T, N)>,
 ) -> Result<Vec<(T, N)>, AllocError>
-    ensures { IfOk result (λ copies. copies.items ≡ map (λ e. (e.0.now, e.1)) pairs.now.items) }
+    ensures { IfOk result (λ copies. AreCopiesOf pairs.now.items copies.items) }
 {
     pairs.iter().map(|pair| (*pair.0, pair.1)).collect(alloc)
 }
@@ -36,7 +36,7 @@ fn copied_joins<T: Copy>(
     alloc: Global,
     joins: &Vec<(&T, usize, usize)>,
 ) -> Result<Vec<(T, usize, usize)>, AllocError>
-    ensures { IfOk result (λ copies. copies.items ≡ map (λ j. (j.0.now, j.1, j.2)) joins.now.items) }
+    ensures { IfOk result (λ copies. AreJoinCopiesOf joins.now.items copies.items) }
 {
     joins
         .iter()
@@ -46,10 +46,10 @@ fn copied_joins<T: Copy>(
 
 // Returns the joins with copies of their values.
 fn copied<T: Copy + Drop>(alloc: Global, joins: &Joins<'_, T>) -> Result<JoinLists<T>, AllocError>
-    ensures outer { IfOk result (λ lists. lists.outer.items ≡ map (λ j. (j.0.now, j.1, j.2)) joins.now.outer.items) }
-    ensures difference { IfOk result (λ lists. lists.difference.items ≡ map (λ e. (e.0.now, e.1)) joins.now.difference.items) }
-    ensures signed { IfOk result (λ lists. lists.signed.items ≡ map (λ e. (e.0.now, e.1)) joins.now.signed.items) }
-    ensures not_in { IfOk result (λ lists. lists.not_in.items ≡ map (λ e. (e.0.now, e.1)) joins.now.not_in.items) }
+    ensures outer { IfOk result (λ lists. AreJoinCopiesOf joins.now.outer.items lists.outer.items) }
+    ensures difference { IfOk result (λ lists. AreCopiesOf joins.now.difference.items lists.difference.items) }
+    ensures signed { IfOk result (λ lists. AreCopiesOf joins.now.signed.items lists.signed.items) }
+    ensures not_in { IfOk result (λ lists. AreCopiesOf joins.now.not_in.items lists.not_in.items) }
 {
     Ok(JoinLists {
         outer: copied_joins(alloc, &joins.outer)?,
@@ -59,12 +59,12 @@ fn copied<T: Copy + Drop>(alloc: Global, joins: &Joins<'_, T>) -> Result<JoinLis
     })
 }
 
-/// Does the steps of two bags, all of the first before those of the second, appends a reply for each step, and returns the joins of the
-/// bags that the steps leave.
+/// Runs steps on two bags, all steps of the first bag before those of the second. Appends a reply for each step, and returns the joins of
+/// the bags that the steps leave.
 ///
 /// # Errors
 ///
-/// `Memory` if an allocation fails. Then no joins are returned, and the runs are either as [`run_pair`] leaves them, or both done.
+/// `Memory` if an allocation fails. Then no joins are returned. If [`run_pair`] failed, the runs are as it leaves them; else both are done.
 pub fn run_and_join<T: Eq + Hash + Copy + Drop, S: BuildHasher + Drop, S2: BuildHasher + Drop>(
     alloc: Global,
     a: &mut HashBag<T, S>,
@@ -83,7 +83,8 @@ pub fn run_and_join<T: Eq + Hash + Copy + Drop, S: BuildHasher + Drop, S2: Build
 
     // Only an allocation can fail.
     ensures memory { IfErr result (λ e. e ≡ BagError.Memory) }
-    ensures stopped { OnErr result (IsCutOffAfter T.eq (HasNoRoom replies_a.old steps_a ⊎ HasNoRoom replies_b.old steps_b)
+    ensures stopped { OnErr result (IsCutOffAfter T.eq
+        (HasNoRoom replies_a.old steps_a ⊎ HasNoRoom replies_b.old steps_b)
         (ran a.old a.new steps_a.items replies_a.old.items replies_a.new.items)
         (ran b.old b.new steps_b.items replies_b.old.items replies_b.new.items)) }
 {

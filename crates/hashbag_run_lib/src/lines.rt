@@ -151,7 +151,8 @@ impl Scripts {
     }
 }
 
-// Returns the number of the line after `passed` lines. A slice has fewer lines than a `u64` counts, but no contract says so: then `Memory`.
+// Returns the number of the line after `passed` lines, or `Memory` if no `u64` is that number. A slice never has so many lines, but no
+// contract says so.
 fn line_after(passed: u64) -> Result<u64, LinesError>
     ensures next { IfOk result (λ number. number ≡ passed + 1) }
     ensures memory { IfErr result (λ e. e ≡ LinesError.Memory) }

@@ -1,8 +1,8 @@
 //! The program's output: a line for each reply, a line for each item of the joins, and a line for each bag's tree.
-ghost use Rattle.std.specs.Prelude.{◌≡◌, ◌++◌, false, codes, flat_map, string_bytes, OnOk};
+ghost use Rattle.std.specs.Prelude.{◌≡◌, false, codes, flat_map, string_bytes, OnOk};
 ghost use Rattle.serde_json.specs.Written.{has_float};
 ghost use Rattle.serde_json.specs.View.{view};
-ghost use Rattle.hashbag_run_lib.specs.Lines.{reply_line, outer_line, count_line, signed_line, tree_line};
+ghost use Rattle.hashbag_run_lib.specs.Lines.{AppendsTo, reply_line, outer_line, count_line, signed_line, tree_line};
 ghost use Rattle.hashbag_run_lib.specs.Joined.{PrintsJoins};
 
 use crate::joined::JoinLists;
@@ -12,7 +12,7 @@ use std::alloc::{AllocError, Global};
 
 // Appends the line of a reply of a bag.
 fn print_reply(text: &mut String, bag: &str, reply: &Reply<u64>) -> Result<(), AllocError>
-    ensures { OnOk result (string_bytes text.new ≡ string_bytes text.old ++ reply_line bag.now reply.now) }
+    ensures { OnOk result (AppendsTo text.old text.new (reply_line bag.now reply.now)) }
 {
     match reply {
         Reply::Count(count) => writeln!(text, "{bag} count {count}"),
@@ -31,7 +31,7 @@ pub fn print_replies(
     bag: &str,
     replies: &Vec<Reply<u64>>,
 ) -> Result<(), AllocError>
-    ensures { OnOk result (string_bytes text.new ≡ string_bytes text.old ++ flat_map (reply_line bag.now) replies.now.items) }
+    ensures { OnOk result (AppendsTo text.old text.new (flat_map (reply_line bag.now) replies.now.items)) }
 {
     for reply in replies {
         print_reply(text, bag, reply)?;
@@ -41,7 +41,7 @@ pub fn print_replies(
 
 // Appends a line for each value, with its two counts.
 fn print_outer(text: &mut String, outer: &Vec<(u64, usize, usize)>) -> Result<(), AllocError>
-    ensures { OnOk result (string_bytes text.new ≡ string_bytes text.old ++ flat_map outer_line outer.now.items) }
+    ensures { OnOk result (AppendsTo text.old text.new (flat_map outer_line outer.now.items)) }
 {
     for (value, first, second) in outer {
         writeln!(text, "outer {value} {first} {second}")?;
@@ -49,9 +49,9 @@ fn print_outer(text: &mut String, outer: &Vec<(u64, usize, usize)>) -> Result<()
     Ok(())
 }
 
-// Appends a line of this kind for each value, with its count.
+// Appends a line for each value, with its count. The line begins with `kind`.
 fn print_counts(text: &mut String, kind: &str, counts: &Vec<(u64, usize)>) -> Result<(), AllocError>
-    ensures { OnOk result (string_bytes text.new ≡ string_bytes text.old ++ flat_map (count_line kind.now) counts.now.items) }
+    ensures { OnOk result (AppendsTo text.old text.new (flat_map (count_line kind.now) counts.now.items)) }
 {
     for (value, count) in counts {
         writeln!(text, "{kind} {value} {count}")?;
@@ -61,7 +61,7 @@ fn print_counts(text: &mut String, kind: &str, counts: &Vec<(u64, usize)>) -> Re
 
 // Appends a line for each value, with its signed count.
 fn print_signed(text: &mut String, signed: &Vec<(u64, isize)>) -> Result<(), AllocError>
-    ensures { OnOk result (string_bytes text.new ≡ string_bytes text.old ++ flat_map signed_line signed.now.items) }
+    ensures { OnOk result (AppendsTo text.old text.new (flat_map signed_line signed.now.items)) }
 {
     for (value, count) in signed {
         writeln!(text, "signed {value} {count}")?;
@@ -98,7 +98,7 @@ pub fn print_tree(
     tree: &Value,
 ) -> Result<(), AllocError>
     requires { has_float (view tree.now) ≡ false }
-    ensures { OnOk result (string_bytes text.new ≡ string_bytes text.old ++ tree_line bag.now (view tree.now)) }
+    ensures { OnOk result (AppendsTo text.old text.new (tree_line bag.now (view tree.now))) }
 {
     let compact = tree.to_string(alloc)?;
     writeln!(text, "{bag} json {compact}")

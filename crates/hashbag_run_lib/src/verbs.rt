@@ -1,4 +1,4 @@
-//! The program's verbs: which step each is, with its numbers.
+//! The program's verbs: the step that a verb and its numbers mean.
 ghost use Rattle.std.specs.Prelude.{◌≡◌, ◌≢◌, [], ◌∷◌, codes, option_map, IfOk};
 ghost use Rattle.hashbag_run_lib.specs.Commands.{command, command_of};
 

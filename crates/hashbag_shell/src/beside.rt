@@ -18,7 +18,8 @@ fn is_named<R: Files>(rt: &R, file: &File, name: &str) -> bool {
     }
 }
 
-// Removes the file of this name if no program has locked it. While it is locked here, no other program removes it or uses its name again.
+// Locks the file of this name and removes it, unless another program has locked it. While the lock is held, no other program removes the file
+// or uses its name again.
 fn remove_left<R: Files<File = File>>(rt: &R, name: &str) {
     let Ok(found) = fs::symlink_metadata(rt, name) else {
         return;

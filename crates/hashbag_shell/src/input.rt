@@ -4,7 +4,7 @@ use crate::trouble::Trouble;
 use std::fs;
 use std::io::Read;
 
-// How many bytes are read before the progress is reported.
+// How many bytes are read in one step. The progress may be reported after each step.
 const PART: u64 = 1 << 24;
 
 /// Returns the name of an input in messages: `standard input` for `-`.

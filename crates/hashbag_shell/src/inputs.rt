@@ -1,4 +1,4 @@
-//! Inputs, read by name. Code that is generic over [`Inputs`] decides which are read, so its clauses hold for any source of inputs.
+//! Inputs, read by name. The code that chooses which inputs are read is generic over [`Inputs`], so its clauses hold for any bytes.
 ghost use Rattle.std.specs.Prelude.{ℕ, List, IfOk, ⊤};
 ghost use Rattle.hashbag_shell.specs.Inputs.{IsTextRead};
 
@@ -51,7 +51,7 @@ pub struct HostInputs<'s> {
 }
 
 impl<'s> HostInputs<'s> {
-    /// Returns the system's inputs. Progress is measured over the inputs in `names`.
+    /// Returns the system's inputs. `names` are all inputs that will be read: reports say how much of their bytes was read.
     pub fn new(rt: &'s HostRuntime, reports: Reports, names: &[&str]) -> HostInputs<'s> {
         HostInputs {
             rt,

@@ -1,5 +1,5 @@
-//! What the edges of the programs share: arguments and options, files that are read whole, outputs that are written whole or not at all,
-//! and temporary files. Also whether two names are one file, the errors, the exit statuses, and the version.
+//! What the programs share where they meet the system: arguments and options, files that are read whole, outputs that are written whole or
+//! not at all, and temporary files. Also whether two names are of one file, the errors, the exit statuses, and the version.
 //!
 //! No clause can say which bytes a file has, so `tests/programs/words.sh` tests with files: see the page of the program `hashbag_words`.
 #![tactic(auto)]
@@ -20,5 +20,5 @@ pub mod text;
 pub mod tips;
 pub mod trouble;
 
-/// The version of this repository and of each program: the version of the Rust crate, a hyphen, and the version of the port.
+/// The version of this repository and of each program: the version of the Rust crate that is ported, a hyphen, and the version of the port.
 pub const VERSION: &str = "0.1.13-3";

@@ -1,4 +1,4 @@
-//! Whether an output is one of the inputs.
+//! Whether two names are of one file.
 use std::fs;
 use std::os::unix::fs::MetadataExt;
 use std::rt::Files;

@@ -4,16 +4,16 @@ use clap::{Arg, ArgAction, ArgMatches, Command};
 use hashbag_text::encoding::{Encoding, NAMES};
 use std::alloc::{AllocError, Global};
 
-/// A command, unless an allocation failed.
+/// A command, or the error of an allocation that failed while the command was built.
 pub type CommandResult<'a> = Result<Command<'a>, AllocError>;
 
-/// The names of the delimiters.
+/// The values of `--delimiter`: what is between fields.
 pub static DELIMITERS: [&str; 4] = [",", ";", "tab", "\\t"];
 
-/// The numbers of decimals that numbers may have.
+/// The values of `--scale`: how many decimals a number may have.
 pub static SCALES: [&str; 10] = ["0", "1", "2", "3", "4", "5", "6", "7", "8", "9"];
 
-/// The marks that may be before decimals.
+/// The values of `--mark`: what is before decimals.
 pub static MARKS: [&str; 2] = [".", ","];
 
 /// Adds an argument.

@@ -6,7 +6,7 @@ use std::fs::{self, File};
 use std::io::{self, Read, Write};
 use std::rt::Files;
 
-// Flushes a writer if `given` is `Ok`. Returns an error of either as `Write`.
+// Flushes a writer, if the writes to it succeeded: `given` is their result. Returns an error of a write or of the flush as `Write`.
 fn flushed<'a, W: Write>(output: &mut W, given: io::Result<()>) -> Result<(), Trouble<'a>> {
     match given.and_then(|()| output.flush()) {
         Ok(()) => Ok(()),
@@ -26,7 +26,7 @@ fn copy_text<'a, W: Write, I: Read>(output: &mut W, from: &mut I) -> Result<(), 
     flushed(output, given)
 }
 
-// Returns whether this name is of a descriptor that was redirected to a file.
+// Returns whether this name is of an open descriptor that goes to a file. An output of that name would replace the file.
 fn is_redirected<R: Files>(rt: &R, name: &str) -> bool {
     (name == "/dev/stderr" || name.starts_with("/dev/fd/") || name.starts_with("/proc/self/fd/"))
         && fs::metadata(rt, name).is_ok_and(|found| found.is_file())
@@ -42,12 +42,13 @@ pub enum Output<'a> {
 }
 
 impl<'a> Output<'a> {
-    /// Opens the file of this name. Opens standard output if `name` is `None` or `/dev/stdout`: a file to which standard output goes keeps
-    /// what was written before. Nothing is written yet.
+    /// Opens the output of this name: standard output if `name` is `None` or `/dev/stdout`, else a file. If standard output goes to a file,
+    /// that file isn't replaced, and keeps what was written before. Nothing is written yet.
     ///
     /// # Errors
     ///
-    /// `File` if the file can't be opened, `Memory` if an allocation fails. Then no file is changed.
+    /// `File` if the file can't be opened, `Other` if the name is of an open descriptor that goes to a file, `Memory` if an allocation fails.
+    /// Then no file is changed.
     pub fn open<R: Files<File = File> + AllocGlobal>(
         rt: &R,
         name: Option<&'a str>,

@@ -1,4 +1,4 @@
-//! How far work has come.
+//! Shares of work, for reports of progress.
 ghost use Rattle.std.specs.Prelude.{◌≡◌};
 ghost use Rattle.hashbag_shell.specs.Paces.{share};
 

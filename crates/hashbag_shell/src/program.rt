@@ -48,7 +48,8 @@ pub fn printed<'a, R: Print + Eprint + AllocGlobal>(rt: &R, error: &Error) -> Tr
 ///
 /// # Errors
 ///
-/// `Printed` if the words ask for the help or the version, or are bad. That was printed. `Memory` if an allocation fails.
+/// `Printed` if the words ask for the help or the version, or are bad. Then the help, the version or a message was printed. `Memory` if an
+/// allocation fails.
 pub fn given_to<'a, R: Print + Eprint + AllocGlobal>(
     rt: &R,
     command: CommandResult<'a>,
@@ -68,7 +69,8 @@ pub fn status_of<R: Eprint>(rt: &R, program: &str, ended: Result<u8, Trouble<'_>
     }
 }
 
-/// Runs a program of this name, which does this with the words of the command line. Reports its trouble, if it has one, and returns its status.
+/// Calls `answer` with the words of the command line, and returns the exit status. If that fails, reports why, in a message that begins with
+/// `name`.
 pub fn program<R, F>(rt: &R, name: &str, answer: F) -> u8
 where
     R: Env + Eprint + AllocGlobal,

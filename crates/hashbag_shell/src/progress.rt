@@ -9,7 +9,8 @@ use std::time::{Duration, Instant};
 // How many characters of a name a terminal shows.
 const NAME: usize = 20;
 
-// If the inputs have at least this many bytes, a report is shown as soon as one is read whole, since the work after that takes long.
+// If the inputs have at least this many bytes, the progress is reported whenever an input was read whole, even in the first two seconds:
+// the work that follows takes long.
 const LARGE: u64 = 1 << 26;
 
 // Puts the cursor of a terminal at the beginning of its line, and erases the line.
@@ -29,7 +30,7 @@ pub enum Reports {
 /// What was read, and when it was reported.
 #[derive(Clone, Copy)]
 pub struct Progress {
-    // When the work began, and when it was last reported: at first, the beginning. `None` if the work isn't reported.
+    // When the work began, and when it was last reported. Both are the beginning before the first report. `None` if nothing is reported.
     times: Option<(Instant, Instant)>,
     // Whether a report overwrites the report before, on a terminal. Else each report is a line.
     overwrites: bool,
@@ -108,30 +109,42 @@ impl Progress {
         }
     }
 
-    // Returns how much was read, and at which rate. If the whole is known, also how much that is, the percentage read, and the seconds
-    // left; in the first second without the rate and the seconds left.
-    fn text(&self, alloc: Global, seconds: u64) -> Result<String, AllocError> {
+    // Returns how much was read, and how much that is of the whole, if that is known.
+    fn read_text(&self, alloc: Global) -> Result<String, AllocError> {
         let done = megabytes(alloc, self.done)?;
-        let rate = megabytes(alloc, self.done / seconds.max(1))?;
         let Some(whole) = self.whole else {
-            return format!(in alloc; "{done}, {rate}/s");
+            return Ok(done);
         };
         // A file may have grown.
         let whole = whole.max(self.done);
-        let left = whole.saturating_sub(self.done);
         let percent = share_of(100, self.done, whole).unwrap_or(100);
-        let left = share_of(seconds, left, self.done).unwrap_or(0);
         let whole = megabytes(alloc, whole)?;
-        if seconds == 0 {
-            return format!(in alloc; "{done} of {whole}, {percent}%");
+        format!(in alloc; "{done} of {whole}, {percent}%")
+    }
+
+    // Returns how much was read, and at which rate. If the whole is known, also the seconds left; in the first second neither. `works`: no
+    // more is read until the work on what was read is done. How long that takes isn't known.
+    fn text(&self, alloc: Global, seconds: u64, works: bool) -> Result<String, AllocError> {
+        let read = self.read_text(alloc)?;
+        let left = self.whole.map(|whole| whole.saturating_sub(self.done));
+        if works || left == Some(0) {
+            return format!(in alloc; "{read} read, working on it");
         }
-        format!(in alloc; "{done} of {whole}, {percent}%, {rate}/s, {left} s left")
+        let rate = megabytes(alloc, self.done / seconds.max(1))?;
+        let Some(left) = left else {
+            return format!(in alloc; "{read}, {rate}/s");
+        };
+        if seconds == 0 {
+            return Ok(read);
+        }
+        let left = share_of(seconds, left, self.done).unwrap_or(0);
+        format!(in alloc; "{read}, {rate}/s, {left} s left")
     }
 
     // Reports the progress. A report that can't be built or written is dropped.
-    fn report(&mut self, rt: &HostRuntime, name: &str, seconds: u64) {
+    fn report(&mut self, rt: &HostRuntime, name: &str, seconds: u64, works: bool) {
         let alloc = rt.alloc();
-        let Ok(text) = self.text(alloc, seconds) else {
+        let Ok(text) = self.text(alloc, seconds, works) else {
             return;
         };
         if !self.overwrites {
@@ -159,12 +172,12 @@ impl Progress {
         if is_early || now.duration_since(last) < Duration::from_secs(1) {
             return;
         }
-        self.report(rt, name, passed.as_secs());
+        self.report(rt, name, passed.as_secs(), false);
         self.times = Some((start, now));
     }
 
-    /// Reports the progress when the input of this name was read whole. On a terminal it is reported only if the work has taken two
-    /// seconds, or if the inputs are large.
+    /// Reports that the input of this name was read whole, and that the work on it begins. On a terminal it is reported only if the work has
+    /// taken two seconds, or if the inputs are large.
     pub fn tell_whole(&mut self, rt: &HostRuntime, name: &str) {
         let Some((start, _)) = self.times else {
             return;
@@ -177,7 +190,7 @@ impl Progress {
         if self.overwrites && !is_large && passed < Duration::from_secs(2) {
             return;
         }
-        self.report(rt, name, passed.as_secs());
+        self.report(rt, name, passed.as_secs(), true);
         self.times = Some((start, now));
     }
 

@@ -9,8 +9,8 @@ use std::rt::Files;
 // The greatest number of names that are tried.
 const NAMES: u32 = 1000;
 
-/// Creates a file in a folder, removes its name, and returns the file, open to write and to read. Before that only the owner may open the
-/// file. `number`, which is the number of the process, is a part of the name.
+/// Creates a file in a folder, removes its name, and returns the file, open to write and to read. Until the name is removed, only the owner
+/// may open the file. `number`, the number of the process, is a part of the name.
 ///
 /// # Errors
 ///

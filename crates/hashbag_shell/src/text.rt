@@ -1,19 +1,19 @@
-//! Files whose text is in a named encoding.
+//! The text of files, whose encoding may be named.
 ghost use Rattle.std.specs.Prelude.{◌≡◌, Some, IfOk};
 ghost use Rattle.hashbag_text.specs.Encodings.{text_in};
 
 use crate::trouble::Trouble;
+use hashbag_text::bad_bytes::DecodeError;
 use hashbag_text::encoding::Encoding;
-use hashbag_text::fault::DecodeError;
 use hashbag_text::whole::decode;
 use memchr::{memchr, memchr_iter};
 use std::alloc::Global;
 
-/// The message for text in UTF-8 that is to be read in an encoding of one byte a character.
+/// The message for a file that is read as Latin-1 or Windows-1252, but begins with the byte order mark of UTF-8.
 pub const MARKED: &str = "UTF-8, by its byte order mark; `--encoding UTF-8` reads it";
 
-// Returns the first line that shows that these bytes aren't text, and what they are, or `None`. UTF-16 with a byte order mark
-// is left to the readers of the text.
+// Returns the number of the first line that shows that these bytes aren't text, and what they are, or `None` if they may be text. Returns
+// `None` also for UTF-16 with a byte order mark, since those who read the text reject that with a message of their own.
 fn no_text(bytes: &[u8]) -> Option<(u64, &'static str)> {
     if bytes.starts_with(b"\x1f\x8b") {
         return Some((1, "gzip; `zcat` makes it text"));
@@ -29,7 +29,8 @@ fn no_text(bytes: &[u8]) -> Option<(u64, &'static str)> {
     ))
 }
 
-/// Returns whether bytes that are named as Latin-1 or Windows-1252 begin with the byte order mark of UTF-8: no text in these begins so.
+/// Returns whether the encoding is Latin-1 or Windows-1252, and the bytes begin with the byte order mark of UTF-8. No text in these encodings
+/// begins so.
 pub fn is_marked_utf8(encoding: Encoding, bytes: &[u8]) -> bool {
     matches!(encoding, Encoding::Latin1 | Encoding::Windows1252)
         && bytes.starts_with(b"\xef\xbb\xbf")
@@ -63,14 +64,14 @@ pub fn with_option<'a>(alloc: Global, trouble: Trouble<'a>, option: &str) -> Tro
 /// Returns the trouble of a file whose bytes aren't text in its encoding.
 pub fn of_decoding<'a>(alloc: Global, file: &'a str, error: DecodeError) -> Trouble<'a> {
     match error {
-        DecodeError::Line { line, fault } => {
-            Trouble::of_line(file, line, format!(in alloc; "{fault}"))
+        DecodeError::Line { line, bad_bytes } => {
+            Trouble::of_line(file, line, format!(in alloc; "{bad_bytes}"))
         }
         DecodeError::Memory => Trouble::Memory,
     }
 }
 
-/// Returns the text of a file's bytes. Without an encoding, which is UTF-8, the bytes are returned as they are.
+/// Returns the text of a file's bytes. If `encoding` is `None`, which is UTF-8, the bytes are returned unchanged.
 ///
 /// # Errors
 ///

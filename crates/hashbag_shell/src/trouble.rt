@@ -10,7 +10,7 @@ use thiserror::Error;
 /// Why a program failed.
 #[derive(Debug, Drop, Error)]
 pub enum Trouble<'a> {
-    /// The arguments ask for help or the version, or are bad. That was printed; this is the exit status.
+    /// The help, the version, or a message on bad arguments was printed. This is the exit status.
     #[error("printed")]
     Printed(u8),
     /// An argument isn't UTF-8.

@@ -20,22 +20,19 @@ returns-then-scale-eq0-clause-reads c =
     alone_written c.args.scale.mark c.args.scale.decimals c.args.number c.unit_of-unit.result (string_bytes c.in_ok-text.text) (omega (arith, c.ranges.number)) c.if-scale-eq0.true c.unit_of-unit.ensures c.in_ok-text.ensures.ok
 
 -- the whole part, the mark and the decimals
-pub returns-clause-text : goal.returns-clause-text
-returns-clause-text c =
-    joined_text c.args.scale.mark c.args.scale.decimals c.args.number c.unit_of-unit.result c.character.result (string_bytes c.in_ok-text.text) (string_bytes c.push.new.self) (string_bytes c.in_ok-padded.field-0)
-    (string_bytes c.push_str.new.self) (λ none. omega (arith, c.if-scale-eq0.false, none)) c.unit_of-unit.ensures c.in_ok-text.ensures.ok c.character.ensures
-    (c.in_ok-push.ensures.bytes ∙ ap (λ l. string_bytes c.in_ok-text.text ++ l) (c.in_ok-push.ensures.ascii (let low = code_low c.args.scale.mark in omega (arith, low, c.character.ensures))))
-    (c.in_ok-push_str.ensures.bytes ∙ ap (λ l. string_bytes c.push.new.self ++ l) c.as_str.ensures.value)
-    c.in_ok-padded.ensures
-
-pub returns-clause-reads : goal.returns-clause-reads
-returns-clause-reads c =
+pub returns : goal.returns
+returns c =
     let some : 0 < c.args.scale.decimals = omega (arith, c.if-scale-eq0.false) in
     let least = mod-le c.args.number c.unit_of-unit.result in
     let under = under_unit c.args.scale.decimals c.args.number c.unit_of-unit.result c.unit_of-unit.ensures in
     let part = padded_is c.args.scale.decimals (c.args.number % c.unit_of-unit.result) some under (omega (arith, least, c.ranges.number)) in
-    joined_written c.args.scale.mark c.args.scale.decimals c.args.number c.unit_of-unit.result c.character.result (string_bytes c.in_ok-text.text) (string_bytes c.push.new.self) (string_bytes c.in_ok-padded.field-0)
-    (string_bytes c.push_str.new.self) (omega (arith, c.ranges.number)) some c.unit_of-unit.ensures c.in_ok-text.ensures.ok c.character.ensures
-    (c.in_ok-push.ensures.bytes ∙ ap (λ l. string_bytes c.in_ok-text.text ++ l) (c.in_ok-push.ensures.ascii (let low = code_low c.args.scale.mark in omega (arith, low, c.character.ensures))))
-    (c.in_ok-push_str.ensures.bytes ∙ ap (λ l. string_bytes c.push.new.self ++ l) c.as_str.ensures.value)
-    (subst (λ (l : List ℕ). AllDigits 10 l × (length l ≡ c.args.scale.decimals) × (digits_value 10 l ≡ c.args.number % c.unit_of-unit.result)) (sym c.in_ok-padded.ensures) part)
+    let low = code_low c.args.scale.mark in
+    let marked = c.in_ok-push.ensures.bytes ∙ ap (λ l. string_bytes c.in_ok-text.text ++ l) (c.in_ok-push.ensures.ascii (omega (arith, low, c.character.ensures))) in
+    let whole = c.in_ok-push_str.ensures.bytes ∙ ap (λ l. string_bytes c.push.new.self ++ l) c.as_str.ensures.value in
+    record {
+      text = joined_text c.args.scale.mark c.args.scale.decimals c.args.number c.unit_of-unit.result c.character.result (string_bytes c.in_ok-text.text) (string_bytes c.push.new.self) (string_bytes c.in_ok-padded.field-0)
+          (string_bytes c.push_str.new.self) (λ none. omega (arith, c.if-scale-eq0.false, none)) c.unit_of-unit.ensures c.in_ok-text.ensures.ok c.character.ensures marked whole c.in_ok-padded.ensures;
+      reads = joined_written c.args.scale.mark c.args.scale.decimals c.args.number c.unit_of-unit.result c.character.result (string_bytes c.in_ok-text.text) (string_bytes c.push.new.self) (string_bytes c.in_ok-padded.field-0)
+          (string_bytes c.push_str.new.self) (omega (arith, c.ranges.number)) some c.unit_of-unit.ensures c.in_ok-text.ensures.ok c.character.ensures marked whole
+          (subst (λ (l : List ℕ). AllDigits 10 l × (length l ≡ c.args.scale.decimals) × (digits_value 10 l ≡ c.args.number % c.unit_of-unit.result)) (sym c.in_ok-padded.ensures) part);
+    }

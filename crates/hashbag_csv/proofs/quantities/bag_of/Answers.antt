@@ -7,27 +7,19 @@ use Rattle.hashbag_csv.proofs.QuantityLemmas.{counts_made, length_made, numbers_
 use Rattle.hashbag_csv.proofs.quantities.bag_of.Goals as goal
 
 -- the pairs that came are those of the list, and carrying moves no occurrence
-pub returns-clause-counts : goal.returns-clause-counts
-returns-clause-counts g c = λ v.
+pub returns : goal.returns
+returns g c =
     let laws = g.met.T.Eq.laws in
     let made = c.extend_many.new.self in
+    let pairs = YieldsList-from_vec {s = c.into_iter.result} c.args.list.items (search rules) (search rules) in
     let all = all_made laws {after = made} c.with_hasher-bag.ensures.empty c.with_hasher-bag.ensures.slots c.with_hasher-bag.ensures.limit c.in_ok-extend_many.ensures.all in
-    sym (count_rearranged laws v made.items c.finish_carry.new.self.items c.finish_carry.ensures.items.means)
-    ∙ counts_made laws (YieldsList-from_vec {s = c.into_iter.result} c.args.list.items (search rules) (search rules)) made.hasher made all v
-
-pub returns-clause-len : goal.returns-clause-len
-returns-clause-len g c =
-    let laws = g.met.T.Eq.laws in
-    let made = c.extend_many.new.self in
-    let all = all_made laws {after = made} c.with_hasher-bag.ensures.empty c.with_hasher-bag.ensures.slots c.with_hasher-bag.ensures.limit c.in_ok-extend_many.ensures.all in
-    c.finish_carry.ensures.len ∙ length_made laws (YieldsList-from_vec {s = c.into_iter.result} c.args.list.items (search rules) (search rules)) made.hasher made all
-
-pub returns-clause-fits : goal.returns-clause-fits
-returns-clause-fits g c =
-    let laws = g.met.T.Eq.laws in
-    let made = c.extend_many.new.self in
-    let all = all_made laws {after = made} c.with_hasher-bag.ensures.empty c.with_hasher-bag.ensures.slots c.with_hasher-bag.ensures.limit c.in_ok-extend_many.ensures.all in
-    numbers_fit laws (YieldsList-from_vec {s = c.into_iter.result} c.args.list.items (search rules) (search rules)) made.hasher made all
+    record {
+      counts = λ v. sym (count_rearranged laws v made.items c.finish_carry.new.self.items c.finish_carry.ensures.items.means) ∙ counts_made laws pairs made.hasher made all v;
+      len = c.finish_carry.ensures.len ∙ length_made laws pairs made.hasher made all;
+      fits = numbers_fit laws pairs made.hasher made all;
+      carried = search rules;
+      only_memory = search rules;
+    }
 
 pub returns-in_err-extend_many-clause-only_memory : goal.returns-in_err-extend_many-clause-only_memory
 returns-in_err-extend_many-clause-only_memory g c = λ fits.
