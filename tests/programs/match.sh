@@ -105,6 +105,14 @@ has ../out 'article,ordered,delivered,missing,surplus\nbolt,2,1,1,0\nnut,1,1,0,0
 ends 0 "" names.csv names.csv --each-line --mark , --to json
 has ../out '[{"article":"bolt","ordered":2,"delivered":2,"missing":0,"surplus":0},{"article":"nut","ordered":1,"delivered":1,"missing":0,"surplus":0}]\n' "a list without numbers as JSON"
 ends 2 'hashbag_match: names.csv:1: no column `number`; there are: `article`' names.csv boxes.csv
+# a plain list, whose first line is taken as its header: the line that is lacking is named
+printf 'bolt\nnut\nbolt\n' > list.txt
+ends 2 'hashbag_match: list.txt:1: no column `article`; there are: `bolt`; if line 1 is no header, put the line `article` above it' list.txt names.csv --each-line
+ends 2 'hashbag_match: list.txt:1: no column `article`; there are: `bolt`; if line 1 is no header, put the line `article` above it' names.csv list.txt --each-line --max-errors 0
+ends 2 'hashbag_match: list.txt:1: no column `article`; there are: `bolt`' list.txt names.csv
+{ echo article && cat list.txt; } > headed.txt
+ends 0 "" headed.txt names.csv --each-line
+rm list.txt headed.txt
 
 # An empty field of numbers is 0, if that is asked for; one of spaces isn't empty
 printf 'article,number\nbolt,\nnut,""\nbolt,2\n' > blank.csv
@@ -258,13 +266,13 @@ ends 2 'hashbag_match: nul.csv:3: a NUL byte; if it is UTF-16, `--delivered-enco
 gzip -c a.csv > packed.csv
 ends 2 'hashbag_match: packed.csv:1: gzip; `zcat` makes it text' packed.csv a.csv
 
-# Progress: each file that was read is a line, but not with --quiet. Of large files a terminal shows it at once, and it is erased at the end.
+# Progress: each file that was read is a line, which says how much of both that is, and that the work goes on, but not with --quiet. Of large files a terminal shows it at once, and it is erased at the end.
 "$program" a.csv b.csv --progress --only missing > ../out 2> ../err
-sed 's/%.*/%/' ../err > lines
-has lines 'a.csv: 0.0 MB of 0.0 MB, 42%%\nb.csv: 0.0 MB of 0.0 MB, 100%%\n' "progress"
+has ../err 'a.csv: 0.0 MB of 0.0 MB, 42%% read, working on it\nb.csv: 0.0 MB of 0.0 MB, 100%% read, working on it\n' "progress"
 { printf 'article,number\n' && head -c 68000000 /dev/zero | tr '\0' a && printf ',1\n'; } > large.csv
 shown=$(script -qec "'$program' large.csv large.csv --only missing --to csv" /dev/null < /dev/null | tr '\r\033' '<>')
-[ "$(sed 's/%[^<]*/%/g' <<< "$shown")" = '<>[Klarge.csv: 68.0 MB of 136.0 MB, 50%<>[Klarge.csv: 136.0 MB of 136.0 MB, 100%<>[Karticle,ordered,delivered,missing,surplus<' ] || fail "progress on a terminal: $shown"
+# a slow machine shows how far it has read, too
+[ "$(sed 's/<>\[K[^<]* left//g' <<< "$shown")" = '<>[Klarge.csv: 68.0 MB of 136.0 MB, 50% read, working on it<>[Klarge.csv: 136.0 MB of 136.0 MB, 100% read, working on it<>[Karticle,ordered,delivered,missing,surplus<' ] || fail "progress on a terminal: $shown"
 [ "$(script -qec "'$program' large.csv large.csv --quiet --only missing --to csv" /dev/null < /dev/null | tr -d '\r')" = article,ordered,delivered,missing,surplus ] || fail "progress with --quiet"
 rm large.csv
 

@@ -2,10 +2,10 @@
 #![tactic(auto)]
 
 mod command;
-mod request;
+mod settings;
 
 use crate::command::{PROGRAM, command};
-use crate::request::Request;
+use crate::settings::Settings;
 use hashbag_csv::fault::{SheetError, in_file};
 use hashbag_match_lib::files::{Unmatched, match_files};
 use hashbag_match_lib::texts::Findings;
@@ -19,20 +19,24 @@ use std::hash::RandomState;
 use std::process::ExitCode;
 
 // Names the bad lines of a file on standard error.
-fn name_lines<'a>(rt: &HostRuntime, request: &Request<'a>, file: &'a str, errors: Vec<SheetError>) {
+fn name_lines<'a>(
+    rt: &HostRuntime,
+    settings: &Settings<'a>,
+    file: &'a str,
+    errors: Vec<SheetError>,
+) {
     for error in errors {
         if let Err(trouble) = in_file::<()>(rt.alloc(), file, Err(error)) {
-            of_either(rt, request, trouble).report(rt, PROGRAM);
+            of_either(rt, settings, trouble).report(rt, PROGRAM);
         }
     }
 }
 
 // Returns the trouble. If it is of the second file alone, it names the option for that file's encoding.
-fn of_either<'a>(rt: &HostRuntime, request: &Request<'a>, trouble: Trouble<'a>) -> Trouble<'a> {
+fn of_either<'a>(rt: &HostRuntime, settings: &Settings<'a>, trouble: Trouble<'a>) -> Trouble<'a> {
     match &trouble {
-        Trouble::BadLine { file, .. } if *file == request.delivered && *file != request.ordered => {
-            with_option(rt.alloc(), trouble, "--delivered-encoding")
-        }
+        Trouble::BadLine { file, .. } if *file == settings.delivered && *file != settings.ordered =>
+            { with_option(rt.alloc(), trouble, "--delivered-encoding") }
         _ => trouble,
     }
 }
@@ -40,26 +44,26 @@ fn of_either<'a>(rt: &HostRuntime, request: &Request<'a>, trouble: Trouble<'a>) 
 // Matches both files.
 fn matched<'a>(
     rt: &HostRuntime,
-    request: &Request<'a>,
+    settings: &Settings<'a>,
 ) -> Result<(Vec<u8>, Findings), Trouble<'a>> {
     let state = RandomState::new(rt).map_err(|error| Trouble::Random(error))?;
-    let files = [request.ordered, request.delivered];
-    let inputs = HostInputs::new(rt, request.reports, &files);
+    let files = [settings.ordered, settings.delivered];
+    let inputs = HostInputs::new(rt, settings.reports, &files);
     let made = match_files(
         rt.alloc(),
         state,
         &inputs,
-        &request.ask,
-        request.ordered,
-        request.delivered,
-        request.encodings,
+        &settings.ask,
+        settings.ordered,
+        settings.delivered,
+        settings.encodings,
     );
     inputs.end();
     match made {
         Ok(made) => Ok(made),
-        Err(Unmatched::Trouble(trouble)) => Err(of_either(rt, request, trouble)),
+        Err(Unmatched::Trouble(trouble)) => Err(of_either(rt, settings, trouble)),
         Err(Unmatched::BadLines { file, errors }) => {
-            name_lines(rt, request, file, errors);
+            name_lines(rt, settings, file, errors);
             Err(Trouble::Printed(BAD_INPUT))
         }
     }
@@ -68,9 +72,9 @@ fn matched<'a>(
 // Does what the words ask for, and returns the status. The output is opened before anything is read.
 fn answer<'a>(rt: &HostRuntime, words: &'a [String]) -> Result<u8, Trouble<'a>> {
     let given = given_to(rt, command(rt.alloc()), words)?;
-    let request = Request::of(rt, &given)?;
-    let output = Output::open(rt, request.output)?;
-    let findings = output.finish(rt, matched(rt, &request))?;
+    let settings = Settings::of(rt, &given)?;
+    let output = Output::open(rt, settings.output)?;
+    let findings = output.finish(rt, matched(rt, &settings))?;
     for line in &findings.near {
         let _ = eprintln!(rt; "{PROGRAM}: {line}");
     }

@@ -11,7 +11,7 @@ use crate::tally::Tally;
 use crate::texts::{Findings, Lists, carry_lines, match_lists, tally_of};
 use hashbag_csv::article::Article;
 use hashbag_csv::bad_lines::bad_lines;
-use hashbag_csv::fault::{SheetError, in_file};
+use hashbag_csv::fault::{Fault, SheetError, in_file};
 use hashbag_shell::inputs::{Inputs, read_text};
 use hashbag_shell::trouble::Trouble;
 use hashbag_text::encoding::Encoding;
@@ -89,6 +89,32 @@ fn several<A: Article + Drop>(
     if errors.len() > 1 { Some(errors) } else { None }
 }
 
+// Returns what was read by these columns. If each line counts as one, and a column isn't there, the error names the cure: the text is perhaps a
+// list without a header.
+fn with_cure<T: Drop>(
+    alloc: Global,
+    columns: &Columns<'_>,
+    read: Result<T, SheetError>,
+) -> Result<T, SheetError>
+    ensures { IfOk result (λ value. read ≡ Ok value) }
+{
+    match read {
+        Err(
+            SheetError::Line {
+                line,
+                fault: Fault::NoColumn { name, there },
+            },
+        ) if columns.number.is_none() => {
+            let there = format!(in alloc;
+                "{there}; if line {line} is no header, put the line `{name}` above it"
+            )?;
+            let fault = Fault::NoColumn { name, there };
+            Err(SheetError::Line { line, fault })
+        }
+        read => read,
+    }
+}
+
 // Returns the tally of the text of a file. If a line is bad, reads the text again for as many bad lines as are to be named.
 fn tally_in<'a, A: Article + Drop, S: BuildHasher + Copy + Drop>(
     alloc: Global,
@@ -110,7 +136,7 @@ fn tally_in<'a, A: Article + Drop, S: BuildHasher + Copy + Drop>(
     {
         return Err(Unmatched::BadLines { file, errors });
     }
-    Ok(in_file(alloc, file, read)?)
+    Ok(in_file(alloc, file, with_cure(alloc, columns, read))?)
 }
 
 // Reads the list in a file, whose text is dropped then. `firsts`: what the first line with each article carries along.

@@ -136,6 +136,11 @@ pub fn match_lists<A: Article + Drop, S: BuildHasher + Copy + Drop>(
     ensures text { IfOk result (λ made. IsTextOfLists A.eq A.cmp A.fields ask.now lists.now made.0.items) }
 {
     let matched = match_tallies(alloc, &lists.ordered, &lists.delivered)?;
+    let near = if ask.quiet {
+        Vec::new(alloc)
+    } else {
+        near_articles(alloc, state, &matched.rows)?
+    };
     let shown = shown_rows(alloc, ask.only, &matched.rows, &lists.firsts)?;
     let layout = Layout {
         keys: &ask.ordered.keys,
@@ -144,11 +149,6 @@ pub fn match_lists<A: Article + Drop, S: BuildHasher + Copy + Drop>(
         delimiter: ask.reading.delimiter,
     };
     let text = text_of(alloc, &shown, &matched.totals, layout, ask.form)?;
-    let near = if ask.quiet {
-        Vec::new(alloc)
-    } else {
-        near_articles(alloc, state, &matched.rows)?
-    };
     let status = status_of(matched.agree);
     Ok((text, Findings { status, near }))
 }

@@ -19,7 +19,7 @@ use std::rt::Files;
 
 /// The files, and what is asked of them.
 #[derive(Drop)]
-pub struct Request<'a> {
+pub struct Settings<'a> {
     /// The file of what was ordered.
     pub ordered: &'a str,
     /// The file of what was delivered.
@@ -104,8 +104,8 @@ fn encodings_of(given: &ArgMatches<'_>) -> (Option<Encoding>, Option<Encoding>) 
     (ordered, delivered)
 }
 
-impl<'a> Request<'a> {
-    /// Returns the request of the words.
+impl<'a> Settings<'a> {
+    /// Returns the settings that the words of the command line give.
     ///
     /// # Errors
     ///
@@ -113,8 +113,8 @@ impl<'a> Request<'a> {
     pub fn of<R: Files + AllocGlobal>(
         rt: &R,
         given: &ArgMatches<'a>,
-    ) -> Result<Request<'a>, Trouble<'a>> {
-        let request = Request {
+    ) -> Result<Settings<'a>, Trouble<'a>> {
+        let settings = Settings {
             ordered: given.get_str("ORDERED.csv").unwrap_or("-"),
             delivered: given.get_str("DELIVERED.csv").unwrap_or("-"),
             encodings: encodings_of(given),
@@ -122,8 +122,8 @@ impl<'a> Request<'a> {
             reports: reports(given),
             ask: ask_of(rt.alloc(), given)?,
         };
-        request.check(rt)?;
-        Ok(request)
+        settings.check(rt)?;
+        Ok(settings)
     }
 
     // Whether the words fit together.
