@@ -113,11 +113,6 @@ impl<'s, 'a> HostBlocks<'s, 'a> {
             None => Ok(bytes),
         }
     }
-
-    /// Erases the report that a terminal shows.
-    pub fn erase(&mut self) {
-        self.progress.erase(self.rt);
-    }
 }
 
 impl<'a> Blocks<'a> for HostBlocks<'_, 'a> {
@@ -183,5 +178,9 @@ impl<'a> Blocks<'a> for HostBlocks<'_, 'a> {
                 "hashbag_words: {name}: bytes replaced in {replaced} line{s}"
             );
         }
+    }
+
+    fn end_report(&mut self) {
+        self.progress.erase(self.rt);
     }
 }

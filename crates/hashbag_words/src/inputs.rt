@@ -2,6 +2,7 @@
 use crate::bag::{Bag, BagRuns};
 use crate::blocks::HostBlocks;
 use crate::input::Input;
+use crate::output::{Rendered, look_of};
 use hashbag_csv::delimiter::Delimiter;
 use hashbag_csv::fault::in_file;
 use hashbag_shell::input::shown_name;
@@ -14,8 +15,10 @@ use hashbag_words_lib::columns::count_column;
 use hashbag_words_lib::feeding::{Counter, end};
 use hashbag_words_lib::gauge::Gauge;
 use hashbag_words_lib::inputs::{Blocks, count_all};
+use hashbag_words_lib::jobs::{self, Reading};
 use hashbag_words_lib::row_counter::RowCounter;
 use hashbag_words_lib::rows::RowForm;
+use hashbag_words_lib::rule::Rule;
 use hashbag_words_lib::troubles::{of_input, of_text};
 use memchr::memchr;
 use regex::Regex;
@@ -39,7 +42,7 @@ pub struct Inputs<'s, 'a, 'm> {
     pub blocks: HostBlocks<'s, 'a>,
     /// The gauge of an empty bag, if the memory has a bound. Each counter starts with a copy.
     pub gauge: Option<Gauge>,
-    /// The runs that were written when the bag was full, if the memory has a bound.
+    /// The runs that are written when the bag is full, if the memory has a bound.
     pub runs: Option<BagRuns<'s, 'a>>,
 }
 
@@ -71,6 +74,68 @@ impl<'s, 'a, 'm> Inputs<'s, 'a, 'm> {
             &mut self.runs,
             encoding,
             names,
+        )
+    }
+
+    // How the inputs are read.
+    fn reading(&self) -> Reading {
+        Reading {
+            encoding: self.encoding,
+            bad_lines: self.settings.bad_lines,
+            gauge: self.gauge,
+        }
+    }
+
+    /// Counts the tokens of all inputs, and returns what is shown of them.
+    ///
+    /// # Errors
+    ///
+    /// Same as [`jobs::show_tokens`].
+    pub fn show_tokens<'b>(
+        &mut self,
+        rule: Rule<'_>,
+        bag: &'b mut Bag,
+    ) -> Result<Rendered<'b>, Trouble<'a>> {
+        let (alloc, reading) = (self.rt.alloc(), self.reading());
+        let (choice, look) = (self.settings.choice, look_of(self.rt, self.settings));
+        let (inputs, runs) = (&mut self.blocks, &mut self.runs);
+        jobs::show_tokens(
+            alloc, inputs, runs, bag, rule, reading, self.names, choice, look,
+        )
+    }
+
+    /// Adds the counts of all inputs, whose lines have this form, and returns what is shown of them.
+    ///
+    /// # Errors
+    ///
+    /// Same as [`jobs::show_rows`].
+    pub fn show_rows<'b>(
+        &mut self,
+        form: RowForm,
+        bag: &'b mut Bag,
+    ) -> Result<Rendered<'b>, Trouble<'a>> {
+        let (alloc, reading) = (self.rt.alloc(), self.reading());
+        let (choice, look) = (self.settings.choice, look_of(self.rt, self.settings));
+        let (inputs, runs) = (&mut self.blocks, &mut self.runs);
+        jobs::show_rows(
+            alloc, inputs, runs, bag, form, reading, self.names, choice, look,
+        )
+    }
+
+    /// Returns what is shown of a bag, and of the runs that were made of it.
+    ///
+    /// # Errors
+    ///
+    /// Same as [`jobs::show_both`].
+    pub fn show<'b>(&mut self, bag: &'b mut Bag) -> Result<Rendered<'b>, Trouble<'a>> {
+        self.blocks.end_report();
+        let look = look_of(self.rt, self.settings);
+        jobs::show_both(
+            self.rt.alloc(),
+            bag,
+            &mut self.runs,
+            self.settings.choice,
+            look,
         )
     }
 

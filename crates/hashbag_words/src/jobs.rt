@@ -1,12 +1,10 @@
-//! The jobs: each reads its inputs into a bag, and writes the counts of the bag.
+//! The jobs: each reads its inputs into a bag, and writes what is shown of it.
 use crate::bag::{Bag, BagRuns, empty};
 use crate::blocks::{BY_COMMAND, BY_OPTION, HostBlocks};
 use crate::inputs::Inputs;
 use crate::names::check;
-use crate::output::{Rendered, rows_of, write};
-use crate::runs::{Runs, runs_of};
-use crate::shown::{show, show_sorted};
-use hashbag::HashBag;
+use crate::output::{Rendered, look_of, write};
+use crate::runs::{no_runs, runs_of};
 use hashbag_ops::{keep_common, take_away};
 use hashbag_shell::output::Output;
 use hashbag_shell::progress::Progress;
@@ -16,29 +14,15 @@ use hashbag_words_args::settings::{Ask, By, Pair, Settings, Tokens};
 use hashbag_words_lib::choice::Choice;
 use hashbag_words_lib::counter::TextCounter;
 use hashbag_words_lib::gauge::Gauge;
+use hashbag_words_lib::inputs::Blocks;
+use hashbag_words_lib::jobs::Made;
 use hashbag_words_lib::lines::BadLines;
 use hashbag_words_lib::row_source::SourceKind;
+use hashbag_words_lib::rows::RowForm;
 use hashbag_words_lib::rule::{Pieces, Rule};
-use hashbag_words_lib::runs::run_of;
 use regex::Regex;
 use std::alloc::Global;
 use std::mem;
-
-// Counts what the rule says of the inputs.
-fn count_by<'a>(
-    inputs: &mut Inputs<'_, 'a, '_>,
-    rule: Rule<'_>,
-    bag: &mut Bag,
-) -> Result<(), Trouble<'a>> {
-    let alloc = inputs.rt.alloc();
-    let none = HashBag::with_hasher(alloc, *bag.hasher());
-    let given = mem::replace(bag, none);
-    let bad_lines = inputs.settings.bad_lines;
-    let mut counter = TextCounter::new(alloc, given, rule, bad_lines, inputs.gauge);
-    let counted = inputs.count_all(&mut counter, inputs.names);
-    *bag = counter.into_bag();
-    counted
-}
 
 /// Returns the pattern that the arguments name, if they name one.
 ///
@@ -84,21 +68,22 @@ fn pieces_of<'r>(by: By<'_>, pattern: Option<&'r Regex>) -> Pieces<'r> {
     }
 }
 
-// Counts the tokens of the inputs.
-fn count<'a>(
+// Counts the tokens of the inputs, and returns what is shown of them.
+fn count<'a, 'b>(
     inputs: &mut Inputs<'_, 'a, '_>,
     tokens: Tokens<'a>,
-    bag: &mut Bag,
-) -> Result<(), Trouble<'a>> {
+    bag: &'b mut Bag,
+) -> Result<Rendered<'b>, Trouble<'a>> {
+    if let By::Column(name, delimiter) = tokens.by {
+        inputs.count_columns(name, delimiter, tokens.fold, bag)?;
+        return inputs.show(bag);
+    }
     let rule = Rule {
         pieces: pieces_of(tokens.by, inputs.pattern),
         fold: tokens.fold,
         lossy: tokens.lossy,
     };
-    match tokens.by {
-        By::Column(name, delimiter) => inputs.count_columns(name, delimiter, tokens.fold, bag),
-        _ => count_by(inputs, rule, bag),
-    }
+    inputs.show_tokens(rule, bag)
 }
 
 // Reads the two inputs of a job on a pair: the first into the bag, and the second into a new bag, which is only looked up afterwards.
@@ -130,34 +115,30 @@ fn cure_of(ask: Ask<'_, '_>) -> &'static str {
     }
 }
 
-// Returns what keeps the runs that are written when the bag is full, if the memory has a bound. They are in that folder.
-fn runs_in<'s, 'a>(
-    rt: &'s HostRuntime,
-    gauge: Option<Gauge>,
-    names: &'s [&'a str],
+// Merges the inputs, whose lines have this form and whose tokens are in ascending order, line by line. Returns what is shown of them.
+fn merge_sorted<'a>(
+    inputs: &mut Inputs<'_, 'a, '_>,
+    form: RowForm,
     folder: &'a str,
-) -> Result<Option<BagRuns<'s, 'a>>, Trouble<'a>> {
-    if gauge.is_none() {
-        return Ok(None);
-    }
-    // No files of counts: only runs.
-    let runs = runs_of(rt, folder, &names[..0], SourceKind::Run)?;
-    Ok(Some(BagRuns { runs }))
+) -> Result<Rendered<'static>, Trouble<'a>> {
+    let settings = inputs.settings;
+    let kind = SourceKind::File(form, settings.bad_lines);
+    let mut runs = runs_of(inputs.rt, folder, inputs.names, kind)?;
+    let shown = runs.show(settings.choice, look_of(inputs.rt, settings))?;
+    Ok(Made::OfRuns(shown))
 }
 
-// Reads the inputs of a job. Returns `Some` with the output if files were merged line by line. Else the counts are in the bag and the runs.
-fn take_in<'a>(
+// Does a job on the inputs, with an empty bag. Returns what is shown of it.
+fn made_of<'a, 'b>(
     inputs: &mut Inputs<'_, 'a, '_>,
     folder: &'a str,
-    bag: &mut Bag,
-) -> Result<Option<Rendered<'static>>, Trouble<'a>> {
+    bag: &'b mut Bag,
+) -> Result<Rendered<'b>, Trouble<'a>> {
     match inputs.settings.ask {
-        Ask::Count(tokens, _) => count(inputs, tokens, bag)?,
-        Ask::Merge(rows, _) => inputs.add_all(rows, bag, inputs.names)?,
-        Ask::MergeSorted(form, _) => {
-            let made = show_sorted(inputs.rt, inputs.settings, form, folder, inputs.names)?;
-            return Ok(Some(made));
-        }
+        Ask::Count(tokens, _) => return count(inputs, tokens, bag),
+        Ask::Merge(Some(form), _) => return inputs.show_rows(form, bag),
+        Ask::Merge(None, _) => inputs.add_all(None, bag, inputs.names)?,
+        Ask::MergeSorted(form, _) => return merge_sorted(inputs, form, folder),
         Ask::Less(pair) => {
             let other = take_pair(inputs, pair, bag)?;
             take_away(bag, &other);
@@ -167,40 +148,25 @@ fn take_in<'a>(
             keep_common(bag, &other);
         }
     }
-    Ok(None)
+    inputs.show(bag)
 }
 
-// Returns what is to be written of runs and of the bag, or `None` if there are no runs.
-fn merged<'a>(
+// Does a job on the inputs of these names, with an empty bag. Returns what is shown of it.
+fn read<'a, 'b>(
     rt: &HostRuntime,
     settings: &Settings<'a, '_>,
-    mut runs: Runs<'_, 'a>,
-    bag: &Bag,
-) -> Result<Option<Rendered<'static>>, Trouble<'a>> {
-    if runs.has_no_run() {
-        return Ok(None);
-    }
-    if !bag.is_empty() {
-        let mut text = run_of(rt.alloc(), bag).map_err(|_refused| Trouble::Memory)?;
-        runs.write(&mut text)?;
-    }
-    let made = show(rt, settings, runs)?;
-    Ok(Some(made))
-}
-
-// Reads the inputs. Returns `Some` with the output if files were merged line by line, or if runs were written, which are then merged with
-// the bag. Else the bag has what was counted.
-fn read<'s, 'a>(
-    rt: &'s HostRuntime,
-    settings: &'s Settings<'a, '_>,
-    pattern: Option<&'s Regex>,
-    names: &'s [&'a str],
+    pattern: Option<&Regex>,
+    names: &[&'a str],
     folder: &'a str,
-    bag: &mut Bag,
-) -> Result<Option<Rendered<'static>>, Trouble<'a>> {
+    bag: &'b mut Bag,
+) -> Result<Rendered<'b>, Trouble<'a>> {
     let memory = settings.ask.many().and_then(|many| many.memory);
-    let gauge = memory.map(|memory| Gauge::new(memory));
-    let runs = runs_in(rt, gauge, names, folder)?;
+    let runs = match memory {
+        Some(_) => Some(BagRuns {
+            runs: no_runs(rt, folder, names)?,
+        }),
+        None => None,
+    };
     let encoding = settings.ask.encoding();
     let progress = Progress::new(rt, settings.reports, names);
     let mut inputs = Inputs {
@@ -216,51 +182,15 @@ fn read<'s, 'a>(
             !is_lossy(settings.ask),
             cure_of(settings.ask),
         ),
-        gauge,
+        gauge: memory.map(|memory| Gauge::new(memory)),
         runs,
     };
-    let taken = take_in(&mut inputs, folder, bag);
-    inputs.blocks.erase();
-    let runs = inputs.runs.take();
-    if let Some(made) = taken? {
-        return Ok(Some(made));
-    }
-    if let Some(runs) = runs {
-        if let Some(made) = merged(rt, settings, runs.runs, bag)? {
-            return Ok(Some(made));
-        }
-    }
-    Ok(None)
+    let made = made_of(&mut inputs, folder, bag);
+    inputs.blocks.end_report();
+    made
 }
 
-// Writes what was made. Returns whether it shows nothing.
-fn write_made<'a>(
-    rt: &HostRuntime,
-    output: Output<'a>,
-    made: Rendered<'_>,
-) -> Result<bool, Trouble<'a>> {
-    let is_empty = made.is_empty();
-    write(rt, output, made)?;
-    Ok(is_empty)
-}
-
-// Writes what is shown of a bag, and removes all else from it. Returns whether it shows nothing.
-fn write_bag<'a>(
-    rt: &HostRuntime,
-    settings: &Settings<'a, '_>,
-    output: Output<'a>,
-    bag: &mut Bag,
-) -> Result<bool, Trouble<'a>> {
-    match rows_of(rt, settings, bag) {
-        Ok(rows) => write_made(rt, output, rows),
-        Err(failure) => {
-            output.abandon(rt);
-            Err(failure)
-        }
-    }
-}
-
-// Reads the inputs into a bag, and writes what they count. Returns whether it shows nothing.
+// Reads the inputs into an empty bag, and writes what they count. Returns whether it shows nothing.
 fn read_and_write<'a>(
     rt: &HostRuntime,
     settings: &Settings<'a, '_>,
@@ -271,11 +201,10 @@ fn read_and_write<'a>(
 ) -> Result<bool, Trouble<'a>> {
     let output = Output::open(rt, settings.output)?;
     match read(rt, settings, pattern, names, folder, bag) {
-        Ok(Some(made)) => write_made(rt, output, made),
-        Ok(None) => write_bag(rt, settings, output, bag),
-        Err(failure) => {
+        Ok(made) => write(rt, output, made),
+        Err(trouble) => {
             output.abandon(rt);
-            Err(failure)
+            Err(trouble)
         }
     }
 }

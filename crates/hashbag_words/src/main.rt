@@ -10,7 +10,6 @@ mod jobs;
 mod names;
 mod output;
 mod runs;
-mod shown;
 
 use hashbag_shell::VERSION;
 use hashbag_shell::program::{given_to, status_of, words_of};

@@ -1,36 +1,27 @@
 //! What is written.
-use crate::bag::Bag;
 use hashbag_shell::output::Output;
 use hashbag_shell::trouble::Trouble;
 use hashbag_words_args::settings::Settings;
-use hashbag_words_lib::row_text::RowText;
-use hashbag_words_lib::shown_text::{Look, Shown, shown_of};
+use hashbag_words_lib::jobs::Made;
+use hashbag_words_lib::merging_runs::ShownRuns;
+use hashbag_words_lib::shown_text::{Look, Shown};
 use std::env;
 use std::fs::File;
 
-/// What is to be written, and whether it shows nothing.
-#[derive(Drop)]
-pub enum Rendered<'b> {
-    /// Rows of a bag.
-    Rows(RowText<'b>),
-    /// A text in memory.
-    Text(Vec<u8>, bool),
-    /// A temporary file.
-    File(File, bool),
-}
+/// What is written of a job. Merged runs are in a temporary file.
+pub type Rendered<'b> = Made<'b, File>;
 
-impl Rendered<'_> {
-    /// Whether it shows nothing.
-    pub fn is_empty(&self) -> bool {
-        match self {
-            Rendered::Rows(rows) => rows.is_empty(),
-            Rendered::Text(_, is_empty) => *is_empty,
-            Rendered::File(_, is_empty) => *is_empty,
-        }
+// Whether it shows nothing.
+fn is_empty(made: &Rendered<'_>) -> bool {
+    match made {
+        Made::OfBag(Shown::Rows(text)) => text.is_empty(),
+        Made::OfBag(Shown::Bars(text)) => text.is_empty(),
+        Made::OfRuns(ShownRuns::Text(_, is_empty)) => *is_empty,
+        Made::OfRuns(ShownRuns::File(made)) => made.is_empty,
     }
 }
 
-/// Writes all that was made.
+/// Writes all that was made. Returns whether it shows nothing.
 ///
 /// # Errors
 ///
@@ -39,13 +30,15 @@ pub fn write<'a>(
     rt: &HostRuntime,
     output: Output<'a>,
     made: Rendered<'_>,
-) -> Result<(), Trouble<'a>> {
-    let written = match made {
-        Rendered::Rows(mut rows) => output.copy(rt, &mut rows),
-        Rendered::Text(text, _) => output.write(rt, text.as_slice()),
-        Rendered::File(mut file, _) => output.copy(rt, &mut file),
-    };
-    Ok(written?)
+) -> Result<bool, Trouble<'a>> {
+    let is_empty = is_empty(&made);
+    match made {
+        Made::OfBag(Shown::Rows(mut text)) => output.copy(rt, &mut text)?,
+        Made::OfBag(Shown::Bars(text)) => output.write(rt, text.as_slice())?,
+        Made::OfRuns(ShownRuns::Text(text, _)) => output.write(rt, text.as_slice())?,
+        Made::OfRuns(ShownRuns::File(mut made)) => output.copy(rt, &mut made.file)?,
+    }
+    Ok(is_empty)
 }
 
 // How many columns a terminal has that doesn't say it.
@@ -68,25 +61,4 @@ pub fn look_of(rt: &HostRuntime, settings: &Settings<'_, '_>) -> Look {
         return Look::Shares;
     }
     Look::Rows(settings.format)
-}
-
-/// Returns what is to be written of a bag, and removes all that isn't shown from it.
-///
-/// # Errors
-///
-/// `Memory` if an allocation fails.
-pub fn rows_of<'a, 'b>(
-    rt: &HostRuntime,
-    settings: &Settings<'a, '_>,
-    bag: &'b mut Bag,
-) -> Result<Rendered<'b>, Trouble<'a>> {
-    let look = look_of(rt, settings);
-    match shown_of(rt.alloc(), bag, settings.choice, look) {
-        Ok(Shown::Rows(rows)) => Ok(Rendered::Rows(rows)),
-        Ok(Shown::Bars(text)) => {
-            let is_empty = text.is_empty();
-            Ok(Rendered::Text(text, is_empty))
-        }
-        Err(_) => Err(Trouble::Memory),
-    }
 }

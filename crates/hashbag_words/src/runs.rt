@@ -1,6 +1,6 @@
 //! The texts that are merged: files of counts, and runs in temporary files. Each has a number.
-ghost use Rattle.std.specs.Prelude.{◌≡◌, ◌≤◌, [], length, IfOk};
-ghost use Rattle.hashbag_words_lib.specs.MergingRuns.{AreUnread};
+ghost use Rattle.std.specs.Prelude.{◌≡◌, ℕ, ◌≤◌, [], length, IfOk};
+ghost use Rattle.hashbag_words_lib.specs.MergingRuns.{AreUnread, HasRuns};
 ghost use Rattle.hashbag_words_lib.specs.Reads.{bytes_of};
 
 use crate::input::Input;
@@ -16,6 +16,7 @@ use hashbag_words_lib::reads::Reads;
 use hashbag_words_lib::row_source::SourceKind;
 use hashbag_words_lib::sorted_merge::Stop;
 use hashbag_words_lib::troubles::{of_input, too_many_in_all};
+use std::alloc::AllocError;
 use std::fs::File;
 use std::io::{self, Seek};
 use std::process;
@@ -66,6 +67,27 @@ fn read_file(file: &mut Option<Input>, block: &mut Vec<u8>) -> io::Result<usize>
     Ok(n)
 }
 
+// Returns the files of these names. None was opened.
+fn files_of<'s, 'a>(
+    rt: &'s HostRuntime,
+    folder: &'a str,
+    names: &'s [&'a str],
+) -> Result<NumberedFiles<'s, 'a>, AllocError>
+    ensures { IfOk result (λ files. (n : ℕ) → bytes_of files.reads n ≡ []) }
+{
+    let mut files = Vec::new(rt.alloc());
+    for _name in names {
+        files.push(None)?;
+    }
+    Ok(NumberedFiles {
+        rt,
+        folder,
+        names,
+        files,
+        reads: Reads::none(),
+    })
+}
+
 /// Returns the files of counts of these names, and no run. Temporary files are in that folder.
 ///
 /// # Errors
@@ -80,20 +102,26 @@ pub fn runs_of<'s, 'a>(
     // Nothing was read of them.
     ensures { IfOk result (AreUnread (λ files. bytes_of files.reads)) }
 {
-    let mut files = Vec::new(rt.alloc());
-    for _name in names {
-        if files.push(None).is_err() {
-            return Err(Trouble::Memory);
-        }
-    }
-    let texts = NumberedFiles {
-        rt,
-        folder,
-        names,
-        files,
-        reads: Reads::none(),
-    };
-    Ok(MergingRuns::new(rt.alloc(), texts, kind, names.len())?)
+    let files = files_of(rt, folder, names)?;
+    Ok(MergingRuns::new(rt.alloc(), files, kind, names.len())?)
+}
+
+/// Returns what keeps runs of a bag, into which the inputs of these names are counted. Temporary files are in that folder.
+///
+/// # Errors
+///
+/// An allocation fails.
+pub fn no_runs<'s, 'a>(
+    rt: &'s HostRuntime,
+    folder: &'a str,
+    names: &'s [&'a str],
+) -> Result<Runs<'s, 'a>, Trouble<'a>>
+    // No run was kept.
+    ensures { IfOk result (λ runs. HasRuns (λ files. bytes_of files.reads) runs []) }
+{
+    // None of the inputs is merged.
+    let files = files_of(rt, folder, &names[..0])?;
+    Ok(MergingRuns::new(rt.alloc(), files, SourceKind::Run, 0)?)
 }
 
 impl<'a> NumberedFiles<'_, 'a> {

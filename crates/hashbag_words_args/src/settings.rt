@@ -46,7 +46,7 @@ pub struct Tokens<'a> {
 
 /// Any number of inputs, and the memory that their counts may take.
 #[derive(Clone, Copy)]
-pub struct Many<'a, 'm> {
+pub struct ManyInputs<'a, 'm> {
     /// The names of the inputs; `None` is standard input.
     pub files: Option<&'m [&'a str]>,
     /// The file that has the names of the inputs, if there is one.
@@ -76,11 +76,11 @@ pub struct Pair<'a> {
 #[derive(Clone, Copy)]
 pub enum Ask<'a, 'm> {
     /// Counts text.
-    Count(Tokens<'a>, Many<'a, 'm>),
+    Count(Tokens<'a>, ManyInputs<'a, 'm>),
     /// Adds up files of counts, whose lines have this form; `None` is JSON.
-    Merge(Option<RowForm>, Many<'a, 'm>),
+    Merge(Option<RowForm>, ManyInputs<'a, 'm>),
     /// Merges files of counts whose rows are in ascending order, line by line.
-    MergeSorted(RowForm, Many<'a, 'm>),
+    MergeSorted(RowForm, ManyInputs<'a, 'm>),
     /// Subtracts the counts of the second file from those of the first.
     Less(Pair<'a>),
     /// Finds the lesser counts of two files.
@@ -89,7 +89,7 @@ pub enum Ask<'a, 'm> {
 
 impl<'a, 'm> Ask<'a, 'm> {
     /// Returns the inputs of a job that has any number of them.
-    pub fn many(&self) -> Option<Many<'a, 'm>> {
+    pub fn many(&self) -> Option<ManyInputs<'a, 'm>> {
         match self {
             Ask::Count(_, many) => Some(*many),
             Ask::Merge(_, many) => Some(*many),
@@ -316,8 +316,11 @@ fn tokens_of<'a>(alloc: Global, given: &ArgMatches<'a>) -> Result<Tokens<'a>, Tr
     })
 }
 
-fn many_of<'a, 'm>(alloc: Global, given: &'m ArgMatches<'a>) -> Result<Many<'a, 'm>, Trouble<'a>> {
-    Ok(Many {
+fn many_of<'a, 'm>(
+    alloc: Global,
+    given: &'m ArgMatches<'a>,
+) -> Result<ManyInputs<'a, 'm>, Trouble<'a>> {
+    Ok(ManyInputs {
         files: given.get_strs("files"),
         files_from: given.get_str("files-from"),
         null: given.get_flag("null"),

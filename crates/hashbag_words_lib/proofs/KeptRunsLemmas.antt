@@ -1,5 +1,5 @@
 -- Numbered texts that are taken to be merged, and what is written of them.
-use Rattle.std.proofs.Common.{◌≡◌, ◌⊎◌, inl, inr, ℕ, ◌+◌, ◌<◌, List, [], ◌∷◌, ◌++◌, length, get_or, map, sum_by, All, Option, None, Some, IfSome, Result, Ok, Err, IfOk, refl, sym, ◌∙◌, ap, subst, arith, append_assoc, length-append}
+use Rattle.std.proofs.Common.{◌≡◌, ◌==◌, ◌↔◌, ◌⊎◌, inl, inr, true, false, ℕ, ◌+◌, ◌<◌, List, [], ◌∷◌, ◌++◌, length, get_or, map, sum_by, All, Option, None, Some, IfSome, Result, Ok, Err, IfOk, refl, sym, ◌∙◌, ap, subst, arith, append_assoc, length-append}
 use Rattle.std.proofs.lemmas.Bool.{cases_eq}
 use Rattle.std.proofs.lemmas.List.{append-nil, get_or_append_left, get_or-append-add}
 use Rattle.std.proofs.lemmas.List.Elements.{All-nil, All-append, All-cons, All-from_get_or, All-head, All-tail}
@@ -159,8 +159,8 @@ module _ (made : ℕ) (rows : ℕ → List (List ℕ × ℕ)) (fed : List (List 
       sums ∙ counted v
 
   -- what is merged next has those that were taken
-  pub taken_numbers : (numbers : Vec ℕ) (left : List ℕ) (full : Option MergedText) → IsSomeAnd full (λ text. text.batch.numbers ≡ numbers) → AreKept numbers.items left made rows fed
-      → MatchOption full (AreKept [] left made rows fed) (λ text. AreKept text.batch.numbers.items left made rows fed)
+  pub taken_numbers : (numbers : Vec ℕ) (left : List ℕ) (full : Option MergedText) → IsSomeAnd full (λ text. text.merge.numbers ≡ numbers) → AreKept numbers.items left made rows fed
+      → MatchOption full (AreKept [] left made rows fed) (λ text. AreKept text.merge.numbers.items left made rows fed)
   taken_numbers numbers left None is kept = absurd is
   taken_numbers numbers left (Some text) is kept = subst (λ (v : Vec ℕ). AreKept v.items left made rows fed) (sym is) kept
 
@@ -172,10 +172,10 @@ both_ok (Ok x) P Q R both p q = both x p q
 both_ok (Err e) P Q R both p q = tt
 
 -- the merge is of what was taken
-pub merge_of : (numbers : Vec ℕ) (kind : SourceKind) (old new : KeptRuns) → TakesKind kind numbers.items old new → (text : MergedText) → text.batch.numbers ≡ numbers → BeginsOf kind text → TakesMerge text old new
+pub merge_of : (numbers : Vec ℕ) (kind : SourceKind) (old new : KeptRuns) → TakesKind kind numbers.items old new → (text : MergedText) → text.merge.numbers ≡ numbers → BeginsOf kind text → TakesMerge text old new
 merge_of numbers kind old new takes text is begins = (kind, begins, subst (λ (v : Vec ℕ). TakesKind kind v.items old new) (sym is) takes)
 
-pub one_merge : (numbers : Vec ℕ) (kind : SourceKind) (old new : KeptRuns) → TakesKind kind numbers.items old new → (full : Option MergedText) → IsSomeAnd full (λ text. text.batch.numbers ≡ numbers) → IfSome full (BeginsOf kind) → TakesOneMerge full old new
+pub one_merge : (numbers : Vec ℕ) (kind : SourceKind) (old new : KeptRuns) → TakesKind kind numbers.items old new → (full : Option MergedText) → IsSomeAnd full (λ text. text.merge.numbers ≡ numbers) → IfSome full (BeginsOf kind) → TakesOneMerge full old new
 one_merge numbers kind old new takes None is begins = absurd is
 one_merge numbers kind old new takes (Some text) is begins = merge_of numbers kind old new takes text is begins
 
@@ -199,3 +199,8 @@ as_run layout text run choice look = record {
       (ap (λ (c : Choice). look_of text.rows.sink.format c.order text.bars) (sym choice) ∙ look) ∙ run.tsv;
   order = subst (λ (c : Choice). AreAll c.order) (sym choice) run.order;
 }
+
+-- there is a file
+pub some_left : (files runs : List ℕ) → false ≡ (length files == 0) → (false ≡ true) ↔ (files ++ runs ≡ [])
+some_left [] runs some = absurd (let e : false ≡ true = some in cc)
+some_left (n ∷ files) runs some = (λ is. absurd (let e : false ≡ true = is in cc), λ none. absurd (let e : n ∷ (files ++ runs) ≡ [] = none in cc))

@@ -1,5 +1,5 @@
 pub mod AddedLemmas
-pub mod BatchLemmas
+pub mod NumberedMergeLemmas
 pub mod ColumnLemmas
 pub mod CountedLemmas
 pub mod CounterLemmas
@@ -9,6 +9,7 @@ pub mod FeedingLemmas
 pub mod FieldLemmas
 pub mod GroupLemmas
 pub mod InputLemmas
+pub mod JobLemmas
 pub mod KeptRunsLemmas
 pub mod LineLemmas
 pub mod MatchLemmas

@@ -1,5 +1,5 @@
 -- The text of a merge, which is read again as the rows of a run.
-use Rattle.std.proofs.Common.{◌≡◌, ℕ, ◌+◌, ◌<◌, ◌≤◌, ◌^◌, Bool, true, false, if◌then◌else◌, List, [], ◌∷◌, ◌++◌, length, get_or, map, sum_by, All, Option, Some, bytes_eq, refl, sym, ◌∙◌, ap, subst, arith}
+use Rattle.std.proofs.Common.{◌≡◌, ℕ, ◌<◌, ◌≤◌, ◌^◌, Bool, true, false, if◌then◌else◌, List, [], ◌∷◌, ◌++◌, length, get_or, map, sum_by, All, Option, Some, bytes_eq, refl, sym, ◌∙◌, ap, subst, arith}
 use Rattle.std.proofs.lemmas.List.{append-nil, get_or-map, length-map}
 use Rattle.std.proofs.lemmas.List.Elements.{All-head, All-tail}
 use Rattle.std.proofs.lemmas.List.Sums.{get_or-le-sum_by, sum_by-le-sum_by}
@@ -15,7 +15,6 @@ use Rattle.hashbag_words_lib.specs.Writing.{text_of}
 use Rattle.hashbag_words_lib.specs.declared.choice.Choice.{Choice}
 use Rattle.hashbag_words_lib.specs.declared.choice.Order.{Order}
 use Rattle.hashbag_words_lib.specs.declared.choice.Order.TheVariants.{Ascending, Unordered, MostCommon}
-use Rattle.hashbag_words_lib.specs.declared.kept_runs.KeptRuns.{KeptRuns}
 use Rattle.hashbag_words_lib.specs.declared.merged_text.MergedText.{MergedText}
 use Rattle.hashbag_words_lib.specs.declared.row_source.SourceKind.{SourceKind}
 use Rattle.hashbag_words_lib.specs.declared.writing.Format.{Format}
@@ -30,10 +29,10 @@ read_none kind read (n ∷ xs) none =
     ∙ ap (λ (l : List (SourceKind × List ℕ)). (kind, []) ∷ l) (read_none kind read xs (All-tail (λ (n : ℕ). read n ≡ []) n xs none))
 
 -- of a merge that begins nothing was given, and nothing was read of its texts
-pub begins_read : (kind : SourceKind) (read : ℕ → List ℕ) (text : MergedText) → BeginsOf kind text → AreUnlike text.batch.numbers.items → All (λ n. read n ≡ []) text.batch.numbers.items → HasRead kind read text []
+pub begins_read : (kind : SourceKind) (read : ℕ → List ℕ) (text : MergedText) → BeginsOf kind text → AreUnlike text.merge.numbers.items → All (λ n. read n ≡ []) text.merge.numbers.items → HasRead kind read text []
 begins_read kind read text begins unlike none = record {
   unlike = unlike;
-  given = subst (λ (l : List (SourceKind × List ℕ)). HasGivenAndTaken l text []) (sym (read_none kind read text.batch.numbers.items none)) begins;
+  given = subst (λ (l : List (SourceKind × List ℕ)). HasGivenAndTaken l text []) (sym (read_none kind read text.merge.numbers.items none)) begins;
 }
 
 -- the rows of whole texts

@@ -5,14 +5,14 @@ use Rattle.std.specs.BinaryHeap.{heap_len}
 use Rattle.std.proofs.lemmas.Bool.{false≢true}
 use Rattle.std.proofs.lemmas.List.{append-nil}
 use Rattle.std.proofs.lemmas.List.Elements.{filter-append}
-use Rattle.hashbag_words_lib.specs.Batches.{FollowsIn, HasTaken, IsWanted}
+use Rattle.hashbag_words_lib.specs.NumberedMerges.{FollowsIn, HasTaken, IsWanted}
 use Rattle.hashbag_words_lib.specs.Choice.{shows}
 use Rattle.hashbag_words_lib.specs.Merged.{AreInputs, IsWhole}
-use Rattle.hashbag_words_lib.specs.MergedTexts.{look_of, shown_in, whole_text, AreAll, ArePut, BeginsAs, BuildsEnd, EndsWith, HasGivenAndTaken, HaveCome, KeepsBatchAndLayout, PutsNext, PutsRow}
+use Rattle.hashbag_words_lib.specs.MergedTexts.{look_of, shown_in, whole_text, AreAll, ArePut, BeginsAs, BuildsEnd, EndsWith, HasGivenAndTaken, HaveCome, KeepsMergeAndLayout, PutsNext, PutsRow}
 use Rattle.hashbag_words_lib.specs.RowParts.{HasBuilt, TakesPart}
 use Rattle.hashbag_words_lib.specs.Sorted.{numbers, row_of, IsMergeOf}
 use Rattle.hashbag_words_lib.specs.Top.{KeepsTop, PutsTop}
-use Rattle.hashbag_words_lib.specs.declared.batch.Batch.{Batch}
+use Rattle.hashbag_words_lib.specs.declared.numbered_merge.NumberedMerge.{NumberedMerge}
 use Rattle.hashbag_words_lib.specs.declared.choice.Choice.{Choice}
 use Rattle.hashbag_words_lib.specs.declared.choice.Order.TheVariants.{MostCommon}
 use Rattle.hashbag_words_lib.specs.declared.merged_text.MergedText.{MergedText}
@@ -27,10 +27,10 @@ use Rattle.hashbag_words_lib.specs.declared.sorted_merge.Merged.TheVariants.{Row
 use Rattle.hashbag_words_lib.specs.declared.writing.Format.{Format}
 use Rattle.hashbag_words_lib.proofs.WrittenLemmas.{writes_together}
 
--- the batch is as far, with other texts given
-pub put_as : (given later : List (SourceKind × List ℕ)) (batch new : Batch) (choice : Choice) (top : Option (ShownRows TopRows)) (bars : Option ℕ) (parts : RowParts) (is_over : Bool) (taken : List ℕ) → is_over ≡ false
-    → ((out : List (List ℕ × ℕ)) → HasTaken given batch out → HasTaken later new out) → ArePut given batch choice top bars parts is_over taken → ArePut later new choice top bars parts is_over taken
-put_as given later batch new choice top bars parts is_over taken going same put = record {
+-- the merge is as far, with other texts given
+pub put_as : (given later : List (SourceKind × List ℕ)) (merge new : NumberedMerge) (choice : Choice) (top : Option (ShownRows TopRows)) (bars : Option ℕ) (parts : RowParts) (is_over : Bool) (taken : List ℕ) → is_over ≡ false
+    → ((out : List (List ℕ × ℕ)) → HasTaken given merge out → HasTaken later new out) → ArePut given merge choice top bars parts is_over taken → ArePut later new choice top bars parts is_over taken
+put_as given later merge new choice top bars parts is_over taken going same put = record {
   out = put.out;
   merged = same put.out put.merged;
   begun = put.begun;
@@ -106,9 +106,9 @@ take_come : (choice : Choice) (top : Option (ShownRows TopRows)) (old new : RowP
 take_come choice None old new rows taken takes come = (come.0, takes (shown_in choice rows) taken come.1)
 take_come choice (Some top) old new rows taken takes come = (come.0, come.1, come.2, takes [] taken come.3)
 
-pub take_put : (given : List (SourceKind × List ℕ)) (batch : Batch) (choice : Choice) (top : Option (ShownRows TopRows)) (bars : Option ℕ) (old new : RowParts) (is_over : Bool) (taken : List ℕ)
-    → TakesPart old new → new.part.items ≡ [] → new.format ≡ old.format → ArePut given batch choice top bars old is_over taken → ArePut given batch choice top bars new is_over (taken ++ old.part.items)
-take_put given batch choice top bars old new is_over taken takes none format put = record {
+pub take_put : (given : List (SourceKind × List ℕ)) (merge : NumberedMerge) (choice : Choice) (top : Option (ShownRows TopRows)) (bars : Option ℕ) (old new : RowParts) (is_over : Bool) (taken : List ℕ)
+    → TakesPart old new → new.part.items ≡ [] → new.format ≡ old.format → ArePut given merge choice top bars old is_over taken → ArePut given merge choice top bars new is_over (taken ++ old.part.items)
+take_put given merge choice top bars old new is_over taken takes none format put = record {
   out = put.out;
   merged = put.merged;
   begun = subst (λ (f : Format). BeginsAs (look_of f choice.order bars) f) (sym format) put.begun;
@@ -122,7 +122,7 @@ take_put given batch choice top bars old new is_over taken takes none format put
   );
 }
 
-module _ (given : List (SourceKind × List ℕ)) (old new : MergedText) (batch : Batch) (taken : List ℕ) (going : old.is_over ≡ false) (same : new.batch ≡ batch) where
+module _ (given : List (SourceKind × List ℕ)) (old new : MergedText) (merge : NumberedMerge) (taken : List ℕ) (going : old.is_over ≡ false) (same : new.merge ≡ merge) where
   -- the text begins as it did
   begun_as : new.rows.choice ≡ old.rows.choice → new.rows.sink.format ≡ old.rows.sink.format → new.bars ≡ old.bars → BeginsAs (look_of old.rows.sink.format old.rows.choice.order old.bars) old.rows.sink.format
       → BeginsAs (look_of new.rows.sink.format new.rows.choice.order new.bars) new.rows.sink.format
@@ -132,26 +132,26 @@ module _ (given : List (SourceKind × List ℕ)) (old new : MergedText) (batch :
       (subst (λ (b : Option ℕ). BeginsAs (look_of old.rows.sink.format old.rows.choice.order b) old.rows.sink.format) (sym bars) begun))
 
   -- a row is merged and put
-  pub put_row : (row : List ℕ × ℕ) → new.is_over ≡ old.is_over → ((out : List (List ℕ × ℕ)) → HasTaken given old.batch out → HasTaken given batch (out ++ row ∷ []))
+  pub put_row : (row : List ℕ × ℕ) → new.is_over ≡ old.is_over → ((out : List (List ℕ × ℕ)) → HasTaken given old.merge out → HasTaken given merge (out ++ row ∷ []))
       → PutsRow row old new → new.rows.choice ≡ old.rows.choice → new.rows.sink.format ≡ old.rows.sink.format → new.bars ≡ old.bars → HasGivenAndTaken given old taken → HasGivenAndTaken given new taken
   put_row row over next puts choice format bars put = record {
     out = put.out ++ row ∷ [];
-    merged = subst (λ (b : Batch). HasTaken given b (put.out ++ row ∷ [])) (sym same) (next put.out put.merged);
+    merged = subst (λ (b : NumberedMerge). HasTaken given b (put.out ++ row ∷ [])) (sym same) (next put.out put.merged);
     begun = begun_as choice format bars put.begun;
     built = λ is. puts put.out taken (put.built going);
     over = λ is. absurd (false≢true (sym going ∙ sym over ∙ is));
   }
 
   -- all is merged, and the end of the text is built
-  pub put_end : new.is_over ≡ true → ((out : List (List ℕ × ℕ)) → HasTaken given old.batch out → HasTaken given batch out × IsWhole given batch.merger out)
+  pub put_end : new.is_over ≡ true → ((out : List (List ℕ × ℕ)) → HasTaken given old.merge out → HasTaken given merge out × IsWhole given merge.merger out)
       → BuildsEnd old new → new.rows.choice ≡ old.rows.choice → new.rows.sink.format ≡ old.rows.sink.format → new.bars ≡ old.bars → HasGivenAndTaken given old taken → HasGivenAndTaken given new taken
   put_end over ends text choice format bars put = record {
     out = put.out;
-    merged = subst (λ (b : Batch). HasTaken given b put.out) (sym same) (ends put.out put.merged).0;
+    merged = subst (λ (b : NumberedMerge). HasTaken given b put.out) (sym same) (ends put.out put.merged).0;
     begun = begun_as choice format bars put.begun;
     built = λ is. absurd (false≢true (sym is ∙ over));
     over = λ is. (
-      subst (λ (b : Batch). IsWhole given b.merger put.out) (sym same) (ends put.out put.merged).1,
+      subst (λ (b : NumberedMerge). IsWhole given b.merger put.out) (sym same) (ends put.out put.merged).1,
       text old.rows.choice put.out taken (put.built going)
           ∙ ap (λ (f : Format). whole_text f old.rows.choice.order old.bars (shown_in old.rows.choice put.out)) (sym format)
           ∙ ap (λ (c : Choice). whole_text new.rows.sink.format c.order old.bars (shown_in c put.out)) (sym choice)
@@ -159,32 +159,32 @@ module _ (given : List (SourceKind × List ℕ)) (old new : MergedText) (batch :
     );
   }
 
--- a row came out of the batch, and was put
-pub put_next : (given : List (SourceKind × List ℕ)) (old new : MergedText) (batch : Batch) (next : Merged) (row : String Global × ℕ) (taken : List ℕ) → old.is_over ≡ false → next ≡ MergedRow row
-    → ((given : List (SourceKind × List ℕ)) → (out : List (List ℕ × ℕ)) → HasTaken given old.batch out → FollowsIn given out next batch)
-    → KeepsBatchAndLayout (record old { batch = batch }) new → PutsRow (row_of row) old new → new.is_over ≡ old.is_over → HasGivenAndTaken given old taken → HasGivenAndTaken given new taken
-put_next given old new batch next row taken going is follows same puts over put =
-    put_row given old new batch taken going same.0 (row_of row) over (λ out has. subst (λ (n : Merged). FollowsIn given out n batch) is (follows given out has)) puts same.1 same.2 same.3 put
+-- a row came out of the merge, and was put
+pub put_next : (given : List (SourceKind × List ℕ)) (old new : MergedText) (merge : NumberedMerge) (next : Merged) (row : String Global × ℕ) (taken : List ℕ) → old.is_over ≡ false → next ≡ MergedRow row
+    → ((given : List (SourceKind × List ℕ)) → (out : List (List ℕ × ℕ)) → HasTaken given old.merge out → FollowsIn given out next merge)
+    → KeepsMergeAndLayout (record old { merge = merge }) new → PutsRow (row_of row) old new → new.is_over ≡ old.is_over → HasGivenAndTaken given old taken → HasGivenAndTaken given new taken
+put_next given old new merge next row taken going is follows same puts over put =
+    put_row given old new merge taken going same.0 (row_of row) over (λ out has. subst (λ (n : Merged). FollowsIn given out n merge) is (follows given out has)) puts same.1 same.2 same.3 put
 
 -- a text wants bytes
-pub put_wants : (given : List (SourceKind × List ℕ)) (old : MergedText) (batch : Batch) (next : Merged) (number : ℕ) (taken : List ℕ) → old.is_over ≡ false → next ≡ MergedWants number
-    → ((given : List (SourceKind × List ℕ)) → (out : List (List ℕ × ℕ)) → HasTaken given old.batch out → FollowsIn given out next batch) → HasGivenAndTaken given old taken
-    → ArePut given batch old.rows.choice old.top old.bars old.rows.sink old.is_over taken × (old.is_over ≡ false) × IsWanted batch × (number ≡ slice_index_or batch.numbers.items batch.wanted number)
-put_wants given old batch next number taken going is follows put =
-    (put_as given given old.batch batch old.rows.choice old.top old.bars old.rows.sink old.is_over taken going (λ out has. (come out has).0) put, going, (come put.out put.merged).1, (come put.out put.merged).2)
+pub put_wants : (given : List (SourceKind × List ℕ)) (old : MergedText) (merge : NumberedMerge) (next : Merged) (number : ℕ) (taken : List ℕ) → old.is_over ≡ false → next ≡ MergedWants number
+    → ((given : List (SourceKind × List ℕ)) → (out : List (List ℕ × ℕ)) → HasTaken given old.merge out → FollowsIn given out next merge) → HasGivenAndTaken given old taken
+    → ArePut given merge old.rows.choice old.top old.bars old.rows.sink old.is_over taken × (old.is_over ≡ false) × IsWanted merge × (number ≡ slice_index_or merge.numbers.items merge.wanted number)
+put_wants given old merge next number taken going is follows put =
+    (put_as given given old.merge merge old.rows.choice old.top old.bars old.rows.sink old.is_over taken going (λ out has. (come out has).0) put, going, (come put.out put.merged).1, (come put.out put.merged).2)
   where
-    come : (out : List (List ℕ × ℕ)) → HasTaken given old.batch out → FollowsIn given out (MergedWants number) batch
-    come out has = subst (λ (n : Merged). FollowsIn given out n batch) is (follows given out has)
+    come : (out : List (List ℕ × ℕ)) → HasTaken given old.merge out → FollowsIn given out (MergedWants number) merge
+    come out has = subst (λ (n : Merged). FollowsIn given out n merge) is (follows given out has)
 
 -- all is written
 put_whole : (given : List (SourceKind × List ℕ)) (text : MergedText) (taken : List ℕ) → HasGivenAndTaken given text taken → text.is_over ≡ true → text.rows.sink.part.items ≡ []
     → (inputs : List (List (List ℕ × ℕ))) → AreInputs given (λ i. []) inputs → EndsWith inputs taken text
 put_whole given text taken put over none inputs are = (
   record { rows = put.out; merged = whole.0; is = is },
-  writes_together text.rows.choice text.rows.sink.format text.bars inputs put.out text.batch.merger.total taken whole.0 whole.1 put.begun is,
+  writes_together text.rows.choice text.rows.sink.format text.bars inputs put.out text.merge.merger.total taken whole.0 whole.1 put.begun is,
 )
   where
-    whole : IsMergeOf inputs put.out × (text.batch.merger.total ≡ sum_by numbers inputs)
+    whole : IsMergeOf inputs put.out × (text.merge.merger.total ≡ sum_by numbers inputs)
     whole = (put.over over).0 (λ i. []) inputs (λ i lt source ended. refl) are
 
     is : taken ≡ whole_text text.rows.sink.format text.rows.choice.order text.bars (shown_in text.rows.choice put.out)

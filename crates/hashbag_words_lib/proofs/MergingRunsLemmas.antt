@@ -1,13 +1,15 @@
 -- Texts that are merged into runs: whatever they had together, they have it after a merge.
-use Rattle.std.proofs.Common.{◌≡◌, ◌≢◌, ◌⊎◌, inl, inr, ℕ, ◌+◌, ◌<◌, ◌≤◌, List, [], ◌∷◌, ◌++◌, get_or, map, All, Option, None, Some, IfSome, refl, sym, ◌∙◌, ap, subst, arith, append_assoc}
+use Rattle.std.proofs.Common.{◌≡◌, ◌≢◌, ◌⊎◌, inl, inr, ℕ, ◌+◌, ◌<◌, ◌≤◌, List, [], ◌∷◌, ◌++◌, length, get_or, map, All, Option, None, Some, IfSome, refl, sym, ◌∙◌, ap, subst, arith, append_assoc}
 use Rattle.std.proofs.lemmas.List.{append-nil, map-append}
 use Rattle.std.proofs.lemmas.List.Elements.{All-nil, All-append, All-cons, All-head}
 use Rattle.std.specs.Global.{Vec}
 use Rattle.hashbag_words_lib.specs.Choice.{shows}
-use Rattle.hashbag_words_lib.specs.KeptRuns.{left_in, AddsNumber, AreAlike, AreInOrder, HasKept, KeepsKinds, MergesAll, TakesFiles, TakesKind, TakesMerge, TakesOneMerge, TakesTexts, TakesThese}
+use Rattle.hashbag_words_lib.specs.Feeding.{HasNothing, KeepsRows}
+use Rattle.hashbag_words_lib.specs.Jobs.{ShowsRuns}
+use Rattle.hashbag_words_lib.specs.KeptRuns.{numbers_in, times_of, AddsNumber, AreAlike, AreInOrder, HasFiles, HasKept, KeepsKinds, MergesAll, TakesFiles, TakesKind, TakesMerge, TakesOneMerge, TakesTexts, TakesThese}
 use Rattle.hashbag_words_lib.specs.Merged.{AreInputs}
 use Rattle.hashbag_words_lib.specs.MergedTexts.{look_in, look_of, EndsWith, KeepsLayout, WritesAsRun}
-use Rattle.hashbag_words_lib.specs.MergingRuns.{AddsFile, AddsTexts, AgreesWith, AllOf, AreUnread, CountsAll, FitsOrder, GoesOn, IsGone, LaysOut, Merges, MergesTaken, ShowsAll, ShowsTokens, TotalsTaken, WritesText}
+use Rattle.hashbag_words_lib.specs.MergingRuns.{AddsFile, AddsTexts, AgreesWith, AllOf, AreUnread, CountsAll, FitsOrder, GoesOn, HasRuns, IsFaithful, IsGone, LaysOut, Merges, MergesTaken, ShowsAll, ShowsTokens, TotalsTaken, WritesText}
 use Rattle.hashbag_words_lib.specs.Numbered.{read_of, HasRead, IsNext, ReadsOn, WritesMerge}
 use Rattle.hashbag_words_lib.specs.Runs.{rows_in}
 use Rattle.hashbag_words_lib.specs.Shown.{IsWritten}
@@ -59,10 +61,14 @@ still_gone old new adds n gone =
     let next : new.next_number ≡ old.next_number + 1 = adds.next in (
       omega arith,
       subst (All (λ k. k ≢ n)) (sym (left_added old new adds))
-          (All-append (λ k. k ≢ n) (left_in old) (old.next_number ∷ []) gone.1 (All-cons (λ k. k ≢ n) old.next_number [] (λ is. absurd (omega arith)) (All-nil (λ k. k ≢ n)))),
+          (All-append (λ k. k ≢ n) (numbers_in old) (old.next_number ∷ []) gone.1 (All-cons (λ k. k ≢ n) old.next_number [] (λ is. absurd (omega arith)) (All-nil (λ k. k ≢ n)))),
     )
 
 -- ---- steps, one after the other
+
+empty_of : (numbers : List ℕ) → length numbers ≡ 0 → numbers ≡ []
+empty_of [] none = refl
+empty_of (n ∷ numbers) none = absurd (omega arith)
 
 module _ {T : Type 0} (read : T → ℕ → List ℕ) where
   -- a merge was read on, and then written
@@ -134,9 +140,9 @@ module _ {T : Type 0} (read : T → ℕ → List ℕ) where
           order = taken_order old.kept.kind [] old.kept new.kept how unread.order;
           gone = subst (AllOf (IsGone new.kept)) (sym merged)
               (all_of_weaker (IsGone old.kept) (IsGone new.kept) old.merged
-              (λ n gone. (subst (λ (m : ℕ). n < m) (sym next) gone.0, all_others (left_in old.kept) [] (left_in new.kept) (λ k. k ≢ n) parts gone.1)) unread.gone);
-          none = all_weaker (λ n. read old.texts n ≡ []) (λ n. read new.texts n ≡ []) (left_in new.kept) (λ n none. same n ∙ none)
-              (all_others (left_in old.kept) [] (left_in new.kept) (λ n. read old.texts n ≡ []) parts unread.none);
+              (λ n gone. (subst (λ (m : ℕ). n < m) (sym next) gone.0, all_others (numbers_in old.kept) [] (numbers_in new.kept) (λ k. k ≢ n) parts gone.1)) unread.gone);
+          none = all_weaker (λ n. read old.texts n ≡ []) (λ n. read new.texts n ≡ []) (numbers_in new.kept) (λ n none. same n ∙ none)
+              (all_others (numbers_in old.kept) [] (numbers_in new.kept) (λ n. read old.texts n ≡ []) parts unread.none);
           later = λ n le. same n ∙ unread.later n (omega arith);
         };
         goes = record {
@@ -160,20 +166,6 @@ module _ {T : Type 0} (read : T → ℕ → List ℕ) where
       let last : All P (adds.run ∷ []) = all_right P old.written (adds.run ∷ []) (subst (All P) adds.written agrees.as_written) in
       ap rows (sym adds.number) ∙ sym (All-head P adds.run [] last) ∙ ap rows_in adds.bytes
 
-  -- it doesn't matter which texts are known to have been added
-  pub fed_too : (text : List ℕ) (old new : MergingRuns T) (fed : List (List ℕ)) → AddsFile read text old new → AddsFile read text old (record new { fed = fed })
-  fed_too text old new fed adds = record {
-    next = adds.next;
-    added = adds.added;
-    merged = adds.merged;
-    reads = adds.reads;
-    run = adds.run;
-    number = adds.number;
-    bytes = adds.bytes;
-    written = adds.written;
-    same = adds.same;
-  }
-
   -- a run was added
   pub run_added : (text : List ℕ) (old new : MergingRuns T) → AddsFile read text old new → AddsTexts read (text ∷ []) old new
   run_added text old new adds unread =
@@ -187,8 +179,8 @@ module _ {T : Type 0} (read : T → ℕ → List ℕ) where
           order = added_order old.kept new.kept adds.next unread.order;
           gone = subst (AllOf (IsGone new.kept)) (sym adds.same) (all_of_weaker (IsGone old.kept) (IsGone new.kept) old.merged (λ n gone. still_gone old.kept new.kept adds.next n gone) unread.gone);
           none = subst (All P) (sym left)
-              (All-append P (left_in old.kept) (made ∷ [])
-              (all_weaker (λ n. read old.texts n ≡ []) P (left_in old.kept) (λ n none. same n ∙ none) unread.none)
+              (All-append P (numbers_in old.kept) (made ∷ [])
+              (all_weaker (λ n. read old.texts n ≡ []) P (numbers_in old.kept) (λ n none. same n ∙ none) unread.none)
               (All-cons P made [] (same made ∙ unread.later made (omega arith)) (All-nil P)));
           later = λ n le. same n ∙ unread.later n (omega arith);
         };
@@ -202,6 +194,28 @@ module _ {T : Type 0} (read : T → ℕ → List ℕ) where
         };
         counts = λ rows agrees all kept. adds.added rows rows all (rows_in text) kept (last_rows rows text old new adds agrees, λ k lt. refl);
       }
+
+  -- what the texts had they have, and the rows of the run too
+  pub keeps_rows : (text : List ℕ) (old new : MergingRuns T) → AddsTexts read (text ∷ []) old new → KeepsRows (HasRuns read) old new (rows_in text)
+  keeps_rows text old new adds runs has =
+      let added = adds has.unread in
+      record { unread = added.unread; counts = λ rows agrees. added.counts rows agrees runs (has.counts rows (agrees_before rows old new added.goes agrees)) }
+
+  -- nothing was read or merged
+  pub new_unread : (kept : MergingRuns T) → AreInOrder kept.kept → kept.merged ≡ [] → ((n : ℕ) → read kept.texts n ≡ []) → AreUnread read kept
+  new_unread kept order none unread = record {
+    order = order;
+    gone = subst (AllOf (IsGone kept.kept)) (sym none) (All-nil (λ (v : Vec ℕ). All (IsGone kept.kept) v.items));
+    none = λ i d lt. unread (get_or (numbers_in kept.kept) i d);
+    later = λ n le. unread n;
+  }
+
+  -- no files, and no runs yet
+  pub no_runs : (kept : MergingRuns T) → AreUnread read kept → HasFiles kept.kept → length kept.kept.files.items ≡ 0 → HasRuns read kept []
+  no_runs kept unread files none = record {
+    unread = unread;
+    counts = λ rows agrees. subst (λ (l : List ℕ). HasKept kept.kept rows (map rows l)) (empty_of kept.kept.files.items none) (files rows);
+  }
 
   -- ---- a merge of texts that were taken
 
@@ -227,7 +241,7 @@ module _ {T : Type 0} (read : T → ℕ → List ℕ) where
           (subst (λ (m : ℕ). m ≤ get_or taken.items i d) (sym kinds.1) (runs.1 i d lt))
 
   -- what was written is the text of their merge
-  ends_of : (kind : SourceKind) (taken : List ℕ) (rows : ℕ → List (List ℕ × ℕ)) (later : ℕ → List ℕ) (bytes : List ℕ) (done : MergedText) → done.batch.numbers.items ≡ taken → IsNext kind later bytes End done
+  ends_of : (kind : SourceKind) (taken : List ℕ) (rows : ℕ → List (List ℕ × ℕ)) (later : ℕ → List ℕ) (bytes : List ℕ) (done : MergedText) → done.merge.numbers.items ≡ taken → IsNext kind later bytes End done
       → All (λ n. rows_of kind (later n) ≡ Some (rows n)) taken → EndsWith (map rows taken) bytes done
   ends_of kind taken rows later bytes done same next each =
       next.1.1 (map rows taken) (subst (λ (l : List ℕ). AreInputs (read_of kind later l) (λ i. []) (map rows taken)) (sym same) (are_inputs kind later rows taken each))
@@ -235,66 +249,66 @@ module _ {T : Type 0} (read : T → ℕ → List ℕ) where
   -- of a merge that is taken nothing was read
   taken_unread : (text : MergedText) (before old : MergingRuns T) → before.texts ≡ old.texts → (takes : TakesMerge text before.kept old.kept) → AreUnread read before → HasRead takes.0 (read old.texts) text []
   taken_unread text before old texts takes unread =
-      let taken = text.batch.numbers.items in
+      let taken = text.merge.numbers.items in
       let parts = parts_of takes.0 taken before.kept old.kept takes.2 in
-      let empty : All (λ n. read before.texts n ≡ []) taken = all_numbers (left_in before.kept) taken (left_in old.kept) (λ n. read before.texts n ≡ []) parts unread.none in
-      begins_read takes.0 (read old.texts) text takes.1 (unlike_numbers (left_in before.kept) taken (left_in old.kept) parts unread.order.unlike) (subst (λ (t : T). All (λ n. read t n ≡ []) taken) texts empty)
+      let empty : All (λ n. read before.texts n ≡ []) taken = all_numbers (numbers_in before.kept) taken (numbers_in old.kept) (λ n. read before.texts n ≡ []) parts unread.none in
+      begins_read takes.0 (read old.texts) text takes.1 (unlike_numbers (numbers_in before.kept) taken (numbers_in old.kept) parts unread.order.unlike) (subst (λ (t : T). All (λ n. read t n ≡ []) taken) texts empty)
 
   module _ (text done : MergedText) (bytes : List ℕ) (before old new : MergingRuns T) (later : T) (kind : SourceKind) where
     abbrev taken : List ℕ
-    taken = text.batch.numbers.items
+    taken = text.merge.numbers.items
 
     abbrev mid : MergingRuns T
-    mid = record old { texts = later; merged = old.merged ++ done.batch.numbers ∷ [] }
+    mid = record old { texts = later; merged = old.merged ++ done.merge.numbers ∷ [] }
 
     abbrev made : ℕ
     made = old.kept.next_number
 
-    module _ (how : TakesKind kind taken before.kept old.kept) (unread : AreUnread read before) (adds : AddsFile read bytes mid new) (numbers_same : done.batch.numbers ≡ text.batch.numbers) (merged_same : before.merged ≡ old.merged)
+    module _ (how : TakesKind kind taken before.kept old.kept) (unread : AreUnread read before) (adds : AddsFile read bytes mid new) (numbers_same : done.merge.numbers ≡ text.merge.numbers) (merged_same : before.merged ≡ old.merged)
         (only : (k : ℕ) → All (λ n. n ≢ k) taken → read new.texts k ≡ read before.texts k) where
-      parts : Parts (left_in before.kept) taken (left_in old.kept)
+      parts : Parts (numbers_in before.kept) taken (numbers_in old.kept)
       parts = parts_of kind taken before.kept old.kept how
 
-      left : left_in new.kept ≡ left_in old.kept ++ made ∷ []
+      left : numbers_in new.kept ≡ numbers_in old.kept ++ made ∷ []
       left = left_added old.kept new.kept adds.next
 
       same : made ≡ before.kept.next_number
       same = same_next kind taken before.kept old.kept how
 
       -- what was merged before, and what was merged now
-      merged_is : new.merged ≡ before.merged ++ text.batch.numbers ∷ []
+      merged_is : new.merged ≡ before.merged ++ text.merge.numbers ∷ []
       merged_is =
           adds.same
-          ∙ ap (λ (l : List (Vec ℕ)). l ++ done.batch.numbers ∷ []) (sym merged_same)
+          ∙ ap (λ (l : List (Vec ℕ)). l ++ done.merge.numbers ∷ []) (sym merged_same)
           ∙ ap (λ (v : Vec ℕ). before.merged ++ v ∷ []) numbers_same
 
       -- those that were taken are below the new one
       taken_below : All (λ n. n < before.kept.next_number) taken
-      taken_below = all_numbers (left_in before.kept) taken (left_in old.kept) (λ n. n < before.kept.next_number) parts unread.order.below
+      taken_below = all_numbers (numbers_in before.kept) taken (numbers_in old.kept) (λ n. n < before.kept.next_number) parts unread.order.below
 
       none_from : (k : ℕ) → before.kept.next_number ≤ k → All (λ n. n ≢ k) taken
       none_from k le = all_weaker (λ n. n < before.kept.next_number) (λ n. n ≢ k) taken (λ n lt is. absurd (omega arith)) taken_below
 
       -- what was gone is gone
       gone_on : (n : ℕ) → IsGone before.kept n → IsGone new.kept n
-      gone_on n gone = still_gone old.kept new.kept adds.next n (subst (λ (m : ℕ). n < m) (sym same) gone.0, all_others (left_in before.kept) taken (left_in old.kept) (λ k. k ≢ n) parts gone.1)
+      gone_on n gone = still_gone old.kept new.kept adds.next n (subst (λ (m : ℕ). n < m) (sym same) gone.0, all_others (numbers_in before.kept) taken (numbers_in old.kept) (λ k. k ≢ n) parts gone.1)
 
       gone_now : All (IsGone new.kept) taken
       gone_now i d lt =
           still_gone old.kept new.kept adds.next (get_or taken i d)
-          (subst (λ (m : ℕ). get_or taken i d < m) (sym same) (taken_below i d lt), taken_apart (left_in before.kept) taken (left_in old.kept) parts unread.order.unlike i lt d)
+          (subst (λ (m : ℕ). get_or taken i d < m) (sym same) (taken_below i d lt), taken_apart (numbers_in before.kept) taken (numbers_in old.kept) parts unread.order.unlike i lt d)
 
       merged_unread : AreUnread read new
       merged_unread =
           let P : ℕ → Type 0 = λ n. read new.texts n ≡ [] in
           let next : new.kept.next_number ≡ made + 1 = adds.next.next in
-          let was : All (λ n. read before.texts n ≡ []) (left_in old.kept) = all_others (left_in before.kept) taken (left_in old.kept) (λ n. read before.texts n ≡ []) parts unread.none in
+          let was : All (λ n. read before.texts n ≡ []) (numbers_in old.kept) = all_others (numbers_in before.kept) taken (numbers_in old.kept) (λ n. read before.texts n ≡ []) parts unread.none in
           record {
             order = added_order old.kept new.kept adds.next (taken_order kind taken before.kept old.kept how unread.order);
-            gone = all_of_push (IsGone new.kept) before.merged new.merged text.batch.numbers merged_is (all_of_weaker (IsGone before.kept) (IsGone new.kept) before.merged gone_on unread.gone) gone_now;
+            gone = all_of_push (IsGone new.kept) before.merged new.merged text.merge.numbers merged_is (all_of_weaker (IsGone before.kept) (IsGone new.kept) before.merged gone_on unread.gone) gone_now;
             none = subst (All P) (sym left)
-                (All-append P (left_in old.kept) (made ∷ [])
-                (λ i d lt. only (get_or (left_in old.kept) i d) (left_apart (left_in before.kept) taken (left_in old.kept) parts unread.order.unlike i lt d) ∙ was i d lt)
+                (All-append P (numbers_in old.kept) (made ∷ [])
+                (λ i d lt. only (get_or (numbers_in old.kept) i d) (left_apart (numbers_in before.kept) taken (numbers_in old.kept) parts unread.order.unlike i lt d) ∙ was i d lt)
                 (All-cons P made [] (only made (none_from made (omega (arith, same))) ∙ unread.later made (omega (arith, same))) (All-nil P)));
             later = λ n le. only n (none_from n (omega (arith, same, next))) ∙ unread.later n (omega (arith, same, next));
           }
@@ -306,8 +320,8 @@ module _ {T : Type 0} (read : T → ℕ → List ℕ) where
       merged_goes written = record {
         kinds = kinds_now;
         same = all_of_weaker (IsGone before.kept) (λ n. read new.texts n ≡ read before.texts n) before.merged
-            (λ n gone. only n (all_numbers (left_in before.kept) taken (left_in old.kept) (λ k. k ≢ n) parts gone.1)) unread.gone;
-        merges = text.batch.numbers ∷ [];
+            (λ n gone. only n (all_numbers (numbers_in before.kept) taken (numbers_in old.kept) (λ k. k ≢ n) parts gone.1)) unread.gone;
+        merges = text.merge.numbers ∷ [];
         merged = merged_is;
         more = adds.run ∷ [];
         written = adds.written ∙ ap (λ (l : List WrittenRun). l ++ adds.run ∷ []) (sym written);
@@ -316,7 +330,7 @@ module _ {T : Type 0} (read : T → ℕ → List ℕ) where
       merged_ends : IsNext kind (read later) bytes End done → (rows : ℕ → List (List ℕ × ℕ)) → AgreesWith read rows new → EndsWith (map rows taken) bytes done
       merged_ends next_is rows agrees =
           ends_of kind taken rows (read later) bytes done (ap (λ v. v.items) numbers_same) next_is
-          (kinds_rows kind text.batch.numbers before.kept old.kept rows before.merged new (read later) how unread.order kinds_now adds.reads merged_is agrees)
+          (kinds_rows kind text.merge.numbers before.kept old.kept rows before.merged new (read later) how unread.order kinds_now adds.reads merged_is agrees)
 
       -- the run has the rows of those that were taken
       merged_counts : IsNext kind (read later) bytes End done → WritesAsRun done → TakesThese taken before.kept old.kept
@@ -342,8 +356,8 @@ module _ {T : Type 0} (read : T → ℕ → List ℕ) where
 
   -- they were merged into a run, which was added
   module _ (text done : MergedText) (bytes : List ℕ) (old new : MergingRuns T) (later : T) (writes : WritesText read bytes old.texts text later done) (layout : KeepsLayout text done)
-      (adds : AddsFile read bytes (record old { texts = later; merged = old.merged ++ done.batch.numbers ∷ [] }) new) where
-    only_taken : (before : MergingRuns T) → before.texts ≡ old.texts → (takes : TakesMerge text before.kept old.kept) → AreUnread read before → (k : ℕ) → All (λ n. n ≢ k) text.batch.numbers.items → read new.texts k ≡ read before.texts k
+      (adds : AddsFile read bytes (record old { texts = later; merged = old.merged ++ done.merge.numbers ∷ [] }) new) where
+    only_taken : (before : MergingRuns T) → before.texts ≡ old.texts → (takes : TakesMerge text before.kept old.kept) → AreUnread read before → (k : ℕ) → All (λ n. n ≢ k) text.merge.numbers.items → read new.texts k ≡ read before.texts k
     only_taken before texts takes unread k none =
         ap (λ (f : ℕ → List ℕ). f k) adds.reads ∙ (writes takes.0 (taken_unread text before old texts takes unread)).2 k none ∙ ap (λ (t : T). read t k) (sym texts)
 
@@ -359,7 +373,7 @@ module _ {T : Type 0} (read : T → ℕ → List ℕ) where
         }
 
     -- the total is the number of all tokens
-    pub taken_totals : TotalsTaken read text old new done.batch.merger.total
+    pub taken_totals : TotalsTaken read text old new done.merge.merger.total
     taken_totals before texts written merged takes merges unread rows agrees all kept tokens counted =
         let wrote = writes takes.0 (taken_unread text before old texts takes unread) in
         let only = only_taken before texts takes unread in
@@ -370,14 +384,14 @@ module _ {T : Type 0} (read : T → ℕ → List ℕ) where
 
   -- it is what is written of all tokens
   module _ (layout : RowLayout) (text done : MergedText) (bytes : List ℕ) (old new : MergingRuns T) (takes : TakesMerge text old.kept new.kept) (writes : WritesText read bytes old.texts text new.texts done)
-      (merged : new.merged ≡ old.merged ++ done.batch.numbers ∷ []) (unread : AreUnread read old) where
+      (merged : new.merged ≡ old.merged ++ done.merge.numbers ∷ []) (unread : AreUnread read old) where
     abbrev numbers_taken : List ℕ
-    numbers_taken = text.batch.numbers.items
+    numbers_taken = text.merge.numbers.items
 
     has : HasRead takes.0 (read old.texts) text []
     has = taken_unread text old (record new { texts = old.texts }) refl takes unread
 
-    merged_now : new.merged ≡ old.merged ++ text.batch.numbers ∷ []
+    merged_now : new.merged ≡ old.merged ++ text.merge.numbers ∷ []
     merged_now = merged ∙ ap (λ (v : Vec ℕ). old.merged ++ v ∷ []) (writes takes.0 has).1
 
     shown_goes : new.written ≡ old.written → GoesOn read old new
@@ -386,8 +400,8 @@ module _ {T : Type 0} (read : T → ℕ → List ℕ) where
         record {
           kinds = same_kinds takes.0 numbers_taken old.kept new.kept takes.2;
           same = all_of_weaker (IsGone old.kept) (λ n. read new.texts n ≡ read old.texts n) old.merged
-              (λ n gone. (writes takes.0 has).2 n (all_numbers (left_in old.kept) numbers_taken (left_in new.kept) (λ k. k ≢ n) parts gone.1)) unread.gone;
-          merges = text.batch.numbers ∷ [];
+              (λ n gone. (writes takes.0 has).2 n (all_numbers (numbers_in old.kept) numbers_taken (numbers_in new.kept) (λ k. k ≢ n) parts gone.1)) unread.gone;
+          merges = text.merge.numbers ∷ [];
           merged = merged_now;
           more = [];
           written = written ∙ sym (append-nil old.written);
@@ -396,11 +410,11 @@ module _ {T : Type 0} (read : T → ℕ → List ℕ) where
     shown_ends : (rows : ℕ → List (List ℕ × ℕ)) → AgreesWith read rows new → EndsWith (map rows numbers_taken) bytes done
     shown_ends rows agrees =
         ends_of takes.0 numbers_taken rows (read new.texts) bytes done (ap (λ v. v.items) (writes takes.0 has).1) (writes takes.0 has).0
-        (kinds_rows takes.0 text.batch.numbers old.kept new.kept rows old.merged new (read new.texts) takes.2 unread.order (same_kinds takes.0 numbers_taken old.kept new.kept takes.2) refl merged_now agrees)
+        (kinds_rows takes.0 text.merge.numbers old.kept new.kept rows old.merged new (read new.texts) takes.2 unread.order (same_kinds takes.0 numbers_taken old.kept new.kept takes.2) refl merged_now agrees)
 
-  pub all_shown_text : (layout : RowLayout) (text done : MergedText) (bytes : List ℕ) (old new : MergingRuns T) → TakesMerge text old.kept new.kept → MergesAll text.batch.numbers.items old.kept → text.rows.choice ≡ layout.choice
+  pub all_shown_text : (layout : RowLayout) (text done : MergedText) (bytes : List ℕ) (old new : MergingRuns T) → TakesMerge text old.kept new.kept → MergesAll text.merge.numbers.items old.kept → text.rows.choice ≡ layout.choice
       → look_of text.rows.sink.format text.rows.choice.order text.bars ≡ look_in layout → KeepsLayout text done → WritesText read bytes old.texts text new.texts done → new.written ≡ old.written
-      → new.merged ≡ old.merged ++ done.batch.numbers ∷ [] → ShowsAll read layout old new bytes
+      → new.merged ≡ old.merged ++ done.merge.numbers ∷ [] → ShowsAll read layout old new bytes
   all_shown_text layout text done bytes old new takes merges choice look keeps writes written merged = (
     λ unread. shown_goes layout text done bytes old new takes writes merged unread written,
     λ unread rows agrees all kept tokens counted.
@@ -457,12 +471,31 @@ module _ {T : Type 0} (read : T → ℕ → List ℕ) where
   -- files were merged, all were laid out, and what was written is what is written of all tokens
   pub shows_tokens : (choice : Choice) (look : Look) (layout : RowLayout) (first middle laid last : MergingRuns T) (bytes : List ℕ) → Merges read first middle → LaysOut read choice look middle laid layout → ShowsAll read layout laid last bytes
       → ShowsTokens read choice look first last bytes
-  shows_tokens choice look layout first middle laid last bytes merges lays shows fits unread rows agrees all kept tokens counted =
-      let one = merges unread in
-      let two = lays.merges one.unread in
-      let three = shows.0 two.unread in
-      let agrees_laid = agrees_before rows laid last three agrees in
-      let kept_one : HasKept middle.kept rows all = subst (HasKept middle.kept rows) (append-nil all) (one.counts rows (agrees_before rows middle laid two.goes agrees_laid) all kept) in
-      let kept_two : HasKept laid.kept rows all = subst (HasKept laid.kept rows) (append-nil all) (two.counts rows agrees_laid all kept_one) in
-      lays.means one.unread rows agrees_laid all kept_one tokens counted bytes
-      (subst (λ (c : Choice). IsWritten c (look_in layout) tokens bytes) lays.same (shows.1 two.unread rows agrees all kept_two tokens counted))
+  shows_tokens choice look layout first middle laid last bytes merges lays shows fits = (
+    λ unread.
+        let one = merges unread in
+        let two = lays.merges one.unread in
+        goes_both first middle last one.goes (goes_both middle laid last two.goes (shows.0 two.unread)),
+    λ unread rows agrees all kept tokens counted.
+        let one = merges unread in
+        let two = lays.merges one.unread in
+        let three = shows.0 two.unread in
+        let agrees_laid = agrees_before rows laid last three agrees in
+        let kept_one : HasKept middle.kept rows all = subst (HasKept middle.kept rows) (append-nil all) (one.counts rows (agrees_before rows middle laid two.goes agrees_laid) all kept) in
+        let kept_two : HasKept laid.kept rows all = subst (HasKept laid.kept rows) (append-nil all) (two.counts rows agrees_laid all kept_one) in
+        lays.means one.unread rows agrees_laid all kept_one tokens counted bytes
+        (subst (λ (c : Choice). IsWritten c (look_in layout) tokens bytes) lays.same (shows.1 two.unread rows agrees all kept_two tokens counted)),
+  )
+
+  -- ---- runs by their rows
+
+  -- what was written is what is written of all tokens that the runs have
+  pub runs_shown : (choice : Choice) (look : Look) (old new : MergingRuns T) (bytes : List ℕ) → ShowsTokens read choice look old new bytes → ShowsRuns (HasRuns read) (IsFaithful read) choice look old new bytes
+  runs_shown choice look old new bytes shows fits (rows, agrees) runs kept tokens counts =
+      let shown = shows fits in
+      shown.1 kept.unread rows agrees runs (kept.counts rows (agrees_before rows old new (shown.0 kept.unread) agrees)) tokens counts
+
+  -- runs of which no text is kept have nothing
+  pub none_kept : (kept : MergingRuns T) → numbers_in kept.kept ≡ [] → IsFaithful read kept → HasNothing (HasRuns read) kept
+  none_kept kept none (rows, agrees) runs has_all text =
+      sym ((has_all.counts rows agrees).counts text) ∙ ap (λ (l : List ℕ). times_of rows text l + 0) none

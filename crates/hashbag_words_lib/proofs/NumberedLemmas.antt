@@ -3,7 +3,7 @@ use Rattle.std.proofs.Common.{◌≡◌, ◌≢◌, ◌⊎◌, inl, inr, ℕ, ze
 use Rattle.std.specs.Io.KnownBytes.{Appends}
 use Rattle.std.proofs.lemmas.Bool.{cases_eq}
 use Rattle.std.proofs.lemmas.List.{append-nil, get_or-map}
-use Rattle.hashbag_words_lib.specs.Batches.{IsWanted}
+use Rattle.hashbag_words_lib.specs.NumberedMerges.{IsWanted}
 use Rattle.hashbag_words_lib.specs.MergedTexts.{GivesText, HasGivenAndTaken, KeepsGivenAndTaken, KeepsLayout, PutsNext, TakesPart}
 use Rattle.hashbag_words_lib.specs.Numbered.{read_of, AreUnlike, HasRead, IsNext, ReadsText, Wanted}
 use Rattle.hashbag_words_lib.specs.declared.merged_text.MergedText.{MergedText}
@@ -55,9 +55,9 @@ nothing_read before after number bytes reads none k = at (cases_eq k number)
         (reads.0 ∙ ap (λ (l : List ℕ). before number ++ l) none ∙ append-nil (before number))
     at (inr other) = reads.1 k other
 
-module _ (number : ℕ) (before after : ℕ → List ℕ) (old new : MergedText) (same : new.batch.numbers ≡ old.batch.numbers) where
+module _ (number : ℕ) (before after : ℕ → List ℕ) (old new : MergedText) (same : new.merge.numbers ≡ old.merge.numbers) where
   abbrev numbers : List ℕ
-  numbers = old.batch.numbers.items
+  numbers = old.merge.numbers.items
 
   as_new : (kind : SourceKind) (taken : List ℕ) → AreUnlike numbers → HasGivenAndTaken (read_of kind after numbers) new taken → HasRead kind after new taken
   as_new kind taken unlike given = record {
@@ -68,7 +68,7 @@ module _ (number : ℕ) (before after : ℕ → List ℕ) (old new : MergedText)
   -- a block was read, and given
   pub read_block : (block : List ℕ) → ReadsText before after number block → GivesText block old new → Wanted number old → (kind : SourceKind) (taken : List ℕ) → HasRead kind before old taken → HasRead kind after new taken
   read_block block reads gives wanted kind taken has =
-      let at = old.batch.wanted in
+      let at = old.merge.wanted in
       let text : SourceKind × List ℕ = (kind, before number) in
       let here : text ≡ get_or (read_of kind before numbers) at text =
       ap (λ (n : ℕ). (kind, before n)) wanted.is ∙ sym (get_or-map (λ (n : ℕ). (kind, before n)) numbers at number text wanted.wanted.within) in
@@ -92,41 +92,41 @@ next_given given taken Part text next = next
 next_given given taken End text next = next.0
 
 pub next_read : (kind : SourceKind) (read : ℕ → List ℕ) (taken : List ℕ) (wants : Wants) (text : MergedText) → IsNext kind read taken wants text → HasRead kind read text taken
-next_read kind read taken wants text next = record { unlike = next.0; given = next_given (read_of kind read text.batch.numbers.items) taken wants text next.1 }
+next_read kind read taken wants text next = record { unlike = next.0; given = next_given (read_of kind read text.merge.numbers.items) taken wants text next.1 }
 
 -- the same text is wanted, if it is wanted
-pub still_wanted : (number : ℕ) (old new : MergedText) → new.batch.numbers ≡ old.batch.numbers → new.batch.wanted ≡ old.batch.wanted → new.is_over ≡ old.is_over → (IsWanted old.batch → IsWanted new.batch) → Wanted number old → Wanted number new
+pub still_wanted : (number : ℕ) (old new : MergedText) → new.merge.numbers ≡ old.merge.numbers → new.merge.wanted ≡ old.merge.wanted → new.is_over ≡ old.is_over → (IsWanted old.merge → IsWanted new.merge) → Wanted number old → Wanted number new
 still_wanted number old new same place over on wanted = record {
   going = over ∙ wanted.going;
   wanted = on wanted.wanted;
-  is = wanted.is ∙ ap (λ v. get_or v.items old.batch.wanted number) (sym same) ∙ ap (λ (i : ℕ). get_or new.batch.numbers.items i number) (sym place);
+  is = wanted.is ∙ ap (λ v. get_or v.items old.merge.wanted number) (sym same) ∙ ap (λ (i : ℕ). get_or new.merge.numbers.items i number) (sym place);
 }
 
 -- what is wanted next, where what was read was given
-pub read_next : (kind : SourceKind) (read : ℕ → List ℕ) (taken : List ℕ) (old new : MergedText) (wants : Wants) → new.batch.numbers ≡ old.batch.numbers
+pub read_next : (kind : SourceKind) (read : ℕ → List ℕ) (taken : List ℕ) (old new : MergedText) (wants : Wants) → new.merge.numbers ≡ old.merge.numbers
     → ((given : List (SourceKind × List ℕ)) → (taken : List ℕ) → HasGivenAndTaken given old taken → PutsNext given taken wants new) → HasRead kind read old taken → IsNext kind read taken wants new
 read_next kind read taken old new wants same next has = (
   subst (λ v. AreUnlike v.items) (sym same) has.unlike,
-  subst (λ v. PutsNext (read_of kind read v.items) taken wants new) (sym same) (next (read_of kind read old.batch.numbers.items) taken has.given),
+  subst (λ v. PutsNext (read_of kind read v.items) taken wants new) (sym same) (next (read_of kind read old.merge.numbers.items) taken has.given),
 )
 
 pub block_wanted : (kind : SourceKind) (read : ℕ → List ℕ) (taken : List ℕ) (number : ℕ) (text : MergedText) → IsNext kind read taken (Block number) text → Wanted number text
 block_wanted kind read taken number text next = record { going = next.1.1; wanted = next.1.2; is = next.1.3 }
 
 -- a text that isn't among these is not the one that is wanted
-pub other_wanted : (number k : ℕ) (text : MergedText) (xs : List ℕ) → text.batch.numbers.items ≡ xs → Wanted number text → All (λ n. n ≢ k) xs → k ≢ number
-other_wanted number k text xs same wanted none is = subst (All (λ n. n ≢ k)) (sym same) none text.batch.wanted number wanted.wanted.within (sym wanted.is ∙ sym is)
+pub other_wanted : (number k : ℕ) (text : MergedText) (xs : List ℕ) → text.merge.numbers.items ≡ xs → Wanted number text → All (λ n. n ≢ k) xs → k ≢ number
+other_wanted number k text xs same wanted none is = subst (All (λ n. n ≢ k)) (sym same) none text.merge.wanted number wanted.wanted.within (sym wanted.is ∙ sym is)
 
 -- what is shown and how is the same as before
 pub layout_both : (first middle last : MergedText) → KeepsLayout first middle → KeepsLayout middle last → KeepsLayout first last
 layout_both first middle last one two = (two.0 ∙ one.0, two.1 ∙ one.1, two.2 ∙ one.2)
 
 -- the part was taken
-pub take_read : (kind : SourceKind) (read : ℕ → List ℕ) (taken : List ℕ) (old new : MergedText) → TakesPart old new → new.batch.numbers ≡ old.batch.numbers → HasRead kind read old taken
+pub take_read : (kind : SourceKind) (read : ℕ → List ℕ) (taken : List ℕ) (old new : MergedText) → TakesPart old new → new.merge.numbers ≡ old.merge.numbers → HasRead kind read old taken
     → HasRead kind read new (taken ++ old.rows.sink.part.items)
 take_read kind read taken old new takes same has = record {
   unlike = subst (λ v. AreUnlike v.items) (sym same) has.unlike;
-  given = subst (λ v. HasGivenAndTaken (read_of kind read v.items) new (taken ++ old.rows.sink.part.items)) (sym same) (takes (read_of kind read old.batch.numbers.items) taken has.given);
+  given = subst (λ v. HasGivenAndTaken (read_of kind read v.items) new (taken ++ old.rows.sink.part.items)) (sym same) (takes (read_of kind read old.merge.numbers.items) taken has.given);
 }
 
 -- ---- what is written

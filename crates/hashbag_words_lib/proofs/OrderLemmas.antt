@@ -1,10 +1,10 @@
 -- Numbers of texts that are kept, taken and added.
 use Rattle.std.proofs.Common.{◌≡◌, ◌≢◌, ◌⊎◌, inl, inr, ℕ, ◌+◌, ◌<◌, ◌≤◌, List, [], ◌∷◌, ◌++◌, length, get_or, All, refl, sym, ◌∙◌, ap, subst, arith, append_assoc, length-append}
 use Rattle.std.proofs.lemmas.Bool.{cases_eq}
-use Rattle.std.proofs.lemmas.List.{append-nil, get_or_append_left, get_or_default, get_or-append-add}
+use Rattle.std.proofs.lemmas.List.{get_or_append_left, get_or_default, get_or-append-add}
 use Rattle.std.proofs.lemmas.List.Elements.{All-nil, All-append, All-cons}
 use Rattle.std.proofs.Math.Seq.{get_or-append_seam}
-use Rattle.hashbag_words_lib.specs.KeptRuns.{left_in, AddsNumber, AreInOrder, KeepsKinds, TakesFiles, TakesKind, TakesRuns}
+use Rattle.hashbag_words_lib.specs.KeptRuns.{numbers_in, AddsNumber, AreInOrder, KeepsKinds, TakesKind}
 use Rattle.hashbag_words_lib.specs.Levels.{runs_in}
 use Rattle.hashbag_words_lib.specs.Numbered.{AreUnlike}
 use Rattle.hashbag_words_lib.specs.declared.kept_runs.KeptRuns.{KeptRuns}
@@ -101,7 +101,7 @@ module _ (whole numbers left : List ℕ) where
 -- ---- what is kept
 
 module _ (kind : SourceKind) (numbers : List ℕ) (old new : KeptRuns) where
-  pub parts_of : TakesKind kind numbers old new → Parts (left_in old) numbers (left_in new)
+  pub parts_of : TakesKind kind numbers old new → Parts (numbers_in old) numbers (numbers_in new)
   parts_of (inl files) =
       inl (ap (λ (l : List ℕ). l ++ runs_in old.kept) files.1.files
       ∙ ap (λ (l : List ℕ). (numbers ++ new.files.items) ++ l) (sym files.1.runs)
@@ -140,10 +140,10 @@ module _ (kind : SourceKind) (numbers : List ℕ) (old new : KeptRuns) where
       let next : new.next_number ≡ old.next_number = same_next takes in
       let below : old.first_run ≤ old.next_number = order.later in
       record {
-        unlike = unlike_others (left_in old) numbers (left_in new) parts order.unlike;
+        unlike = unlike_others (numbers_in old) numbers (numbers_in new) parts order.unlike;
         files = subst (λ (m : ℕ). All (λ n. n < m) new.files.items) (sym first) (others_files takes order.files);
         runs = subst (λ (m : ℕ). All (λ n. m ≤ n) (runs_in new.kept)) (sym first) (others_runs takes order.runs);
-        below = subst (λ (m : ℕ). All (λ n. n < m) (left_in new)) (sym next) (all_others (left_in old) numbers (left_in new) (λ n. n < old.next_number) parts order.below);
+        below = subst (λ (m : ℕ). All (λ n. n < m) (numbers_in new)) (sym next) (all_others (numbers_in old) numbers (numbers_in new) (λ n. n < old.next_number) parts order.below);
         later = omega arith;
       }
 
@@ -151,7 +151,7 @@ module _ (old new : KeptRuns) (adds : AddsNumber old new) where
   abbrev made : ℕ
   made = old.next_number
 
-  pub left_added : left_in new ≡ left_in old ++ made ∷ []
+  pub left_added : numbers_in new ≡ numbers_in old ++ made ∷ []
   left_added =
       ap (λ (l : List ℕ). l ++ runs_in new.kept) adds.files
       ∙ ap (λ (l : List ℕ). old.files.items ++ l) adds.runs
@@ -165,20 +165,20 @@ module _ (old new : KeptRuns) (adds : AddsNumber old new) where
       let below : old.first_run ≤ made = order.later in
       record {
         unlike = subst AreUnlike (sym left_added)
-            (unlike_push (left_in old) made order.unlike (all_weaker (λ n. n < made) (λ k. k ≢ made) (left_in old) (λ n lt is. absurd (omega arith)) order.below));
+            (unlike_push (numbers_in old) made order.unlike (all_weaker (λ n. n < made) (λ k. k ≢ made) (numbers_in old) (λ n lt is. absurd (omega arith)) order.below));
         files = subst (λ (l : List ℕ). All (λ n. n < new.first_run) l) (sym adds.files) (subst (λ (m : ℕ). All (λ n. n < m) old.files.items) (sym first) order.files);
         runs = subst (λ (l : List ℕ). All (λ n. new.first_run ≤ n) l) (sym adds.runs)
             (subst (λ (m : ℕ). All (λ n. m ≤ n) (runs_in old.kept ++ made ∷ [])) (sym first)
             (All-append (λ n. old.first_run ≤ n) (runs_in old.kept) (made ∷ []) order.runs (All-cons (λ n. old.first_run ≤ n) made [] below (All-nil (λ n. old.first_run ≤ n)))));
         below = subst (λ (l : List ℕ). All (λ n. n < new.next_number) l) (sym left_added)
-            (All-append (λ n. n < new.next_number) (left_in old) (made ∷ [])
-            (all_weaker (λ n. n < made) (λ n. n < new.next_number) (left_in old) (λ n lt. omega arith) order.below)
+            (All-append (λ n. n < new.next_number) (numbers_in old) (made ∷ [])
+            (all_weaker (λ n. n < made) (λ n. n < new.next_number) (numbers_in old) (λ n lt. omega arith) order.below)
             (All-cons (λ n. n < new.next_number) made [] (omega arith) (All-nil (λ n. n < new.next_number))));
         later = omega arith;
       }
 
 -- if nothing is left, no file is
-pub first_none : (kept : KeptRuns) → left_in kept ≡ [] → kept.files.items ≡ []
+pub first_none : (kept : KeptRuns) → numbers_in kept ≡ [] → kept.files.items ≡ []
 first_none kept none = at kept.files.items (runs_in kept.kept) none
   where
     at : (xs ys : List ℕ) → xs ++ ys ≡ [] → xs ≡ []

@@ -8,7 +8,6 @@ use Rattle.std.proofs.lemmas.List.Sorted.{IsPermutation-map, sum_by-IsPermutatio
 use Rattle.std.proofs.lemmas.List.Sums.{sum_by-append, sum_by-cons}
 use Rattle.std.proofs.lemmas.Map.Keys.{IsDistinct-IsPermutation}
 use Rattle.hashbag.specs.Bag.{occurrences}
-use Rattle.hashbag.specs.Occurrences.{count}
 use Rattle.hashbag_core.proofs.WalkLemmas.{length_occurrences}
 use Rattle.hashbag_ops.proofs.Lengths.{same_length}
 use Rattle.hashbag_ops.proofs.Ranked.{ranked_from_rising}

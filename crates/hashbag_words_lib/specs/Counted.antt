@@ -95,8 +95,8 @@ CountsWholeText old new =
     (before : List (List ℕ)) → (runs : List (List (List ℕ × ℕ))) → (text : List ℕ) → HasCounted before runs old text → HasEnded old.rule before runs new text
 
 -- the tokens of the text now belong to `before`, and another text begins
-abbrev pub EndsText : {S H : Type 0} → TextCounter S H → TextCounter S H → Type 0
-EndsText old new =
+abbrev pub EndsWholeText : {S H : Type 0} → TextCounter S H → TextCounter S H → Type 0
+EndsWholeText old new =
     (before : List (List ℕ)) → (runs : List (List (List ℕ × ℕ))) → (text : List ℕ) → HasCounted before runs old text → HasCounted (before ++ tokens_of old.rule text) runs new []
 
 -- `reading` says how the lines of the text were read

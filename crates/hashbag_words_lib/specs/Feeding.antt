@@ -1,19 +1,26 @@
 -- What a counter has of texts that are fed in blocks, together with the runs that were kept of its bag.
-use Rattle.std.specs.Prelude.{◌≡◌, ℕ, List, [], ◌∷◌, ◌++◌, flat_map, map, Option, None, Some}
+use mathlib.Core.Logic.{inl, inr}
+use Rattle.std.specs.Prelude.{◌≡◌, ◌⊎◌, ℕ, List, [], ◌∷◌, ◌++◌, flat_map, sum_by, Option, None, Some}
 use Rattle.hashbag_words_lib.specs.Added.{AreRowsOf, HasAdded}
 use Rattle.hashbag_words_lib.specs.Counted.{HasCounted}
-use Rattle.hashbag_words_lib.specs.Runs.{run_text}
+use Rattle.hashbag_words_lib.specs.Sorted.{times_in}
 use Rattle.hashbag_words_lib.specs.Tokens.{tokens_of}
 use Rattle.hashbag_words_lib.specs.declared.counter.TextCounter.{TextCounter}
 use Rattle.hashbag_words_lib.specs.declared.lines.BadLines.{BadLines}
 use Rattle.hashbag_words_lib.specs.declared.row_counter.RowCounter.{RowCounter}
 use Rattle.hashbag_words_lib.specs.declared.rows.RowForm.{RowForm}
+use Rattle.hashbag_words_lib.specs.declared.rule.Rule.{Rule}
+
+-- how texts are counted: by a rule; or as files of counts, whose lines have this form
+abbrev pub How : Type 0
+How = Rule ⊎ (RowForm × BadLines)
 
 -- ---- what a counter and runs have: of texts that ended, and of one that has begun
 
 -- the counter and these runs have the tokens of all these texts
-abbrev pub HasCountedTexts : {S H : Type 0} → TextCounter S H → List (List (List ℕ × ℕ)) → List (List ℕ) → List ℕ → Type 0
-HasCountedTexts counter runs texts text = HasCounted (flat_map (tokens_of counter.rule) texts) runs counter text
+abbrev pub HasCountedTexts : {S H : Type 0} → How → TextCounter S H → List (List (List ℕ × ℕ)) → List (List ℕ) → List ℕ → Type 0
+HasCountedTexts (inl rule) counter runs texts text = (counter.rule ≡ rule) × HasCounted (flat_map (tokens_of rule) texts) runs counter text
+HasCountedTexts (inr lines) counter runs texts text = ⊥
 
 -- these are the rows of whole files, in turn
 abbrev pub AreRowsOfAll : RowForm → BadLines → List (List ℕ) → List (List ℕ × ℕ) → Type 0
@@ -22,71 +29,78 @@ AreRowsOfAll form bad_lines (text ∷ texts) rows =
     (first : List (List ℕ × ℕ)) × (later : List (List ℕ × ℕ)) × AreRowsOf form bad_lines text first × AreRowsOfAll form bad_lines texts later × (rows ≡ first ++ later)
 
 -- the counter and these runs have the rows of all these texts
-abbrev pub HasAddedTexts : {S H : Type 0} → RowCounter S H → List (List (List ℕ × ℕ)) → List (List ℕ) → List ℕ → Type 0
-HasAddedTexts counter runs texts text =
-    (rows : List (List ℕ × ℕ)) × AreRowsOfAll counter.form counter.reading.bad_lines texts rows × HasAdded rows runs counter text
+pub record HasAddedRows {S H : Type 0} (form : RowForm) (bad_lines : BadLines) (counter : RowCounter S H) (runs : List (List (List ℕ × ℕ))) (texts : List (List ℕ)) (text : List ℕ) : Type 0 where
+  pub same_form : counter.form ≡ form
+  pub same_lines : counter.reading.bad_lines ≡ bad_lines
+  pub rows : List (List ℕ × ℕ)
+  pub are : AreRowsOfAll form bad_lines texts rows
+  pub added : HasAdded rows runs counter text
 
--- the texts of the runs that were kept; none, if none are
-abbrev pub kept_by : {R : Type 0} → (R → List (List ℕ)) → Option R → List (List ℕ)
-kept_by kept None = []
-kept_by kept (Some runs) = kept runs
+abbrev pub HasAddedTexts : {S H : Type 0} → How → RowCounter S H → List (List (List ℕ × ℕ)) → List (List ℕ) → List ℕ → Type 0
+HasAddedTexts (inl rule) counter runs texts text = ⊥
+HasAddedTexts (inr lines) counter runs texts text = HasAddedRows lines.0 lines.1 counter runs texts text
 
 -- ---- what a call changes: it holds of whatever runs were made, whatever texts ended, and whatever text has begun. `has` says what a counter has
 
-module _ {C : Type 0} (has : C → List (List (List ℕ × ℕ)) → List (List ℕ) → List ℕ → Type 0) where
+module _ {C : Type 0} (has : How → C → List (List (List ℕ × ℕ)) → List (List ℕ) → List ℕ → Type 0) where
   -- the new counter has what the old one had
   abbrev pub HasStill : C → C → Type 0
   HasStill old new =
-      (runs : List (List (List ℕ × ℕ))) → (texts : List (List ℕ)) → (text : List ℕ) → has old runs texts text → has new runs texts text
+      (how : How) → (runs : List (List (List ℕ × ℕ))) → (texts : List (List ℕ)) → (text : List ℕ) → has how old runs texts text → has how new runs texts text
 
   -- the new counter has these bytes of the text too
   abbrev pub HasAlso : C → C → List ℕ → Type 0
   HasAlso old new bytes =
-      (runs : List (List (List ℕ × ℕ))) → (texts : List (List ℕ)) → (text : List ℕ) → has old runs texts text → has new runs texts (text ++ bytes)
+      (how : How) → (runs : List (List (List ℕ × ℕ))) → (texts : List (List ℕ)) → (text : List ℕ) → has how old runs texts text → has how new runs texts (text ++ bytes)
 
   -- the new counter has the text among those that ended, and none has begun
   abbrev pub EndsText : C → C → Type 0
   EndsText old new =
-      (runs : List (List (List ℕ × ℕ))) → (texts : List (List ℕ)) → (text : List ℕ) → has old runs texts text → has new runs (texts ++ text ∷ []) []
+      (how : How) → (runs : List (List (List ℕ × ℕ))) → (texts : List (List ℕ)) → (text : List ℕ) → has how old runs texts text → has how new runs (texts ++ text ∷ []) []
 
   -- the new counter and a run of these rows have what the old counter had
   abbrev pub KeepsRun : C → C → List (List ℕ × ℕ) → Type 0
   KeepsRun old new rows =
-      (runs : List (List (List ℕ × ℕ))) → (texts : List (List ℕ)) → (text : List ℕ) → has old runs texts text → has new (runs ++ rows ∷ []) texts text
+      (how : How) → (runs : List (List (List ℕ × ℕ))) → (texts : List (List ℕ)) → (text : List ℕ) → has how old runs texts text → has how new (runs ++ rows ∷ []) texts text
 
-  module _ (old new : C) (before after : List (List ℕ)) where
-    -- runs were made of what the counter had, and all were kept, in order
-    pub record MakesRuns : Type 0 where
-      pub made : List (List (List ℕ × ℕ))
-      pub kept : after ≡ before ++ map run_text made
-      pub counts : (runs : List (List (List ℕ × ℕ))) → (texts : List (List ℕ)) → (text : List ℕ) → has old runs texts text → has new (runs ++ made) texts text
+-- ---- the runs that were kept. `kept` says of runs, each as its rows, that they were kept
 
-    -- the counter was fed these bytes of the text, and the runs that were made meanwhile were kept
-    pub record Feeds (bytes : List ℕ) : Type 0 where
-      pub made : List (List (List ℕ × ℕ))
-      pub kept : after ≡ before ++ map run_text made
-      pub counts : (runs : List (List (List ℕ × ℕ))) → (texts : List (List ℕ)) → (text : List ℕ) → has old runs texts text → has new (runs ++ made) texts (text ++ bytes)
+module _ {R : Type 0} (kept : R → List (List (List ℕ × ℕ)) → Type 0) where
+  -- these runs were kept; none, if nothing keeps runs
+  abbrev pub AreKeptIn : Option R → List (List (List ℕ × ℕ)) → Type 0
+  AreKeptIn None runs = runs ≡ []
+  AreKeptIn (Some keeper) runs = kept keeper runs
 
-    -- the text was ended, and the runs that were made meanwhile were kept
-    pub record Ends : Type 0 where
-      pub made : List (List (List ℕ × ℕ))
-      pub kept : after ≡ before ++ map run_text made
-      pub counts : (runs : List (List (List ℕ × ℕ))) → (texts : List (List ℕ)) → (text : List ℕ) → has old runs texts text → has new (runs ++ made) (texts ++ text ∷ []) []
+  -- the runs that were kept have no rows
+  abbrev pub HasNothing : R → Type 0
+  HasNothing keeper = (runs : List (List (List ℕ × ℕ))) → kept keeper runs → (text : List ℕ) → sum_by (times_in text) runs ≡ 0
 
-    -- the counter was fed these texts from their beginnings to their ends, and the runs that were made meanwhile were kept
-    pub record CountsTexts (more : List (List ℕ)) : Type 0 where
-      pub made : List (List (List ℕ × ℕ))
-      pub kept : after ≡ before ++ map run_text made
-      pub counts : (runs : List (List (List ℕ × ℕ))) → (texts : List (List ℕ)) → has old runs texts [] → has new (runs ++ made) (texts ++ more) []
+  -- a run of these rows was kept too
+  abbrev pub KeepsRows : R → R → List (List ℕ × ℕ) → Type 0
+  KeepsRows old new rows = (runs : List (List (List ℕ × ℕ))) → kept old runs → kept new (runs ++ rows ∷ [])
 
--- ---- the same of a counter and of what keeps its runs, if something does. `kept` says which texts it kept
+-- ---- a counter and what keeps its runs, if something does, together: how runs were cut doesn't matter
 
-module _ {C R : Type 0} (has : C → List (List (List ℕ × ℕ)) → List (List ℕ) → List ℕ → Type 0) (kept : R → List (List ℕ)) (old new : C) (runs runs' : Option R) where
-  abbrev pub MakesRunsIn : Type 0
-  MakesRunsIn = MakesRuns has old new (kept_by kept runs) (kept_by kept runs')
+module _ {C R : Type 0} (has : How → C → List (List (List ℕ × ℕ)) → List (List ℕ) → List ℕ → Type 0) (kept : R → List (List (List ℕ × ℕ)) → Type 0) where
+  -- the counter and the runs that were kept have together what is counted of these texts
+  pub record HaveCounted (how : How) (counter : C) (keeper : Option R) (texts : List (List ℕ)) (text : List ℕ) : Type 0 where
+    pub runs : List (List (List ℕ × ℕ))
+    pub are_kept : AreKeptIn kept keeper runs
+    pub counted : has how counter runs texts text
 
-  abbrev pub FeedsIn : List ℕ → Type 0
-  FeedsIn bytes = Feeds has old new (kept_by kept runs) (kept_by kept runs') bytes
+  module _ (old new : C) (keeper keeper' : Option R) where
+    -- what they had together they have together
+    abbrev pub HaveStill : Type 0
+    HaveStill = (how : How) → (texts : List (List ℕ)) → (text : List ℕ) → HaveCounted how old keeper texts text → HaveCounted how new keeper' texts text
 
-  abbrev pub EndsIn : Type 0
-  EndsIn = Ends has old new (kept_by kept runs) (kept_by kept runs')
+    -- they have these bytes of the text too
+    abbrev pub Feeds : List ℕ → Type 0
+    Feeds bytes = (how : How) → (texts : List (List ℕ)) → (text : List ℕ) → HaveCounted how old keeper texts text → HaveCounted how new keeper' texts (text ++ bytes)
+
+    -- they have the text among those that ended, and none has begun
+    abbrev pub Ends : Type 0
+    Ends = (how : How) → (texts : List (List ℕ)) → (text : List ℕ) → HaveCounted how old keeper texts text → HaveCounted how new keeper' (texts ++ text ∷ []) []
+
+    -- they have all of these texts too, from their beginnings to their ends
+    abbrev pub CountsTexts : List (List ℕ) → Type 0
+    CountsTexts more = (how : How) → (texts : List (List ℕ)) → HaveCounted how old keeper texts [] → HaveCounted how new keeper' (texts ++ more) []

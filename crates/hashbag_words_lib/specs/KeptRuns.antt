@@ -11,8 +11,8 @@ use Rattle.hashbag_words_lib.specs.declared.row_source.SourceKind.{SourceKind}
 use Rattle.hashbag_words_lib.specs.declared.row_source.SourceKind.TheVariants.{Run}
 
 -- the numbers of the files and runs that weren't taken
-abbrev pub left_in : KeptRuns → List ℕ
-left_in kept = kept.files.items ++ runs_in kept.kept
+abbrev pub numbers_in : KeptRuns → List ℕ
+numbers_in kept = kept.files.items ++ runs_in kept.kept
 
 -- what the rows of these numbers count of a text
 abbrev pub times_of : (ℕ → List (List ℕ × ℕ)) → List ℕ → List ℕ → ℕ
@@ -26,7 +26,7 @@ pub record AreKept (taken left : List ℕ) (next : ℕ) (rows : ℕ → List (Li
 
 -- those that weren't taken, and those of the numbers `taken`, have all that was fed
 abbrev pub HasKeptWith : List ℕ → KeptRuns → (ℕ → List (List ℕ × ℕ)) → List (List (List ℕ × ℕ)) → Type 0
-HasKeptWith taken kept rows fed = AreKept taken (left_in kept) kept.next_number rows fed
+HasKeptWith taken kept rows fed = AreKept taken (numbers_in kept) kept.next_number rows fed
 
 -- the same if none are taken
 abbrev pub HasKept : KeptRuns → (ℕ → List (List ℕ × ℕ)) → List (List (List ℕ × ℕ)) → Type 0
@@ -60,16 +60,16 @@ TakesThese taken old new = (rows : ℕ → List (List ℕ × ℕ)) → (fed : Li
 abbrev pub TakesTexts : Option MergedText → KeptRuns → KeptRuns → Type 0
 TakesTexts full old new =
     (rows : ℕ → List (List ℕ × ℕ)) → (fed : List (List (List ℕ × ℕ))) → HasKept old rows fed
-    → MatchOption full (HasKept new rows fed) (λ text. HasKeptWith text.batch.numbers.items new rows fed)
+    → MatchOption full (HasKept new rows fed) (λ text. HasKeptWith text.merge.numbers.items new rows fed)
 
 -- ---- the numbers themselves
 
 -- no number is twice among those that weren't taken; first come those of files, then those of runs, and all are below the next one
 pub record AreInOrder (kept : KeptRuns) : Type 0 where
-  pub unlike : AreUnlike (left_in kept)
+  pub unlike : AreUnlike (numbers_in kept)
   pub files : All (λ n. n < kept.first_run) kept.files.items
   pub runs : All (λ n. kept.first_run ≤ n) (runs_in kept.kept)
-  pub below : All (λ n. n < kept.next_number) (left_in kept)
+  pub below : All (λ n. n < kept.next_number) (numbers_in kept)
   pub later : kept.first_run ≤ kept.next_number
 
 -- what the files are is the same, and the number of the first run
@@ -103,7 +103,7 @@ TakesKind kind numbers old new = ((kind ≡ old.kind) × TakesFiles numbers old 
 
 -- the texts of this merge were taken, and nothing was given of them
 abbrev pub TakesMerge : MergedText → KeptRuns → KeptRuns → Type 0
-TakesMerge text old new = (kind : SourceKind) × BeginsOf kind text × TakesKind kind text.batch.numbers.items old new
+TakesMerge text old new = (kind : SourceKind) × BeginsOf kind text × TakesKind kind text.merge.numbers.items old new
 
 -- the texts of this merge were taken, if there is one; else none was
 abbrev pub TakesOneMerge : Option MergedText → KeptRuns → KeptRuns → Type 0

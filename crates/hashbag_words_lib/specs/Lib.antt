@@ -1,6 +1,6 @@
 pub mod Added
 pub mod Bars
-pub mod Batches
+pub mod NumberedMerges
 pub mod BlockReaders
 pub mod Choice
 pub mod Columns
@@ -11,6 +11,7 @@ pub mod Faults
 pub mod Feeding
 pub mod Fields
 pub mod Inputs
+pub mod Jobs
 pub mod KeptRuns
 pub mod Levels
 pub mod LineEnds

@@ -1,7 +1,7 @@
 -- What of the text of a merge was built so far.
 use Rattle.std.specs.Prelude.{◌≡◌, ℕ, Bool, true, false, List, [], ◌∷◌, ◌++◌, filter, map, slice_index_or, slice_set, Option, None, Some}
 use Rattle.hashbag_words_lib.specs.Bars.{bars_text}
-use Rattle.hashbag_words_lib.specs.Batches.{HasTaken, IsWanted}
+use Rattle.hashbag_words_lib.specs.NumberedMerges.{HasTaken, IsWanted}
 use Rattle.hashbag_words_lib.specs.Choice.{shows}
 use Rattle.hashbag_words_lib.specs.Merged.{AreInputs, IsWhole}
 use Rattle.hashbag_words_lib.specs.RowParts.{HasBuilt}
@@ -9,7 +9,7 @@ use Rattle.hashbag_words_lib.specs.Shown.{WritesTogether}
 use Rattle.hashbag_words_lib.specs.Sorted.{IsMergeOf}
 use Rattle.hashbag_words_lib.specs.Top.{most_common, KeepsTop}
 use Rattle.hashbag_words_lib.specs.Writing.{head_text, text_of}
-use Rattle.hashbag_words_lib.specs.declared.batch.Batch.{Batch}
+use Rattle.hashbag_words_lib.specs.declared.numbered_merge.NumberedMerge.{NumberedMerge}
 use Rattle.hashbag_words_lib.specs.declared.choice.Choice.{Choice}
 use Rattle.hashbag_words_lib.specs.declared.choice.Order.{Order}
 use Rattle.hashbag_words_lib.specs.declared.choice.Order.TheVariants.{Ascending, Unordered, MostCommon}
@@ -78,24 +78,24 @@ HaveCome choice (Some top) parts rows taken =
 
 -- these texts were given so far, and these bytes were taken. Until the end is built, the rows that are merged so far have come (`built`). After that,
 -- the bytes and the part behind them are the text of the whole merge (`over`)
-pub record ArePut (given : List (SourceKind × List ℕ)) (batch : Batch) (choice : Choice) (top : Option (ShownRows TopRows)) (bars : Option ℕ) (parts : RowParts) (is_over : Bool) (taken : List ℕ) : Type 0 where
+pub record ArePut (given : List (SourceKind × List ℕ)) (merge : NumberedMerge) (choice : Choice) (top : Option (ShownRows TopRows)) (bars : Option ℕ) (parts : RowParts) (is_over : Bool) (taken : List ℕ) : Type 0 where
   pub out : List (List ℕ × ℕ)
-  pub merged : HasTaken given batch out
+  pub merged : HasTaken given merge out
   pub begun : BeginsAs (look_of parts.format choice.order bars) parts.format
   pub built : is_over ≡ false → HaveCome choice top parts out taken
-  pub over : is_over ≡ true → IsWhole given batch.merger out × (taken ++ parts.part.items ≡ whole_text parts.format choice.order bars (shown_in choice out))
+  pub over : is_over ≡ true → IsWhole given merge.merger out × (taken ++ parts.part.items ≡ whole_text parts.format choice.order bars (shown_in choice out))
 
 -- the same of a text
 abbrev pub HasGivenAndTaken : List (SourceKind × List ℕ) → MergedText → List ℕ → Type 0
-HasGivenAndTaken given text taken = ArePut given text.batch text.rows.choice text.top text.bars text.rows.sink text.is_over taken
+HasGivenAndTaken given text taken = ArePut given text.merge text.rows.choice text.top text.bars text.rows.sink text.is_over taken
 
 -- it is the merge of texts of this kind, of which nothing was given
 abbrev pub BeginsOf : SourceKind → MergedText → Type 0
-BeginsOf kind text = HasGivenAndTaken (map (λ n. (kind, [])) text.batch.numbers.items) text []
+BeginsOf kind text = HasGivenAndTaken (map (λ n. (kind, [])) text.merge.numbers.items) text []
 
--- the batch, the choice, the format and the columns for bars are the same
-abbrev pub KeepsBatchAndLayout : MergedText → MergedText → Type 0
-KeepsBatchAndLayout old new = (new.batch ≡ old.batch) × (new.rows.choice ≡ old.rows.choice) × (new.rows.sink.format ≡ old.rows.sink.format) × (new.bars ≡ old.bars)
+-- the merge, the choice, the format and the columns for bars are the same
+abbrev pub KeepsMergeAndLayout : MergedText → MergedText → Type 0
+KeepsMergeAndLayout old new = (new.merge ≡ old.merge) × (new.rows.choice ≡ old.rows.choice) × (new.rows.sink.format ≡ old.rows.sink.format) × (new.bars ≡ old.bars)
 
 -- what is shown, and how it is written, is the same
 abbrev pub KeepsLayout : MergedText → MergedText → Type 0
@@ -123,12 +123,12 @@ pub record IsMergedText (choice : Choice) (format : Format) (bars : Option ℕ) 
 abbrev pub EndsWith : List (List (List ℕ × ℕ)) → List ℕ → MergedText → Type 0
 EndsWith inputs bytes text =
     IsMergedText text.rows.choice text.rows.sink.format text.bars inputs bytes
-    × WritesTogether text.rows.choice (look_of text.rows.sink.format text.rows.choice.order text.bars) inputs text.batch.merger.total bytes
+    × WritesTogether text.rows.choice (look_of text.rows.sink.format text.rows.choice.order text.bars) inputs text.merge.merger.total bytes
 
 -- what is wanted next: bytes of a text; or that the part is taken; or nothing, and what was taken is the text of the merge of all texts as they were
 -- given: what is written of the tokens that they count
 abbrev pub PutsNext : List (SourceKind × List ℕ) → List ℕ → Wants → MergedText → Type 0
-PutsNext given taken (Block number) new = HasGivenAndTaken given new taken × (new.is_over ≡ false) × IsWanted new.batch × (number ≡ slice_index_or new.batch.numbers.items new.batch.wanted number)
+PutsNext given taken (Block number) new = HasGivenAndTaken given new taken × (new.is_over ≡ false) × IsWanted new.merge × (number ≡ slice_index_or new.merge.numbers.items new.merge.wanted number)
 PutsNext given taken Part new = HasGivenAndTaken given new taken
 PutsNext given taken End new =
     HasGivenAndTaken given new taken × ((inputs : List (List (List ℕ × ℕ))) → AreInputs given (λ i. []) inputs → EndsWith inputs taken new)
@@ -141,14 +141,14 @@ WantsNext old wants new =
 -- the wanted text was given these bytes more, and no other text was given any
 abbrev pub GivesText : List ℕ → MergedText → MergedText → Type 0
 GivesText block old new =
-    IsWanted old.batch → old.is_over ≡ false → (given : List (SourceKind × List ℕ)) → (taken : List ℕ) → HasGivenAndTaken given old taken
-    → (text : SourceKind × List ℕ) → text ≡ slice_index_or given old.batch.wanted text
-    → HasGivenAndTaken (slice_set given old.batch.wanted (text.0, text.1 ++ block)) new taken
+    IsWanted old.merge → old.is_over ≡ false → (given : List (SourceKind × List ℕ)) → (taken : List ℕ) → HasGivenAndTaken given old taken
+    → (text : SourceKind × List ℕ) → text ≡ slice_index_or given old.merge.wanted text
+    → HasGivenAndTaken (slice_set given old.merge.wanted (text.0, text.1 ++ block)) new taken
 
 -- before the end, what was given and taken is unchanged
 abbrev pub KeepsGivenAndTaken : MergedText → MergedText → Type 0
 KeepsGivenAndTaken old new =
-    IsWanted old.batch → old.is_over ≡ false → (given : List (SourceKind × List ℕ)) → (taken : List ℕ) → HasGivenAndTaken given old taken → HasGivenAndTaken given new taken
+    IsWanted old.merge → old.is_over ≡ false → (given : List (SourceKind × List ℕ)) → (taken : List ℕ) → HasGivenAndTaken given old taken → HasGivenAndTaken given new taken
 
 -- the part was taken, behind those before it
 abbrev pub TakesPart : MergedText → MergedText → Type 0
@@ -162,10 +162,10 @@ PutsRow row old new =
     → HaveCome new.rows.choice new.top new.rows.sink (rows ++ row ∷ []) taken
 
 -- whatever rows came, with the last part the text is whole
-abbrev pub EndsText : RowParts → Option (ShownRows TopRows) → Option ℕ → RowParts → Type 0
-EndsText old top bars new =
+abbrev pub EndsMergedText : RowParts → Option (ShownRows TopRows) → Option ℕ → RowParts → Type 0
+EndsMergedText old top bars new =
     (choice : Choice) → (rows : List (List ℕ × ℕ)) → (taken : List ℕ) → HaveCome choice top old rows taken
     → taken ++ new.part.items ≡ whole_text old.format choice.order bars (shown_in choice rows)
 
 abbrev pub BuildsEnd : MergedText → MergedText → Type 0
-BuildsEnd old new = EndsText old.rows.sink old.top old.bars new.rows.sink
+BuildsEnd old new = EndsMergedText old.rows.sink old.top old.bars new.rows.sink

@@ -1,7 +1,7 @@
 -- Files of counts and runs, as they are merged into runs.
 use Rattle.std.specs.Global.{Vec}
 use Rattle.std.specs.Prelude.{◌≡◌, ◌≢◌, ℕ, ◌<◌, ◌≤◌, List, [], ◌∷◌, ◌++◌, All, length, map, Some}
-use Rattle.hashbag_words_lib.specs.KeptRuns.{left_in, AddsMerged, AddsNumber, AddsRun, AreAlike, AreInOrder, HasKept, KeepsKinds, MergesAll, TakesMerge, TakesThese}
+use Rattle.hashbag_words_lib.specs.KeptRuns.{numbers_in, AddsMerged, AddsNumber, AddsRun, AreAlike, AreInOrder, HasKept, KeepsKinds, MergesAll, TakesMerge, TakesThese}
 use Rattle.hashbag_words_lib.specs.MergedTexts.{look_in, WritesAsRun}
 use Rattle.hashbag_words_lib.specs.Numbered.{HasRead, IsNext, ReadsOnly}
 use Rattle.hashbag_words_lib.specs.Runs.{rows_in}
@@ -25,15 +25,11 @@ use Rattle.hashbag_words_lib.specs.declared.shown_text.Look.TheVariants.{Rows as
 
 -- a file or a run of this number was added, and isn't kept any more
 abbrev pub IsGone : KeptRuns → ℕ → Type 0
-IsGone kept n = (n < kept.next_number) × All (λ k. k ≢ n) (left_in kept)
+IsGone kept n = (n < kept.next_number) × All (λ k. k ≢ n) (numbers_in kept)
 
 -- P holds of all numbers of these merges
 abbrev pub AllOf : (ℕ → Type 0) → List (Vec ℕ) → Type 0
 AllOf P merges = All (λ merge. All P merge.items) merges
-
--- the texts of the runs that were added, and are no merges, in order
-abbrev pub fed_in : {T : Type 0} → MergingRuns T → List (List ℕ)
-fed_in runs = runs.fed
 
 -- bars are of the most common rows
 abbrev pub FitsOrder : Look → Order → Type 0
@@ -54,7 +50,7 @@ module _ {T : Type 0} (read : T → ℕ → List ℕ) where
   pub record AreUnread (runs : MergingRuns T) : Type 0 where
     pub order : AreInOrder runs.kept
     pub gone : AllOf (IsGone runs.kept) runs.merged
-    pub none : All (λ n. read runs.texts n ≡ []) (left_in runs.kept)
+    pub none : All (λ n. read runs.texts n ≡ []) (numbers_in runs.kept)
     pub later : (n : ℕ) → runs.kept.next_number ≤ n → read runs.texts n ≡ []
 
   -- `rows` has the rows of each text that was merged, as it was read, and of each run, as it was written. This is all that is supposed of temporary
@@ -63,6 +59,10 @@ module _ {T : Type 0} (read : T → ℕ → List ℕ) where
     pub of_files : AllOf (λ n. n < runs.kept.first_run → rows_of runs.kept.kind (read runs.texts n) ≡ Some (rows n)) runs.merged
     pub of_runs : AllOf (λ n. runs.kept.first_run ≤ n → rows_of Run (read runs.texts n) ≡ Some (rows n)) runs.merged
     pub as_written : All (λ run. rows_in run.bytes.value ≡ rows run.number) runs.written
+
+  -- what is read of temporary files is what was written
+  abbrev pub IsFaithful : MergingRuns T → Type 0
+  IsFaithful runs = (rows : ℕ → List (List ℕ × ℕ)) × AgreesWith rows runs
 
   -- of what was merged nothing more is read, and what was written stays
   pub record GoesOn (old new : MergingRuns T) : Type 0 where
@@ -82,6 +82,11 @@ module _ {T : Type 0} (read : T → ℕ → List ℕ) where
 
   abbrev pub AddsTexts : List (List ℕ) → MergingRuns T → MergingRuns T → Type 0
   AddsTexts texts old new = AreUnread old → Adds texts old new
+
+  -- the texts that are kept have together the rows of these runs, and nothing was read of them
+  pub record HasRuns (kept : MergingRuns T) (runs : List (List (List ℕ × ℕ))) : Type 0 where
+    pub unread : AreUnread kept
+    pub counts : (rows : ℕ → List (List ℕ × ℕ)) → AgreesWith rows kept → HasKept kept.kept rows runs
 
   -- runs may have been merged, and none was added
   abbrev pub Merges : MergingRuns T → MergingRuns T → Type 0
@@ -103,13 +108,13 @@ module _ {T : Type 0} (read : T → ℕ → List ℕ) where
   abbrev pub WritesText : List ℕ → T → MergedText → T → MergedText → Type 0
   WritesText bytes texts old later new =
       (kind : SourceKind) → HasRead kind (read texts) old []
-      → IsNext kind (read later) bytes End new × (new.batch.numbers ≡ old.batch.numbers) × ReadsOnly old.batch.numbers.items (read texts) (read later)
+      → IsNext kind (read later) bytes End new × (new.merge.numbers ≡ old.merge.numbers) × ReadsOnly old.merge.numbers.items (read texts) (read later)
 
   -- if the texts of this merge were taken before, they were merged into a run, which was added
   abbrev pub MergesTaken : MergedText → MergingRuns T → MergingRuns T → Type 0
   MergesTaken text old new =
       (before : MergingRuns T) → before.texts ≡ old.texts → before.written ≡ old.written → before.merged ≡ old.merged → TakesMerge text before.kept old.kept
-      → TakesThese text.batch.numbers.items before.kept old.kept → WritesAsRun text → Merges before new
+      → TakesThese text.merge.numbers.items before.kept old.kept → WritesAsRun text → Merges before new
 
   -- P holds of each list of tokens that all added rows count together, however their counts are divided among the texts
   abbrev pub IfCounted : MergingRuns T → MergingRuns T → (List (List ℕ) → Type 0) → Type 0
@@ -126,7 +131,8 @@ module _ {T : Type 0} (read : T → ℕ → List ℕ) where
 
   -- the bytes are what is written of the tokens, in this look
   abbrev pub ShowsTokens : Choice → Look → MergingRuns T → MergingRuns T → List ℕ → Type 0
-  ShowsTokens choice look old new bytes = FitsOrder look choice.order → IfCounted old new (λ tokens. IsWritten choice look tokens bytes)
+  ShowsTokens choice look old new bytes =
+      FitsOrder look choice.order → (AreUnread old → GoesOn old new) × IfCounted old new (λ tokens. IsWritten choice look tokens bytes)
 
   -- there are as many tokens
   abbrev pub CountsAll : MergingRuns T → MergingRuns T → ℕ → Type 0
@@ -139,7 +145,7 @@ module _ {T : Type 0} (read : T → ℕ → List ℕ) where
   abbrev pub TotalsTaken : MergedText → MergingRuns T → MergingRuns T → ℕ → Type 0
   TotalsTaken text old new total =
       (before : MergingRuns T) → before.texts ≡ old.texts → before.written ≡ old.written → before.merged ≡ old.merged → TakesMerge text before.kept old.kept
-      → MergesAll text.batch.numbers.items before.kept → CountsAll before new total
+      → MergesAll text.merge.numbers.items before.kept → CountsAll before new total
 
   -- what is written in this layout has this look. For shares all may have been merged into one run, to know how many tokens there are
   pub record LaysOut (choice : Choice) (look : Look) (old new : MergingRuns T) (layout : RowLayout) : Type 0 where

@@ -6,7 +6,7 @@
 //! `text` that have ended.
 ghost use Rattle.std.specs.Prelude.{◌≡◌, ℕ, List, [], ◌∷◌, ◌++◌, IfOk, OnOk};
 ghost use Rattle.hashbag_core.specs.declared.bag.BagError.{BagError};
-ghost use Rattle.hashbag_words_lib.specs.Counted.{fed_of, CountsBytes, CountsWholeText, EndsText, HasCounted, HaveTogether, IsFirstBadOfText, IsFirstBadOfTextWith, IsFirstBadWhateverFollows, IsReadingOfText, IsWithin, KeepsCountedInRun, NoLineFeed};
+ghost use Rattle.hashbag_words_lib.specs.Counted.{fed_of, CountsBytes, CountsWholeText, EndsWholeText, HasCounted, HaveTogether, IsFirstBadOfText, IsFirstBadOfTextWith, IsFirstBadWhateverFollows, IsReadingOfText, IsWithin, KeepsCountedInRun, NoLineFeed};
 ghost use Rattle.hashbag_words_lib.specs.Counts.{texts_in};
 ghost use Rattle.hashbag_words_lib.specs.Faults.{OnBadLine};
 ghost use Rattle.hashbag_words_lib.specs.RowText.{bytes_left};
@@ -211,7 +211,7 @@ impl<'r, S: BuildHasher + Drop> TextCounter<'r, S> {
     /// Same as [`TextCounter::feed`], for the last line.
     pub fn end_text(&mut self) -> Result<LinesRead, InputFault>
         // The tokens of the text now belong to `before`, and the next text is empty. The result says how the lines of the text were read.
-        ensures counted { OnOk result (EndsText self.old self.new) }
+        ensures counted { OnOk result (EndsWholeText self.old self.new) }
         ensures reading { IfOk result (λ reading. IsReadingOfText self.old reading) }
 
         // A line that fails as bad is the first bad line of the text.

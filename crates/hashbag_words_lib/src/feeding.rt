@@ -1,18 +1,23 @@
 //! Counting in a bag that is emptied into runs whenever it is full.
 //!
 //! What counts is a [`Counter`], and a [`KeepsRuns`] keeps the runs. In the clauses `has` says what a bag and runs have together: what is counted of
-//! texts that ended, and of one that has begun.
-ghost use Rattle.std.specs.Prelude.{◌≡◌, ℕ, List, [], ◌∷◌, ◌++◌, IfOk, OnOk};
+//! texts that ended, and of one that has begun. A run is its rows: those that are read of its text.
+ghost use Rattle.std.specs.Prelude.{◌≡◌, true, ℕ, List, IfOk, OnOk};
 ghost use Rattle.hashbag_words_lib.specs.Counted.{fed_of, IsWithin};
-ghost use Rattle.hashbag_words_lib.specs.Feeding.{EndsIn, EndsText, FeedsIn, HasAlso, HasStill, KeepsRun, MakesRunsIn};
+ghost use Rattle.hashbag_words_lib.specs.Feeding.{Ends, EndsText, Feeds, HasAlso, HasNothing, HasStill, HaveStill, How, KeepsRows, KeepsRun};
+ghost use Rattle.hashbag_words_lib.specs.Jobs.{ShowsRuns};
+ghost use Rattle.hashbag_words_lib.specs.MergingRuns.{bytes_in};
 ghost use Rattle.hashbag_words_lib.specs.RowText.{bytes_left};
-ghost use Rattle.hashbag_words_lib.specs.Runs.{run_text};
+ghost use Rattle.hashbag_words_lib.specs.Runs.{rows_in};
 
+use crate::choice::Choice;
 use crate::counter::{Fed, TextCounter};
 use crate::errors::InputFault;
 use crate::lines::LinesRead;
+use crate::merging_runs::ShownRuns;
 use crate::row_counter::RowCounter;
 use crate::row_text::RowText;
+use crate::shown_text::Look;
 use crate::troubles::of_input;
 use hashbag::BagError;
 use hashbag_shell::trouble::Trouble;
@@ -21,8 +26,9 @@ use std::hash::BuildHasher;
 
 /// Counts what texts have, which are fed in blocks. Its bag may be emptied into runs.
 pub trait Counter {
-    /// Holds of runs, of texts that ended and of a text that has begun, if the bag and these runs together have what is counted of these texts.
-    ghost has: { Self → List (List (List ℕ × ℕ)) → List (List ℕ) → List ℕ → Type 0 };
+    /// Holds of runs, of texts that ended and of a text that has begun, if the bag and these runs together have what is counted of these texts
+    /// in this way.
+    ghost has: { How → Self → List (List (List ℕ × ℕ)) → List (List ℕ) → List ℕ → Type 0 };
 
     /// Holds of rows that are a run of the bag.
     ghost is_run: { Self → List (List ℕ × ℕ) → Type 0 };
@@ -57,7 +63,7 @@ pub trait Counter {
     ///
     /// `Memory` if an allocation fails.
     fn run(&self) -> Result<RowText<'_>, BagError>
-        ensures { IfOk result (λ text. (rows : List (List ℕ × ℕ)) × is_run self.now rows × (bytes_left text ≡ run_text rows)) };
+        ensures { IfOk result (λ text. is_run self.now (rows_in (bytes_left text))) };
 
     /// Empties the bag, since a run of it was kept.
     fn end_run(&mut self)
@@ -132,8 +138,14 @@ impl<S: BuildHasher + Drop> Counter for RowCounter<S> {
 
 /// Keeps runs.
 pub trait KeepsRuns<'a> {
-    /// The texts of the runs that were kept, in order.
-    ghost kept: { Self → List (List ℕ) };
+    /// Holds of runs if the runs that were kept have together what these have.
+    ghost kept: { Self → List (List (List ℕ × ℕ)) → Type 0 };
+
+    /// Holds if what is read of the runs is what was written.
+    ghost faithful: { Self → Type 0 };
+
+    /// A temporary file.
+    type File: Drop;
 
     /// Keeps a run of this text.
     ///
@@ -141,7 +153,19 @@ pub trait KeepsRuns<'a> {
     ///
     /// Why it isn't kept.
     fn keep(&mut self, text: &mut RowText<'_>) -> Result<(), Trouble<'a>>
-        ensures { OnOk result (kept self.new ≡ kept self.old ++ bytes_left text.old ∷ []) };
+        ensures { OnOk result (KeepsRows kept self.old self.new (rows_in (bytes_left text.old))) };
+
+    /// Returns whether no run was kept.
+    fn is_empty(&self) -> bool
+        ensures { result ≡ true → faithful self.now → HasNothing kept self.now };
+
+    /// Merges all runs, and returns what is shown of them.
+    ///
+    /// # Errors
+    ///
+    /// Why a run isn't read or written.
+    fn show(&mut self, choice: Choice<'_>, look: Look) -> Result<ShownRuns<Self::File>, Trouble<'a>>
+        ensures { IfOk result (λ shown. ShowsRuns kept faithful choice.entry look self.old self.new (bytes_in shown)) };
 }
 
 // Keeps a run of what is in the bag, and empties the bag. Without runs nothing changes.
@@ -149,7 +173,7 @@ fn make_run<'a, C: Counter, R: KeepsRuns<'a>>(
     counter: &mut C,
     runs: &mut Option<R>,
 ) -> Result<(), Trouble<'a>>
-    ensures { OnOk result (MakesRunsIn C.has R.kept counter.old counter.new runs.old runs.new) }
+    ensures { OnOk result (HaveStill C.has R.kept counter.old counter.new runs.old runs.new) }
 {
     let Some(runs) = runs else {
         return Ok(());
@@ -175,7 +199,7 @@ pub fn feed<'a, C: Counter, R: KeepsRuns<'a>>(
     block: &[u8],
 ) -> Result<(), Trouble<'a>>
     // The bag and all runs have what is counted of the whole block too.
-    ensures { OnOk result (FeedsIn C.has R.kept counter.old counter.new runs.old runs.new block.now) }
+    ensures { OnOk result (Feeds C.has R.kept counter.old counter.new runs.old runs.new block.now) }
 {
     let mut rest = block;
     'parts: loop {
@@ -202,7 +226,7 @@ pub fn end<'a, C: Counter, R: KeepsRuns<'a>>(
     name: &'a str,
 ) -> Result<LinesRead, Trouble<'a>>
     // The bag and all runs have what is counted of the whole text, and the next text hasn't begun.
-    ensures { OnOk result (EndsIn C.has R.kept counter.old counter.new runs.old runs.new) }
+    ensures { OnOk result (Ends C.has R.kept counter.old counter.new runs.old runs.new) }
 {
     let reading = match counter.end() {
         Ok(reading) => reading,

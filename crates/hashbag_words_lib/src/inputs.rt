@@ -1,7 +1,7 @@
 //! Counting all inputs of a call, which are read block by block. They come from any [`Blocks`], so the clauses hold for any bytes.
 ghost use Rattle.std.specs.Prelude.{◌≡◌, ℕ, List, [], ◌∷◌, ◌++◌, Option, None, Some, map, OnOk, IfOk};
 ghost use Rattle.hashbag_text.specs.Encodings.{text_in};
-ghost use Rattle.hashbag_words_lib.specs.Inputs.{left_in, Counts, FeedsNext, Reads, ReadsBlock, Takes};
+ghost use Rattle.hashbag_words_lib.specs.Inputs.{text_left, Counts, FeedsNext, Reads, ReadsBlock, Takes};
 
 use crate::feeding::{Counter, KeepsRuns, end, feed};
 use crate::lines::LinesRead;
@@ -52,6 +52,10 @@ pub trait Blocks<'a> {
     /// Reports how the lines of the input of that name were read.
     fn report(&mut self, name: &str, reading: &LinesRead)
         ensures { ended self.new ≡ ended self.old };
+
+    /// Reports that all inputs were read.
+    fn end_report(&mut self)
+        ensures { ended self.new ≡ ended self.old };
 }
 
 // The text of an input that comes in blocks.
@@ -71,7 +75,7 @@ struct Decoding<'a> {
 impl<'a> Decoding<'a> {
     // Returns the text of an input of which no block has come.
     fn new(alloc: Global, name: &'a str, encoding: Option<Encoding>) -> Decoding<'a>
-        ensures { (bytes : List ℕ) → left_in result.decoder bytes ≡ text_in encoding bytes }
+        ensures { (bytes : List ℕ) → text_left result.decoder bytes ≡ text_in encoding bytes }
     {
         let decoder = match encoding {
             Some(encoding) => Some(Decoder::new(encoding)),
@@ -112,7 +116,7 @@ impl<'a> Decoding<'a> {
 
     // Ends the text, since no block comes any more. Returns whether it has a NUL byte.
     fn end(self) -> Result<bool, Trouble<'a>>
-        ensures { OnOk result (left_in self.entry.decoder [] ≡ Some []) }
+        ensures { OnOk result (text_left self.entry.decoder [] ≡ Some []) }
     {
         let Some(decoder) = self.decoder else {
             return Ok(self.has_nul);

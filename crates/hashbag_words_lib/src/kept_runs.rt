@@ -1,9 +1,9 @@
 //! Which numbered texts are merged with which.
 //!
-//! A [`KeptRuns`] holds no file: it knows files of counts and runs by their numbers, and says which numbers are merged. In the clauses `rows` has the rows of the text of each number, and `fed` are the rows of all files and runs that were
-//! added.
+//! A [`KeptRuns`] holds no file: it knows files of counts and runs by their numbers, and says which numbers are merged. In the clauses `rows` has
+//! the rows of the text of each number, and `fed` are the rows of all files and runs that were added.
 ghost use Rattle.std.specs.Prelude.{◌≡◌, ◌≢◌, ◌↔◌, true, ℕ, ◌<◌, [], length, slice_index_or, IfOk, IfSome, IsSomeAnd, OnOk, None};
-ghost use Rattle.hashbag_words_lib.specs.KeptRuns.{left_in, AddsMerged, AddsNumber, AddsRun, AreAlike, AreInOrder, HasFiles, MergesAll, TakesMerge, TakesOneMerge, TakesTexts, TakesThese};
+ghost use Rattle.hashbag_words_lib.specs.KeptRuns.{numbers_in, AddsMerged, AddsNumber, AddsRun, AreAlike, AreInOrder, HasFiles, MergesAll, TakesMerge, TakesOneMerge, TakesTexts, TakesThese};
 ghost use Rattle.hashbag_words_lib.specs.Levels.{runs_in};
 ghost use Rattle.hashbag_words_lib.specs.MergedTexts.{look_in, look_of, BeginsOf, IsRunLayout, WritesAsRun};
 
@@ -65,10 +65,13 @@ impl KeptRuns {
         })
     }
 
-    /// Returns whether no run is kept.
-    pub fn has_no_run(&self) -> bool
-        ensures { (result ≡ true) ↔ (runs_in self.now.kept ≡ []) }
+    /// Returns whether neither a file nor a run is kept.
+    pub fn is_empty(&self) -> bool
+        ensures { (result ≡ true) ↔ (numbers_in self.now ≡ []) }
     {
+        if !self.files.is_empty() {
+            return false;
+        }
         self.kept.is_empty()
     }
 
@@ -105,7 +108,7 @@ impl KeptRuns {
         kind: SourceKind,
         numbers: Vec<usize>,
     ) -> Result<Option<MergedText<'static>>, AllocError>
-        ensures numbers { IfOk result (λ full. IsSomeAnd full (λ text. text.batch.numbers ≡ numbers)) }
+        ensures numbers { IfOk result (λ full. IsSomeAnd full (λ text. text.merge.numbers ≡ numbers)) }
         ensures begins { IfOk result (λ full. IfSome full (BeginsOf kind)) }
         ensures run { IfOk result (λ full. IfSome full WritesAsRun) }
     {
@@ -155,8 +158,8 @@ impl KeptRuns {
     /// Takes all runs, or all files if there is no run. Call it once [`KeptRuns::take_files`] has returned `None`.
     pub fn take_all<'e>(&mut self, layout: RowLayout<'e>) -> Result<MergedText<'e>, AllocError>
         // If there are no files or no runs, all are taken, and together they have each token as often as all rows that were fed.
-        ensures taken { IfOk result (λ text. AreAlike self.old → TakesThese text.batch.numbers.items self.old self.new) }
-        ensures all { IfOk result (λ text. AreAlike self.old → MergesAll text.batch.numbers.items self.old) }
+        ensures taken { IfOk result (λ text. AreAlike self.old → TakesThese text.merge.numbers.items self.old self.new) }
+        ensures all { IfOk result (λ text. AreAlike self.old → MergesAll text.merge.numbers.items self.old) }
         ensures choice { IfOk result (λ text. text.rows.choice ≡ layout.entry.choice) }
         ensures look { IfOk result (λ text. look_of text.rows.sink.format text.rows.choice.order text.bars ≡ look_in layout.entry) }
 
@@ -164,7 +167,7 @@ impl KeptRuns {
         ensures files { runs_in self.old.kept ≡ [] → IfOk result (BeginsOf self.old.kind) }
         ensures runs { runs_in self.old.kept ≢ [] → IfOk result (BeginsOf SourceKind.Run) }
         ensures numbers { IfOk result (λ text. TakesMerge text self.old self.new) }
-        ensures left { OnOk result (AreAlike self.old → left_in self.new ≡ []) }
+        ensures left { OnOk result (AreAlike self.old → numbers_in self.new ≡ []) }
         ensures run { IsRunLayout layout.entry → IfOk result WritesAsRun }
         ensures next { self.new.next_number ≡ self.old.next_number }
     {

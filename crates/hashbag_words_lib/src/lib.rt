@@ -6,12 +6,12 @@
 //! - [`gauge`] decides when a bag is full. [`runs`] returns the run that is then written. [`levels`] decides which runs are merged,
 //!   [`row_source`] reads their rows, and [`sorted_merge`] merges the rows. [`numbered`] reads the texts of a merge and writes it, and [`reads`]
 //!   records what was read, for contracts. [`kept_runs`] says which texts are merged, and [`merging_runs`] merges them.
+//! - [`inputs`] counts all inputs of a call, and [`jobs`] does a whole job: from the bytes of its inputs to the text that is written.
 //! - [`choice`] selects the counts that are shown. [`writing`], [`row_text`] and [`row_parts`] build their text. [`shards`] divides all
 //!   tokens by a fixed hash, [`shares`] writes a count as percent of a total, and [`bars`] writes rows with bars for a terminal.
 #![tactic(auto)]
 
 pub mod bars;
-pub mod batch;
 pub mod block_reader;
 pub mod choice;
 pub mod columns;
@@ -23,6 +23,7 @@ pub mod fields;
 pub mod gauge;
 pub mod head;
 pub mod inputs;
+pub mod jobs;
 pub mod kept_runs;
 pub mod levels;
 pub mod lines;
@@ -30,6 +31,7 @@ pub mod merged_text;
 pub mod merging;
 pub mod merging_runs;
 pub mod numbered;
+pub mod numbered_merge;
 pub mod reads;
 pub mod row_counter;
 pub mod row_parts;

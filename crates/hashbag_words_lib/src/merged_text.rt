@@ -5,17 +5,17 @@
 ghost use Rattle.std.specs.Prelude.{◌≡◌, ◌⊎◌, ℕ, ◌++◌, ◌≤◌, [], List, length, true, false, map, string_bytes, IfOk, OnOk};
 ghost use Rattle.hashbag.specs.Walks.{seen};
 ghost use Rattle.hashbag_words_lib.specs.Bars.{bars_text};
-ghost use Rattle.hashbag_words_lib.specs.Batches.{EndsWanted, IsWanted};
+ghost use Rattle.hashbag_words_lib.specs.NumberedMerges.{EndsWanted, IsWanted};
 ghost use Rattle.hashbag_words_lib.specs.Choice.{shows};
-ghost use Rattle.hashbag_words_lib.specs.MergedTexts.{look_in, look_of, AreAll, BeginsAs, BuildsEnd, EndsText, GivesText, HasGivenAndTaken, IsTopOf, KeepsBatchAndLayout, KeepsGivenAndTaken, KeepsLayout, PutsRow, TakesPart, WantsNext};
+ghost use Rattle.hashbag_words_lib.specs.MergedTexts.{look_in, look_of, AreAll, BeginsAs, BuildsEnd, EndsMergedText, GivesText, HasGivenAndTaken, IsTopOf, KeepsMergeAndLayout, KeepsGivenAndTaken, KeepsLayout, PutsRow, TakesPart, WantsNext};
 ghost use Rattle.hashbag_words_lib.specs.RowParts.{BuildsAll};
 ghost use Rattle.hashbag_words_lib.specs.Sorted.{row_of};
 ghost use Rattle.hashbag_words_lib.specs.Top.{kept_row};
 
 use crate::bars::bars_of;
-use crate::batch::Batch;
 use crate::choice::{Choice, Order};
 use crate::lines::LinesRead;
+use crate::numbered_merge::NumberedMerge;
 use crate::row_parts::RowParts;
 use crate::row_source::SourceKind;
 use crate::shown_rows::{ShownRows, TopRows};
@@ -72,7 +72,7 @@ pub fn run_layout() -> RowLayout<'static>
 /// The text of the merge of numbered texts, of which the part that wasn't taken is kept.
 #[derive(Drop)]
 pub struct MergedText<'e> {
-    batch: Batch,
+    merge: NumberedMerge,
     rows: ShownRows<'e, RowParts>,
     // The most common rows, if only these are written. They are written once the last row is merged.
     top: Option<ShownRows<'e, TopRows>>,
@@ -153,7 +153,7 @@ fn push_rest(
     top: Option<ShownRows<'_, TopRows>>,
     bars: Option<usize>,
 ) -> Result<(), AllocError>
-    ensures text { OnOk result (EndsText parts.old top.entry bars parts.new) }
+    ensures text { OnOk result (EndsMergedText parts.old top.entry bars parts.new) }
     ensures format { parts.new.format ≡ parts.old.format }
 {
     let Some(top) = top else {
@@ -178,14 +178,14 @@ impl<'e> MergedText<'e> {
         numbers: Vec<usize>,
         layout: RowLayout<'e>,
     ) -> Result<MergedText<'e>, AllocError>
-        ensures begins { IfOk result (λ text. HasGivenAndTaken (map (λ n. (kind, [])) text.batch.numbers.items) text []) }
+        ensures begins { IfOk result (λ text. HasGivenAndTaken (map (λ n. (kind, [])) text.merge.numbers.items) text []) }
         ensures choice { IfOk result (λ text. text.rows.choice ≡ layout.entry.choice) }
         ensures look { IfOk result (λ text. look_of text.rows.sink.format text.rows.choice.order text.bars ≡ look_in layout.entry) }
-        ensures numbers { IfOk result (λ text. text.batch.numbers ≡ numbers) }
+        ensures numbers { IfOk result (λ text. text.merge.numbers ≡ numbers) }
     {
         let parts = RowParts::begin(alloc, rows_format(layout))?;
         Ok(MergedText {
-            batch: Batch::new(alloc, kind, numbers),
+            merge: NumberedMerge::new(alloc, kind, numbers),
             rows: ShownRows {
                 sink: parts,
                 choice: layout.choice,
@@ -198,21 +198,21 @@ impl<'e> MergedText<'e> {
 
     /// Returns the numbers of the texts.
     pub fn numbers(&self) -> &Vec<usize>
-        ensures { result.now ≡ self.now.batch.numbers }
+        ensures { result.now ≡ self.now.merge.numbers }
     {
-        self.batch.numbers()
+        self.merge.numbers()
     }
 
     /// Returns how the lines of the text numbered `numbers()[i]` were read.
     pub fn reading(&self, i: usize) -> LinesRead {
-        self.batch.reading(i)
+        self.merge.reading(i)
     }
 
     /// Returns what the counts of all merged rows add up to, of rows that are written and of others.
     pub fn total(&self) -> usize
-        ensures { result ≡ self.now.batch.merger.total }
+        ensures { result ≡ self.now.merge.merger.total }
     {
-        self.batch.total()
+        self.merge.total()
     }
 
     /// Returns whether no row is in the text so far. With `MostCommon` none is until the end is built.
@@ -224,7 +224,7 @@ impl<'e> MergedText<'e> {
 
     /// Returns how many bytes of the wanted text it keeps: those that were given and haven't been read.
     pub fn kept(&self) -> usize {
-        self.batch.kept()
+        self.merge.kept()
     }
 
     /// Gives the next bytes of the wanted text.
@@ -235,12 +235,12 @@ impl<'e> MergedText<'e> {
     pub fn give(&mut self, block: &[u8]) -> Result<(), AllocError>
         // The wanted text was given the block more, and no other text anything.
         ensures given { OnOk result (GivesText block.now self.old self.new) }
-        ensures wants { OnOk result (IsWanted self.old.batch → IsWanted self.new.batch) }
-        ensures same { (self.new.batch.wanted ≡ self.old.batch.wanted) × (self.new.is_over ≡ self.old.is_over) }
-        ensures numbers { self.new.batch.numbers ≡ self.old.batch.numbers }
+        ensures wants { OnOk result (IsWanted self.old.merge → IsWanted self.new.merge) }
+        ensures same { (self.new.merge.wanted ≡ self.old.merge.wanted) × (self.new.is_over ≡ self.old.is_over) }
+        ensures numbers { self.new.merge.numbers ≡ self.old.merge.numbers }
         ensures layout { KeepsLayout self.old self.new }
     {
-        self.batch.give(block)
+        self.merge.give(block)
     }
 
     /// Says that no more bytes of the wanted text come.
@@ -249,12 +249,12 @@ impl<'e> MergedText<'e> {
         ensures given { KeepsGivenAndTaken self.old self.new }
 
         // The wanted text has ended: one that is merged (`merged`), or the one whose first row isn't known (`opening`).
-        ensures merged { EndsWanted self.old.batch self.new.batch }
-        ensures opening { length self.old.batch.merger.sources.items ≤ self.old.batch.wanted → self.new.batch.rows.is_ended ≡ true }
-        ensures numbers { self.new.batch.numbers ≡ self.old.batch.numbers }
+        ensures merged { EndsWanted self.old.merge self.new.merge }
+        ensures opening { length self.old.merge.merger.sources.items ≤ self.old.merge.wanted → self.new.merge.rows.is_ended ≡ true }
+        ensures numbers { self.new.merge.numbers ≡ self.old.merge.numbers }
         ensures layout { KeepsLayout self.old self.new }
     {
-        self.batch.end();
+        self.merge.end();
     }
 
     /// Returns the part: what was built and not taken.
@@ -268,7 +268,7 @@ impl<'e> MergedText<'e> {
     #[tactic(auto, using(crate::proofs::MergedTextLemmas::take_put))]
     pub fn clear_part(&mut self)
         ensures taken { TakesPart self.old self.new }
-        ensures numbers { self.new.batch.numbers ≡ self.old.batch.numbers }
+        ensures numbers { self.new.merge.numbers ≡ self.old.merge.numbers }
         ensures layout { KeepsLayout self.old self.new }
     {
         self.rows.sink.clear_part();
@@ -277,7 +277,7 @@ impl<'e> MergedText<'e> {
     // Puts a row, if it is shown.
     fn put(&mut self, token: String, count: usize) -> Result<(), Stop>
         ensures put { OnOk result (PutsRow (string_bytes token, count) self.old self.new) }
-        ensures elsewhere { OnOk result (KeepsBatchAndLayout self.old self.new) }
+        ensures elsewhere { OnOk result (KeepsMergeAndLayout self.old self.new) }
         ensures over { OnOk result (self.new.is_over ≡ self.old.is_over) }
     {
         if let Some(top) = &mut self.top {
@@ -295,7 +295,7 @@ impl<'e> MergedText<'e> {
     // Builds the end of the text.
     fn build_end(&mut self) -> Result<(), Stop>
         ensures built { OnOk result (BuildsEnd self.old self.new) }
-        ensures elsewhere { OnOk result (KeepsBatchAndLayout self.old self.new) }
+        ensures elsewhere { OnOk result (KeepsMergeAndLayout self.old self.new) }
         ensures over { OnOk result (self.new.is_over ≡ true) }
     {
         let top = self.top.take();
@@ -326,14 +326,14 @@ impl<'e> MergedText<'e> {
         // A text wants bytes, or a part is built; or the parts that were taken are the text of the merge, which is what is written of the tokens that
         // all texts count, however their counts are divided among these (`IsWritten` of specs/Shown).
         ensures next { IfOk result (λ wants. WantsNext self.old wants self.new) }
-        ensures numbers { OnOk result (self.new.batch.numbers ≡ self.old.batch.numbers) }
+        ensures numbers { OnOk result (self.new.merge.numbers ≡ self.old.merge.numbers) }
         ensures layout { OnOk result (KeepsLayout self.old self.new) }
     {
         if self.is_over {
             return Ok(self.after_end());
         }
         'rows: for _row in 0..u64::MAX {
-            match self.batch.next_row()? {
+            match self.merge.next_row()? {
                 Merged::Row((token, count)) => {
                     self.put(token, count)?;
                     if self.rows.sink.part().len() >= PART {

@@ -2,12 +2,14 @@
 //!
 //! The files are in any [`NumberedTexts`]. In the clauses `rows n` are the rows of the text numbered n: those that were read of it, and of a run also
 //! those that were written (`AgreesWith`).
-ghost use Rattle.std.specs.Prelude.{◌≡◌, ◌↔◌, ◌++◌, ◌∷◌, [], ℕ, length, true, IfOk, OnOk};
-ghost use Rattle.hashbag_words_lib.specs.KeptRuns.{AddsNumber, AreAlike, HasFiles};
-ghost use Rattle.hashbag_words_lib.specs.Levels.{runs_in};
+ghost use Rattle.std.specs.Prelude.{◌≡◌, ◌↔◌, [], ℕ, length, true, IfOk, OnOk};
+ghost use Rattle.hashbag_words_lib.specs.Feeding.{HasNothing, KeepsRows};
+ghost use Rattle.hashbag_words_lib.specs.Jobs.{ShowsRuns};
+ghost use Rattle.hashbag_words_lib.specs.KeptRuns.{numbers_in, AddsNumber, AreAlike, HasFiles};
 ghost use Rattle.hashbag_words_lib.specs.MergedTexts.{KeepsLayout};
-ghost use Rattle.hashbag_words_lib.specs.MergingRuns.{bytes_in, fed_in, AddsFile, AddsTexts, AreUnread, CountsAlike, LaysOutAlike, Merges, MergesTaken, ShowsAlike, ShowsTokens, TotalsTaken, WritesText};
+ghost use Rattle.hashbag_words_lib.specs.MergingRuns.{bytes_in, AddsFile, AreUnread, CountsAlike, HasRuns, IsFaithful, LaysOutAlike, Merges, MergesTaken, ShowsAlike, ShowsTokens, TotalsTaken, WritesText};
 ghost use Rattle.hashbag_words_lib.specs.RowText.{bytes_left};
+ghost use Rattle.hashbag_words_lib.specs.Runs.{rows_in};
 
 use crate::choice::{Choice, Order};
 use crate::kept_runs::KeptRuns;
@@ -41,11 +43,9 @@ pub struct MergingRuns<T: Drop> {
     // The texts of all numbers.
     texts: T,
     kept: KeptRuns,
-    // For contracts alone: the numbers of each merge that was written; the runs that were written; and (`fed`) the texts of those that were
-    // written of a bag, and not of a merge.
+    // For contracts alone: the numbers of each merge that was written, and the runs that were written.
     merged: Trace<Vec<usize>>,
     written: Trace<WrittenRun>,
-    fed: Trace<Tape>,
 }
 
 /// The text of a merge, as it was written.
@@ -85,7 +85,7 @@ fn write_file<'a, T: NumberedTexts<'a>>(
 ) -> Result<MergedFile<T::File>, Trouble<'a>>
     ensures writes { IfOk result (λ made. WritesText T.bytes_read made.written texts.old text.old texts.new text.new) }
     ensures layout { OnOk result (KeepsLayout text.old text.new) }
-    ensures total { IfOk result (λ made. made.total ≡ text.new.batch.merger.total) }
+    ensures total { IfOk result (λ made. made.total ≡ text.new.merge.merger.total) }
 {
     let mut block = vec![in alloc; 0u8; BLOCK]?;
     let first = read_on(texts, &mut block, text)?;
@@ -133,7 +133,7 @@ impl<'a, T: NumberedTexts<'a> + Drop> MergingRuns<T> {
         ensures unread { IfOk result (λ runs. ((n : ℕ) → T.bytes_read texts n ≡ []) → AreUnread T.bytes_read runs) }
         ensures kept { IfOk result (λ runs. HasFiles runs.kept) }
         ensures files { IfOk result (λ runs. length runs.kept.files.items ≡ files) }
-        ensures fed { IfOk result (λ runs. fed_in runs ≡ []) }
+        ensures none { IfOk result (λ runs. files ≡ 0 → ((n : ℕ) → T.bytes_read texts n ≡ []) → HasRuns T.bytes_read runs []) }
     {
         let kept = KeptRuns::new(alloc, kind, files)?;
         Ok(MergingRuns {
@@ -142,21 +142,20 @@ impl<'a, T: NumberedTexts<'a> + Drop> MergingRuns<T> {
             kept,
             merged: Trace::empty(),
             written: Trace::empty(),
-            fed: Trace::empty(),
         })
     }
 
-    /// Returns whether no run is kept.
-    pub fn has_no_run(&self) -> bool
-        ensures { (result ≡ true) ↔ (runs_in self.now.kept.kept ≡ []) }
+    /// Returns whether neither a file nor a run is kept.
+    pub fn is_empty(&self) -> bool
+        ensures empty { (result ≡ true) ↔ (numbers_in self.now.kept ≡ []) }
+        ensures nothing { result ≡ true → IsFaithful T.bytes_read self.now → HasNothing (HasRuns T.bytes_read) self.now }
     {
-        self.kept.has_no_run()
+        self.kept.is_empty()
     }
 
     // Adds a run, which is in this file. These bytes were written of it.
     fn add(&mut self, file: T::File, written: &Tape) -> Result<(), Trouble<'a>>
-        ensures adds { OnOk result (AddsFile T.bytes_read written.now self.old self.new) }
-        ensures fed { fed_in self.new ≡ fed_in self.old }
+        ensures { OnOk result (AddsFile T.bytes_read written.now self.old self.new) }
     {
         let number = self.kept.next_number();
         self.texts.keep(number, file)?;
@@ -173,7 +172,6 @@ impl<'a, T: NumberedTexts<'a> + Drop> MergingRuns<T> {
         ensures merges { OnOk result (MergesTaken T.bytes_read text.old self.old self.new) }
         ensures total { IfOk result (λ total. TotalsTaken T.bytes_read text.old self.old self.new total) }
         ensures next { OnOk result (AddsNumber self.old.kept self.new.kept) }
-        ensures fed { fed_in self.new ≡ fed_in self.old }
     {
         let made = write_file(self.alloc, &mut self.texts, text)?;
         self.merged.push(text.numbers());
@@ -184,8 +182,7 @@ impl<'a, T: NumberedTexts<'a> + Drop> MergingRuns<T> {
     // Merges runs into one of the next level, as long as there are enough of one level.
     fn merge_full(&mut self) -> Result<(), Trouble<'a>>
         // All that the runs had together they have now.
-        ensures merges { OnOk result (Merges T.bytes_read self.old self.new) }
-        ensures fed { fed_in self.new ≡ fed_in self.old }
+        ensures { OnOk result (Merges T.bytes_read self.old self.new) }
     {
         'levels: for _ in 0..u64::MAX {
             let Some(mut sixteen) = self.kept.take_full()? else {
@@ -202,9 +199,8 @@ impl<'a, T: NumberedTexts<'a> + Drop> MergingRuns<T> {
     ///
     /// Why the run isn't written, or runs aren't merged.
     pub fn write(&mut self, text: &mut RowText<'_>) -> Result<(), Trouble<'a>>
-        // All that the texts had together they have now, and the rows of this run.
-        ensures adds { OnOk result (AddsTexts T.bytes_read (bytes_left text.old ∷ []) self.old self.new) }
-        ensures fed { OnOk result (fed_in self.new ≡ fed_in self.old ++ bytes_left text.old ∷ []) }
+        // What the texts had together they have now, and the rows of this run.
+        ensures { OnOk result (KeepsRows (HasRuns T.bytes_read) self.old self.new (rows_in (bytes_left text.old))) }
     {
         let mut file = self.texts.create()?;
         let tape = match write_text(self.alloc, text, &mut file) {
@@ -213,7 +209,6 @@ impl<'a, T: NumberedTexts<'a> + Drop> MergingRuns<T> {
         };
         self.texts.rewind(&mut file)?;
         self.add(file, &tape)?;
-        self.fed.push(&tape);
         self.merge_full()?;
         Ok(())
     }
@@ -223,13 +218,12 @@ impl<'a, T: NumberedTexts<'a> + Drop> MergingRuns<T> {
         // All that the texts had together they have now. There are files or runs, and not both.
         ensures merges { OnOk result (Merges T.bytes_read self.old self.new) }
         ensures alike { OnOk result (AreAlike self.new.kept) }
-        ensures fed { fed_in self.new ≡ fed_in self.old }
     {
-        'batches: for _ in 0..u64::MAX {
-            let Some(mut batch) = self.kept.take_files()? else {
+        'merges: for _ in 0..u64::MAX {
+            let Some(mut merge) = self.kept.take_files()? else {
                 return Ok(());
             };
-            self.merge_taken(&mut batch)?;
+            self.merge_taken(&mut merge)?;
             self.merge_full()?;
         }
         // Never: there aren't as many files.
@@ -242,7 +236,6 @@ impl<'a, T: NumberedTexts<'a> + Drop> MergingRuns<T> {
         ensures merges { OnOk result (AreAlike self.old.kept → Merges T.bytes_read self.old self.new) }
         ensures alike { OnOk result (AreAlike self.old.kept → AreAlike self.new.kept) }
         ensures total { IfOk result (λ total. CountsAlike T.bytes_read self.old self.new total) }
-        ensures fed { fed_in self.new ≡ fed_in self.old }
     {
         let mut text = self.kept.take_all(run_layout())?;
         let total = self.merge_taken(&mut text)?;
@@ -313,7 +306,10 @@ impl<'a, T: NumberedTexts<'a> + Drop> MergingRuns<T> {
         look: Look,
     ) -> Result<ShownRuns<T::File>, Trouble<'a>>
         // What is written is what is written of a bag of all tokens that the rows count, however their counts are divided among the texts.
-        ensures { IfOk result (λ shown. ShowsTokens T.bytes_read choice.entry look self.old self.new (bytes_in shown)) }
+        ensures tokens { IfOk result (λ shown. ShowsTokens T.bytes_read choice.entry look self.old self.new (bytes_in shown)) }
+
+        // The same of the rows of runs.
+        ensures runs { IfOk result (λ shown. ShowsRuns (HasRuns T.bytes_read) (IsFaithful T.bytes_read) choice.entry look self.old self.new (bytes_in shown)) }
     {
         self.merge_files()?;
         let layout = self.layout_of(choice, look)?;

@@ -77,7 +77,7 @@ fn give_block<'a, T: NumberedTexts<'a>>(
 ) -> Result<usize, Trouble<'a>>
     // What is read is given, all of it and once.
     ensures given { OnOk result (GivesRead number (T.bytes_read texts.old) text.old (T.bytes_read texts.new) text.new) }
-    ensures numbers { OnOk result (text.new.batch.numbers ≡ text.old.batch.numbers) }
+    ensures numbers { OnOk result (text.new.merge.numbers ≡ text.old.merge.numbers) }
     ensures layout { OnOk result (KeepsLayout text.old text.new) }
     ensures others { OnOk result ((k : ℕ) → k ≢ number → T.bytes_read texts.new k ≡ T.bytes_read texts.old k) }
 
@@ -104,7 +104,7 @@ fn give<'a, T: NumberedTexts<'a>>(
 ) -> Result<(), Trouble<'a>>
     // What is read is given, all of it and once.
     ensures given { OnOk result (GivesRead number (T.bytes_read texts.old) text.old (T.bytes_read texts.new) text.new) }
-    ensures numbers { OnOk result (text.new.batch.numbers ≡ text.old.batch.numbers) }
+    ensures numbers { OnOk result (text.new.merge.numbers ≡ text.old.merge.numbers) }
     ensures layout { OnOk result (KeepsLayout text.old text.new) }
     ensures others { OnOk result ((k : ℕ) → k ≢ number → T.bytes_read texts.new k ≡ T.bytes_read texts.old k) }
 

@@ -1,7 +1,7 @@
 //! The text of rows, in parts.
 ghost use Rattle.std.specs.Prelude.{◌≡◌, ◌++◌, map, IfOk, OnOk};
 ghost use Rattle.hashbag.specs.Walks.{seen};
-ghost use Rattle.hashbag_words_lib.specs.RowText.{bytes_left, left_in, IsOverIfNone};
+ghost use Rattle.hashbag_words_lib.specs.RowText.{bytes_left, rows_left_in, IsOverIfNone};
 ghost use Rattle.hashbag_words_lib.specs.Sorted.{row_of};
 ghost use Rattle.hashbag_words_lib.specs.Writing.{text_of};
 
@@ -81,7 +81,7 @@ impl<'a> RowText<'a> {
 
     // Appends rows to the part until it is full. After the last row, appends the end of the text.
     fn build(&mut self) -> io::Result<()>
-        ensures text { self.new.part.items ++ left_in self.new ≡ self.old.part.items ++ left_in self.old }
+        ensures text { self.new.part.items ++ rows_left_in self.new ≡ self.old.part.items ++ rows_left_in self.old }
         ensures read { self.new.read ≡ self.old.read }
         ensures end { OnOk result (IsOverIfNone self.new) }
     {

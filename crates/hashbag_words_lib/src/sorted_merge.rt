@@ -29,7 +29,7 @@ pub trait Sink {
 pub enum Merged {
     /// A row: its token and its count.
     Row((String, usize)),
-    /// No row yet: a source has to be given more bytes, or ended, first. From a [`Merger`] this is its index, from a `Batch` the number of
+    /// No row yet: a source has to be given more bytes, or ended, first. From a [`Merger`] this is its index, from a `NumberedMerge` the number of
     /// its text.
     Wants(usize),
     /// No row: all rows are merged.

@@ -1,11 +1,11 @@
 use Rattle.std.proofs.Common.{◌≡◌, ℕ, List, ◌++◌, length}
-use Rattle.hashbag_words_lib.specs.Feeding.{kept_by, Feeds}
+use Rattle.hashbag_words_lib.specs.Feeding.{Feeds}
 use Rattle.hashbag_words_lib.proofs.feeding.feed.Given as goal
 
 -- what comes before the rest was fed
 abbrev pub invariant-parts : goal.invariant-parts
 invariant-parts g l =
-    (fed : List ℕ) × (l.fn.block ≡ fed ++ l.rest) × Feeds g.C.Counter.has l.fn.counter l.counter (kept_by g.R.KeepsRuns.kept l.fn.runs) (kept_by g.R.KeepsRuns.kept l.runs) fed
+    (fed : List ℕ) × (l.fn.block ≡ fed ++ l.rest) × Feeds g.C.Counter.has g.R.KeepsRuns.kept l.fn.counter l.counter l.fn.runs l.runs fed
 
 abbrev pub decreases-parts : goal.decreases-parts
 decreases-parts g l = length l.rest

@@ -1,6 +1,7 @@
-use Rattle.std.proofs.Common.{◌≡◌, List, ℕ, ap, sym, subst, ◌∙◌, ◌++◌, ◌∷◌, []}
-use Rattle.hashbag_words_lib.specs.Feeding.{kept_by, MakesRuns}
+use Rattle.std.proofs.Common.{sym, subst, Some}
+use Rattle.hashbag_words_lib.specs.Feeding.{HaveStill}
 use Rattle.hashbag_words_lib.specs.RowText.{bytes_left}
+use Rattle.hashbag_words_lib.specs.Runs.{rows_in}
 use Rattle.hashbag_words_lib.proofs.FeedingLemmas.{one_run}
 use Rattle.hashbag_words_lib.proofs.feeding.make_run.Goals as goal
 
@@ -8,6 +9,7 @@ use Rattle.hashbag_words_lib.proofs.feeding.make_run.Goals as goal
 pub returns : goal.returns
 returns g c =
     let has = g.C.Counter.has in
-    let run = c.in-Ok.ensures in
-    subst (λ runs. MakesRuns has c.args.counter.now c.end_run.new.self (kept_by g.R.KeepsRuns.kept runs) (g.R.KeepsRuns.kept c.keep.new.self)) (sym c.in-Some.is)
-    (one_run has c.args.counter.now c.end_run.new.self run.0 (bytes_left c.in-Ok.text) (g.R.KeepsRuns.kept c.in-Some.runs) (g.R.KeepsRuns.kept c.keep.new.self) run.2 c.in_ok-keep-in-Ok.ensures (c.end_run.ensures run.0 run.1))
+    let kept = g.R.KeepsRuns.kept in
+    let rows = rows_in (bytes_left c.in-Ok.text) in
+    subst (λ runs. HaveStill has kept c.args.counter.now c.end_run.new.self runs (Some c.keep.new.self)) (sym c.in-Some.is)
+    (one_run has kept c.args.counter.now c.end_run.new.self c.in-Some.runs c.keep.new.self rows c.in_ok-keep-in-Ok.ensures (c.end_run.ensures rows c.in-Ok.ensures))

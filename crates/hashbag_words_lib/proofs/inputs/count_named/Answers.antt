@@ -1,5 +1,4 @@
-use Rattle.std.proofs.Common.{◌≡◌, List, ℕ, ◌∙◌, ap, sym, subst}
-use Rattle.hashbag_words_lib.specs.Feeding.{kept_by}
+use Rattle.std.proofs.Common.{◌≡◌, ◌∙◌, ap}
 use Rattle.hashbag_words_lib.proofs.InputLemmas.{input_counted}
 use Rattle.hashbag_words_lib.proofs.inputs.count_named.Goals as goal
 use Rattle.hashbag_words_lib.proofs.inputs.count_named.Goals.{then-has_nul, else-has_nul}
@@ -8,10 +7,9 @@ use Rattle.hashbag_words_lib.proofs.inputs.count_named.Goals.{then-has_nul, else
 pub returns : goal.returns
 returns g c =
     let ended = g.B.Blocks.ended in
-    let kept = kept_by g.R.KeepsRuns.kept in
     let same : ended c.if-has_nul.inputs ≡ ended c.read_input.new.inputs = elim c.if-has_nul.branch [
       | then-has_nul w ↦ ap ended w.inputs-is ∙ w.report_nul.ensures
       | else-has_nul w ↦ ap ended w.inputs-is
     ] in
-    input_counted g.C.Counter.has c.args.encoding c.args.name.now (ended c.args.inputs.now) (ended c.read_input.new.inputs) (ended c.report.new.self) c.args.counter.now c.read_input.new.counter c.end.new.counter
-    (kept c.args.runs.now) (kept c.read_input.new.runs) (kept c.end.new.runs) c.in_ok-has_nul.ensures c.in_ok-reading.ensures (c.report.ensures ∙ same)
+    input_counted g.C.Counter.has g.R.KeepsRuns.kept ended c.args.encoding c.args.name.now c.args.inputs.now c.read_input.new.inputs c.report.new.self c.args.counter.now c.read_input.new.counter c.end.new.counter
+    c.args.runs.now c.read_input.new.runs c.end.new.runs c.in_ok-has_nul.ensures c.in_ok-reading.ensures (c.report.ensures ∙ same)

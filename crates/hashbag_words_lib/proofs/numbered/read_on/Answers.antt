@@ -52,7 +52,7 @@ texts-preserved g c =
           (next_read kind read taken (Block number) c.next.new.self (next kind taken has));
       only = λ kind taken has k none.
           c.in_ok-give-in-Ok-Block.ensures.others k
-          (other_wanted number k c.next.new.self c.args.text.now.batch.numbers.items (ap (λ v. v.items) same) (block_wanted kind read taken number c.next.new.self (next kind taken has)) none)
+          (other_wanted number k c.next.new.self c.args.text.now.merge.numbers.items (ap (λ v. v.items) same) (block_wanted kind read taken number c.next.new.self (next kind taken has)) none)
           ∙ c.texts.invariant.only kind taken has k none;
       numbers = c.in_ok-give-in-Ok-Block.ensures.numbers ∙ same;
       layout = layout_both c.args.text.now c.next.new.self c.give.new.text (layout_both c.args.text.now c.texts.text c.next.new.self c.texts.invariant.layout c.in-Ok-Block.ensures.layout) c.in_ok-give-in-Ok-Block.ensures.layout;

@@ -14,9 +14,9 @@ returns-then-is_empty-clause-all c =
     (λ text is one rows fed kept tokens counted v.
     let self = c.args.self.now in
     let files = self.files.items in
-    let all : files ++ runs_in self.kept ≡ text.batch.numbers.items =
+    let all : files ++ runs_in self.kept ≡ text.merge.numbers.items =
     ap (λ (l : List ℕ). files ++ l) (c.is_empty.ensures.0 c.if-is_empty.true) ∙ append-nil files ∙ ap (λ v. v.items) (sym c.replace-files.ensures.value) ∙ ap (λ v. v.items) (sym is) in
-    all_of self.next_number rows fed text.batch.numbers.items (files ++ runs_in self.kept) tokens all kept counted v)
+    all_of self.next_number rows fed text.merge.numbers.items (files ++ runs_in self.kept) tokens all kept counted v)
     c.new.ensures.numbers
 
 -- all are runs
@@ -27,9 +27,9 @@ returns-clause-all c =
     let self = c.args.self.now in
     let files = self.files.items in
     let none : files ≡ [] = only_runs files (runs_in self.kept) one (λ empty. false≢true (sym c.if-is_empty.false ∙ c.is_empty.ensures.1 empty)) in
-    let all : files ++ runs_in self.kept ≡ text.batch.numbers.items =
+    let all : files ++ runs_in self.kept ≡ text.merge.numbers.items =
     ap (λ (l : List ℕ). l ++ runs_in self.kept) none ∙ ap (λ k. runs_in k) (sym c.replace.ensures.value) ∙ sym c.into_runs-runs.ensures ∙ ap (λ v. v.items) (sym is) in
-    all_of self.next_number rows fed text.batch.numbers.items (files ++ runs_in self.kept) tokens all kept counted v)
+    all_of self.next_number rows fed text.merge.numbers.items (files ++ runs_in self.kept) tokens all kept counted v)
     c.new-2.ensures.numbers
 
 -- nothing but these was taken

@@ -1,5 +1,5 @@
 use Rattle.std.proofs.Common.{◌∙◌, ap, refl, subst}
-use Rattle.hashbag_words_lib.specs.Batches.{FollowsIn}
+use Rattle.hashbag_words_lib.specs.NumberedMerges.{FollowsIn}
 use Rattle.hashbag_words_lib.proofs.MergedTextLemmas.{put_after, put_end, put_next, put_wants}
 use Rattle.hashbag_words_lib.proofs.merged_text.MergedText.next.Goals as goal
 

@@ -7,6 +7,6 @@ abbrev pub invariant-rows : goal.invariant-rows
 invariant-rows l = record {
   put : (given : _) → (taken : _) → HasGivenAndTaken given l.fn.self taken → HasGivenAndTaken given l.self taken;
   going : l.self.is_over ≡ false;
-  numbers : l.self.batch.numbers ≡ l.fn.self.batch.numbers;
+  numbers : l.self.merge.numbers ≡ l.fn.self.merge.numbers;
   layout : KeepsLayout l.fn.self l.self;
 }

@@ -1,0 +1,90 @@
+-- Whole jobs: from the bytes of all inputs to the bytes that are written.
+use Rattle.std.specs.Borrow.{Bor}
+use Rattle.std.specs.Global.{Global}
+use Rattle.std.specs.Prelude.{◌≡◌, ℕ, List, [], ◌∷◌, flat_map, Option, None, Some, String, ⊤}
+use Rattle.hashbag.specs.Bag.{Bag}
+use Rattle.hashbag_text.specs.declared.encoding.Encoding.{Encoding}
+use Rattle.hashbag_words_lib.specs.Added.{HaveRows}
+use Rattle.hashbag_words_lib.specs.Counted.{HaveTogether}
+use Rattle.hashbag_words_lib.specs.Feeding.{AreKeptIn, AreRowsOfAll}
+use Rattle.hashbag_words_lib.specs.Inputs.{AreRead}
+use Rattle.hashbag_words_lib.specs.MergingRuns.{bytes_in, FitsOrder}
+use Rattle.hashbag_words_lib.specs.Shown.{bytes_of, CountTexts, IsWritten}
+use Rattle.hashbag_words_lib.specs.Tokens.{tokens_of}
+use Rattle.hashbag_words_lib.specs.declared.choice.Choice.{Choice}
+use Rattle.hashbag_words_lib.specs.declared.jobs.Made.{Made}
+use Rattle.hashbag_words_lib.specs.declared.jobs.Made.TheVariants.{OfBag, OfRuns}
+use Rattle.hashbag_words_lib.specs.declared.lines.BadLines.{BadLines}
+use Rattle.hashbag_words_lib.specs.declared.rows.RowForm.{RowForm}
+use Rattle.hashbag_words_lib.specs.declared.rule.Rule.{Rule}
+use Rattle.hashbag_words_lib.specs.declared.shown_text.Look.{Look}
+
+-- all bytes of what was made
+abbrev pub text_of : {F : Type 0} → Made F → List ℕ
+text_of (OfBag shown) = bytes_of shown
+text_of (OfRuns shown) = bytes_in shown
+
+-- `kept` says of runs that they were kept, and `faithful` that what is read of them is what was written
+module _ {R : Type 0} (kept : R → List (List (List ℕ × ℕ)) → Type 0) (faithful : R → Type 0) where
+  -- the same if something may keep runs
+  abbrev pub AreFaithful : Option R → Type 0
+  AreFaithful None = ⊤
+  AreFaithful (Some keeper) = faithful keeper
+
+  -- the runs that were kept have what they had and what the bag has
+  abbrev pub KeepsBag : {S : Type 0} → R → Bag (String Global) S → R → Type 0
+  KeepsBag old bag new =
+      (runs : List (List (List ℕ × ℕ))) → kept old runs → (all : List (List (List ℕ × ℕ))) × kept new all
+      × ((tokens : List (List ℕ)) → HaveTogether runs bag tokens → CountTexts all tokens)
+
+  -- no run was kept yet, and the bag is empty
+  abbrev pub IsNew : {S : Type 0} → Bag (String Global) S → Option R → Type 0
+  IsNew bag keeper = (bag.items ≡ []) × AreKeptIn kept keeper []
+
+  -- ---- counting. `before` and `after`: the name and all bytes of each input that was read to its end
+
+  module _ (encoding : Option Encoding) (names : List (Bor (List ℕ))) (before after : List (List ℕ × List ℕ)) where
+    -- the inputs of these names were read to their ends; the bag and the runs have together the tokens of their texts
+    pub record CountsTokens {S : Type 0} (rule : Rule) (bag bag' : Bag (String Global) S) (keeper keeper' : Option R) : Type 0 where
+      pub texts : List (List ℕ)
+      pub read_all : AreRead encoding names before after texts
+      pub counts : IsNew bag keeper → (runs : List (List (List ℕ × ℕ))) × AreKeptIn kept keeper' runs × HaveTogether runs bag' (flat_map (tokens_of rule) texts)
+
+    -- the inputs of these names were read to their ends; the bag and the runs have together the rows of these files
+    pub record AddsRows {S : Type 0} (form : RowForm) (bad_lines : BadLines) (bag bag' : Bag (String Global) S) (keeper keeper' : Option R) : Type 0 where
+      pub texts : List (List ℕ)
+      pub read_all : AreRead encoding names before after texts
+      pub counts : IsNew bag keeper → (rows : List (List ℕ × ℕ)) × AreRowsOfAll form bad_lines texts rows
+          × (runs : List (List (List ℕ × ℕ))) × AreKeptIn kept keeper' runs × HaveRows runs bag' rows
+
+  -- ---- writing
+
+  module _ (choice : Choice) (look : Look) where
+    -- whatever tokens the runs that were kept have: the bytes are what is written of them, wherever the runs were cut
+    abbrev pub ShowsRuns : R → R → List ℕ → Type 0
+    ShowsRuns old new bytes =
+        FitsOrder look choice.order → faithful new → (runs : List (List (List ℕ × ℕ))) → kept old runs → (tokens : List (List ℕ)) → CountTexts runs tokens
+        → IsWritten choice look tokens bytes
+
+    -- the same of a bag and of runs, if something may keep them
+    abbrev pub ShowsBoth : {S : Type 0} → Bag (String Global) S → Option R → Option R → List ℕ → Type 0
+    ShowsBoth bag old new bytes =
+        FitsOrder look choice.order → AreFaithful new → (runs : List (List (List ℕ × ℕ))) → AreKeptIn kept old runs → (tokens : List (List ℕ)) → HaveTogether runs bag tokens
+        → IsWritten choice look tokens bytes
+
+    module _ (encoding : Option Encoding) (names : List (Bor (List ℕ))) (before after : List (List ℕ × List ℕ)) where
+      -- the inputs of these names were read to their ends; the bytes are what is written of the tokens of their texts, wherever blocks and
+      -- runs were cut
+      pub record WritesTokens {S : Type 0} (rule : Rule) (bag : Bag (String Global) S) (keeper keeper' : Option R) (bytes : List ℕ) : Type 0 where
+        pub texts : List (List ℕ)
+        pub read_all : AreRead encoding names before after texts
+        pub written : IsNew bag keeper → FitsOrder look choice.order → AreFaithful keeper'
+            → IsWritten choice look (flat_map (tokens_of rule) texts) bytes
+
+      -- the inputs of these names were read to their ends; the bytes are what is written of whatever tokens the rows of these files count
+      pub record WritesRows {S : Type 0} (form : RowForm) (bad_lines : BadLines) (bag : Bag (String Global) S) (keeper keeper' : Option R) (bytes : List ℕ) : Type 0 where
+        pub texts : List (List ℕ)
+        pub read_all : AreRead encoding names before after texts
+        pub written : IsNew bag keeper → FitsOrder look choice.order → AreFaithful keeper'
+            → (lines : List (List ℕ × ℕ)) × AreRowsOfAll form bad_lines texts lines
+            × ((tokens : List (List ℕ)) → CountTexts (lines ∷ []) tokens → IsWritten choice look tokens bytes)

@@ -1,0 +1,190 @@
+//! Whole jobs: the inputs of a call are counted, and what is shown of them is made.
+//!
+//! The premise of the clauses on what is written is that what is read of temporary files is what was written there (`AreFaithful`).
+ghost use Rattle.std.specs.Prelude.{IfOk, OnOk};
+ghost use Rattle.hashbag_words_lib.specs.Jobs.{text_of, AddsRows, CountsTokens, KeepsBag, ShowsBoth, WritesRows, WritesTokens};
+ghost use Rattle.hashbag_words_lib.specs.Shown.{ShowsCounted};
+
+use crate::choice::Choice;
+use crate::counter::TextCounter;
+use crate::feeding::KeepsRuns;
+use crate::gauge::Gauge;
+use crate::inputs::{Blocks, count_all};
+use crate::lines::BadLines;
+use crate::merging_runs::ShownRuns;
+use crate::row_counter::RowCounter;
+use crate::rows::RowForm;
+use crate::rule::Rule;
+use crate::runs::run_of;
+use crate::shown_text::{Look, Shown, shown_of};
+use hashbag::HashBag;
+use hashbag_shell::trouble::Trouble;
+use hashbag_text::encoding::Encoding;
+use std::alloc::Global;
+use std::hash::BuildHasher;
+use std::mem;
+
+/// How inputs are read.
+#[derive(Clone, Copy)]
+pub struct Reading {
+    /// Their encoding, `None` for UTF-8.
+    pub encoding: Option<Encoding>,
+    /// What becomes of bad lines.
+    pub bad_lines: BadLines,
+    /// What says when the bag is full, if the memory has a bound.
+    pub gauge: Option<Gauge>,
+}
+
+/// What is shown of all inputs.
+#[derive(Drop)]
+pub enum Made<'b, F: Drop> {
+    /// No run was kept: the text of a bag.
+    OfBag(Shown<'b>),
+    /// The text of merged runs.
+    OfRuns(ShownRuns<F>),
+}
+
+// Returns what is shown of a bag.
+fn show_bag<'a, 'b, S: BuildHasher + Drop, F: Drop>(
+    alloc: Global,
+    bag: &'b mut HashBag<String, S>,
+    choice: Choice<'_>,
+    look: Look,
+) -> Result<Made<'b, F>, Trouble<'a>>
+    ensures { IfOk result (λ made. ShowsCounted choice.entry look bag.old (text_of made)) }
+{
+    match shown_of(alloc, bag, choice, look) {
+        Ok(shown) => Ok(Made::OfBag(shown)),
+        Err(_) => Err(Trouble::Memory),
+    }
+}
+
+// Keeps a run of a bag, unless it is empty.
+fn add_bag<'a, R: KeepsRuns<'a>, S: BuildHasher + Drop>(
+    alloc: Global,
+    runs: &mut R,
+    bag: &HashBag<String, S>,
+) -> Result<(), Trouble<'a>>
+    ensures { OnOk result (KeepsBag R.kept R.faithful runs.old bag.now runs.new) }
+{
+    if bag.is_empty() {
+        return Ok(());
+    }
+    match run_of(alloc, bag) {
+        Ok(mut text) => runs.keep(&mut text),
+        Err(_) => Err(Trouble::Memory),
+    }
+}
+
+/// Returns what is shown of a bag and of the runs that were made of it. Runs are merged, and the rest of the bag with them.
+///
+/// # Errors
+///
+/// Why runs aren't read or written; `Memory` if an allocation fails.
+pub fn show_both<'a, 'b, R: KeepsRuns<'a> + Drop, S: BuildHasher + Drop>(
+    alloc: Global,
+    bag: &'b mut HashBag<String, S>,
+    runs: &mut Option<R>,
+    choice: Choice<'_>,
+    look: Look,
+) -> Result<Made<'b, R::File>, Trouble<'a>>
+    ensures { IfOk result (λ made. ShowsBoth R.kept R.faithful choice.entry look bag.old runs.old runs.new (text_of made)) }
+{
+    let Some(kept) = runs else {
+        return show_bag(alloc, bag, choice, look);
+    };
+    if kept.is_empty() {
+        return show_bag(alloc, bag, choice, look);
+    }
+    add_bag(alloc, kept, bag)?;
+    let shown = kept.show(choice, look)?;
+    Ok(Made::OfRuns(shown))
+}
+
+// Counts the tokens of the inputs of these names.
+fn count_tokens<'a, B: Blocks<'a>, R: KeepsRuns<'a> + Drop, S: BuildHasher + Copy + Drop>(
+    alloc: Global,
+    inputs: &mut B,
+    runs: &mut Option<R>,
+    bag: &mut HashBag<String, S>,
+    rule: Rule<'_>,
+    reading: Reading,
+    names: &[&'a str],
+) -> Result<(), Trouble<'a>>
+    ensures { OnOk result (CountsTokens R.kept R.faithful reading.encoding names.now (B.ended inputs.old) (B.ended inputs.new) rule.entry bag.old bag.new runs.old runs.new) }
+{
+    let none = HashBag::with_hasher(alloc, *bag.hasher());
+    let given = mem::replace(bag, none);
+    let mut counter = TextCounter::new(alloc, given, rule, reading.bad_lines, reading.gauge);
+    let counted = count_all(alloc, inputs, &mut counter, runs, reading.encoding, names);
+    *bag = counter.into_bag();
+    counted
+}
+
+// Adds the counts of the files of these names.
+fn add_rows<'a, B: Blocks<'a>, R: KeepsRuns<'a> + Drop, S: BuildHasher + Copy + Drop>(
+    alloc: Global,
+    inputs: &mut B,
+    runs: &mut Option<R>,
+    bag: &mut HashBag<String, S>,
+    form: RowForm,
+    reading: Reading,
+    names: &[&'a str],
+) -> Result<(), Trouble<'a>>
+    ensures { OnOk result (AddsRows R.kept R.faithful reading.encoding names.now (B.ended inputs.old) (B.ended inputs.new) form reading.bad_lines bag.old bag.new runs.old runs.new) }
+{
+    let none = HashBag::with_hasher(alloc, *bag.hasher());
+    let given = mem::replace(bag, none);
+    let mut counter = RowCounter::new(alloc, given, form, reading.bad_lines, reading.gauge);
+    let added = count_all(alloc, inputs, &mut counter, runs, reading.encoding, names);
+    *bag = counter.into_bag();
+    added
+}
+
+/// Counts the tokens of the inputs of these names, and returns what is shown of them.
+///
+/// # Errors
+///
+/// What is wrong with an input or one of its lines, or why a run isn't written or read.
+pub fn show_tokens<'a, 'b, B: Blocks<'a>, R: KeepsRuns<'a> + Drop, S: BuildHasher + Copy + Drop>(
+    alloc: Global,
+    inputs: &mut B,
+    runs: &mut Option<R>,
+    bag: &'b mut HashBag<String, S>,
+    rule: Rule<'_>,
+    reading: Reading,
+    names: &[&'a str],
+    choice: Choice<'_>,
+    look: Look,
+) -> Result<Made<'b, R::File>, Trouble<'a>>
+    // If nothing was counted before, what is made is what is written of the tokens of all bytes of all inputs.
+    ensures { IfOk result (λ made. WritesTokens R.kept R.faithful choice.entry look reading.encoding names.now (B.ended inputs.old) (B.ended inputs.new) rule.entry bag.old runs.old runs.new (text_of made)) }
+{
+    count_tokens(alloc, inputs, runs, bag, rule, reading, names)?;
+    inputs.end_report();
+    show_both(alloc, bag, runs, choice, look)
+}
+
+/// Adds the counts of the files of these names, and returns what is shown of them.
+///
+/// # Errors
+///
+/// What is wrong with a file or one of its lines, or why a run isn't written or read.
+pub fn show_rows<'a, 'b, B: Blocks<'a>, R: KeepsRuns<'a> + Drop, S: BuildHasher + Copy + Drop>(
+    alloc: Global,
+    inputs: &mut B,
+    runs: &mut Option<R>,
+    bag: &'b mut HashBag<String, S>,
+    form: RowForm,
+    reading: Reading,
+    names: &[&'a str],
+    choice: Choice<'_>,
+    look: Look,
+) -> Result<Made<'b, R::File>, Trouble<'a>>
+    // If nothing was counted before, what is made is what is written of the tokens that the rows of all files count.
+    ensures { IfOk result (λ made. WritesRows R.kept R.faithful choice.entry look reading.encoding names.now (B.ended inputs.old) (B.ended inputs.new) form reading.bad_lines bag.old runs.old runs.new (text_of made)) }
+{
+    add_rows(alloc, inputs, runs, bag, form, reading, names)?;
+    inputs.end_report();
+    show_both(alloc, bag, runs, choice, look)
+}

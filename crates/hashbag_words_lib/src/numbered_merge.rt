@@ -1,0 +1,203 @@
+//! Numbered texts of rows that are merged at once.
+//!
+//! A [`NumberedMerge`] holds no file: it says which text it wants the next bytes of, and is given them. In the clauses `given` is what it was given
+//! of each text so far, in the order of `numbers`, and `out` are the rows that were returned.
+ghost use Rattle.std.specs.Prelude.{◌≡◌, ◌+◌, ◌++◌, ◌<◌, ◌≤◌, [], ◌∷◌, true, false, length, map, slice_index_or, IfOk, OnOk};
+ghost use Rattle.hashbag_words_lib.specs.NumberedMerges.{EndsWanted, GivesWanted, GoesOn, HasTaken, IsWanted, IsWantedIf, KeepsTaken};
+ghost use Rattle.hashbag_words_lib.specs.Merged.{IsUnused};
+ghost use Rattle.hashbag_words_lib.specs.Sources.{Holds};
+
+use crate::lines::LinesRead;
+use crate::row_source::{RowSource, SourceKind};
+use crate::sorted_merge::{Merged, Merger, Stop};
+use crate::sources::{Opened, Source};
+use std::alloc::{AllocError, Global};
+use std::mem;
+
+/// The rows of numbered texts, which are merged.
+#[derive(Drop)]
+pub struct NumberedMerge {
+    alloc: Global,
+    // What each text is.
+    kind: SourceKind,
+    // The number of each text.
+    numbers: Vec<usize>,
+    // The merger of those whose first row is known: the first ones.
+    merger: Merger,
+    // The text after these.
+    rows: RowSource,
+    // The place of the text that bytes are wanted of.
+    wanted: usize,
+}
+
+impl NumberedMerge {
+    /// Returns the merge of the texts of these numbers. Nothing was given of them.
+    pub fn new(alloc: Global, kind: SourceKind, numbers: Vec<usize>) -> NumberedMerge
+        ensures begins { HasTaken (map (λ n. (kind, [])) result.numbers.items) result [] }
+        ensures numbers { result.numbers ≡ numbers }
+    {
+        let none = Vec::new(alloc);
+        let merger = Merger::new(none);
+        let rows = RowSource::new(alloc, kind);
+        NumberedMerge {
+            alloc,
+            kind,
+            numbers,
+            merger,
+            rows,
+            wanted: 0,
+        }
+    }
+
+    /// Returns the numbers of the texts.
+    pub fn numbers(&self) -> &Vec<usize>
+        ensures { result.now ≡ self.now.numbers }
+    {
+        &self.numbers
+    }
+
+    /// Returns how the lines of the text of that place were read.
+    pub fn reading(&self, i: usize) -> LinesRead {
+        match self.merger.sources().get(i) {
+            Some(source) => source.rows().reading(),
+            None => self.rows.reading(),
+        }
+    }
+
+    /// Returns what the counts of the rows that were taken add up to.
+    pub fn total(&self) -> usize
+        ensures { result ≡ self.now.merger.total }
+    {
+        self.merger.total()
+    }
+
+    /// Returns how many bytes of the wanted text it keeps: those that were given and haven't been read.
+    pub fn kept(&self) -> usize {
+        if self.wanted < self.merger.sources().len() {
+            return self.merger.kept(self.wanted);
+        }
+        self.rows.kept()
+    }
+
+    // Returns the number of the wanted text.
+    fn number(&self) -> usize
+        ensures { self.now.wanted < length self.now.numbers.items → result ≡ slice_index_or self.now.numbers.items self.now.wanted result }
+    {
+        match self.numbers.get(self.wanted) {
+            Some(number) => *number,
+            None => 0,
+        }
+    }
+
+    // Adds a text whose first row is known. The one after it is next.
+    fn push(&mut self, source: Source) -> Result<(), Stop>
+        ensures added { OnOk result (self.new.merger.sources.items ≡ self.old.merger.sources.items ++ source ∷ []) }
+        ensures unused { IsUnused self.old.merger → IsUnused self.new.merger }
+        ensures next { OnOk result (Holds self.old.kind [] self.new.rows) }
+        ensures same { (self.new.numbers ≡ self.old.numbers) × (self.new.kind ≡ self.old.kind) }
+    {
+        if self.merger.push(source).is_err() {
+            return Err(Stop::Memory);
+        }
+        self.rows = RowSource::new(self.alloc, self.kind);
+        Ok(())
+    }
+
+    // Takes the first row of the next text. Returns whether that text is to be given more bytes first.
+    fn open_next(&mut self) -> Result<bool, Stop>
+        ensures opened { IfOk result (λ wants. length self.old.merger.sources.items < length self.old.numbers.items → KeepsTaken self.old self.new) }
+        ensures wanted { IfOk result (λ wants. wants ≡ true → length self.old.merger.sources.items < length self.old.numbers.items → IsWanted self.new) }
+        ensures more { IfOk result (λ wants. wants ≡ false → length self.new.merger.sources.items ≡ length self.old.merger.sources.items + 1) }
+        ensures same { self.new.numbers ≡ self.old.numbers }
+    {
+        let i = self.merger.sources().len();
+        let none = RowSource::new(self.alloc, self.kind);
+        let rows = mem::replace(&mut self.rows, none);
+        match Source::open(rows) {
+            Ok(Opened::Ready(source)) => {
+                self.push(source)?;
+                Ok(false)
+            }
+            Ok(Opened::Wants(rows)) => {
+                self.rows = rows;
+                self.wanted = i;
+                Ok(true)
+            }
+            Err((fault, rows)) => {
+                self.rows = rows;
+                Err(Stop::Source(i, fault))
+            }
+        }
+    }
+
+    // Takes the first row of each text, in their order. Returns whether the wanted text is to be given more bytes first.
+    fn open(&mut self) -> Result<bool, Stop>
+        ensures opened { IfOk result (λ wants. KeepsTaken self.old self.new) }
+        ensures wanted { IfOk result (λ wants. IsWantedIf wants self.new) }
+        ensures same { self.new.numbers ≡ self.old.numbers }
+    {
+        'texts: while self.merger.sources().len() < self.numbers.len() {
+            if self.open_next()? {
+                return Ok(true);
+            }
+        }
+        Ok(false)
+    }
+
+    /// Gives the next bytes of the wanted text.
+    ///
+    /// # Errors
+    ///
+    /// An allocation fails.
+    pub fn give(&mut self, block: &[u8]) -> Result<(), AllocError>
+        // The wanted text was given the block more, and no other text anything. In the clause `text` is what was given of it before.
+        ensures given { OnOk result (GivesWanted block.now self.old self.new) }
+        ensures wants { OnOk result (IsWanted self.old → IsWanted self.new) }
+        ensures wanted { self.new.wanted ≡ self.old.wanted }
+        ensures same { self.new.numbers ≡ self.old.numbers }
+    {
+        if self.wanted < self.merger.sources().len() {
+            return self.merger.give(self.wanted, block);
+        }
+        self.rows.give(block)
+    }
+
+    /// Says that no more bytes of the wanted text come.
+    pub fn end(&mut self)
+        // What was given is unchanged.
+        ensures given { IsWanted self.old → KeepsTaken self.old self.new }
+
+        // The wanted text has ended.
+        ensures merged { EndsWanted self.old self.new }
+        ensures opening { length self.old.merger.sources.items ≤ self.old.wanted → self.new.rows.is_ended ≡ true }
+        ensures same { self.new.numbers ≡ self.old.numbers }
+    {
+        if self.wanted < self.merger.sources().len() {
+            self.merger.end(self.wanted);
+        } else {
+            self.rows.end();
+        }
+    }
+
+    /// Returns the next row of the merge, or the number of the text that bytes are wanted of.
+    ///
+    /// # Errors
+    ///
+    /// Same as [`Merger::next_row`].
+    pub fn next_row(&mut self) -> Result<Merged, Stop>
+        // A row comes behind those in `out`; or a text wants bytes; or it is the end, and `out` is the merge of all rows.
+        ensures follows { IfOk result (λ next. GoesOn self.old next self.new) }
+        ensures same { self.new.numbers ≡ self.old.numbers }
+    {
+        if self.open()? {
+            return Ok(Merged::Wants(self.number()));
+        }
+        match self.merger.next_row()? {
+            Merged::Wants(i) => {
+                self.wanted = i;
+                Ok(Merged::Wants(self.number()))
+            }
+            next => Ok(next),
+        }
+    }
+}
