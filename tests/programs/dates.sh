@@ -46,15 +46,46 @@ ends 0 '' history --quiet --db days.db nut
 cut -d , -f 1,3,5- ../out > ../plain
 has ../plain 'batch,line,date,change,outcome,number,note\n1,4,2026-01-31,7,entered,7,count\n1,5,2026-01-01,-9,refused,7,too much\n2,2,,1,entered,8,\n3,4,2026-01-31,-7,entered,1,count\n' "a history with dates and notes"
 printf 'day;article;change\n2024-02-29;axe;1\n' > leap.csv
-ends 0 '' enter --quiet --db days.db --delimiter ';' --date day leap.csv
+ends 0 '' enter --quiet --db days.db --delimiter ';' --date day --note '' leap.csv
 for bad in 1900-02-29 2026-02-29 2026-13-01 2026-00-10 2026-04-31 2026-01-00 2026-1-01 26-01-01 2026/01/01 20260101 '2026-01-01 ' '' 0x26-01-01; do
   printf 'article,change,on\nbolt,1,2026-01-31\nnut,1,%s\n' "$bad" > bad.csv
-  ends 2 "$p: bad.csv:3: no date: \`$bad\`; a date is written as 2026-02-28" enter --quiet --db days.db --date on bad.csv
+  ends 2 "$p: bad.csv:3: no date: \`$bad\`; a date is written as 2026-02-28" enter --quiet --db days.db --date on --note '' bad.csv
   ends 2 "$p: bad.csv:3: no date: \`$bad\`; a date is written as 2026-02-28" enter --quiet --db none.db --date on bad.csv
   ends 2 "$p: --at takes a date, as 2026-02-28" balance --db days.db --at "$bad"
 done
 [ ! -e none.db ] || fail "a database is made although a date is bad"
 ends 2 "$p: bad.csv:1: no column \`day\`; there are: \`article\`, \`change\`, \`on\`" enter --quiet --db days.db --date day bad.csv
+
+# A new database keeps the columns of dates and notes. Those of a later call count for that call alone, and an empty name is no column
+printf 'article,change,on,why\nbolt,5,2026-02-01,late\n' > kept1.csv
+printf 'article,change,on,why\nbolt,1,2026-01-03,early\n' > kept2.csv
+printf 'article,change,day\nbolt,2,2026-01-04\n' > kept3.csv
+ends 0 '' enter --quiet --db kept.db --date on --note why kept1.csv
+is kept.db "select name, value from meta where name in ('date', 'note') order by name" 'date|on\nnote|why' "the columns of dates and notes in the table meta"
+ends 0 '' enter --quiet --db kept.db kept2.csv
+is kept.db 'select date, note from movement order by movement' '2026-02-01|late\n2026-01-03|early' "dates and notes by the columns that are kept"
+ends 0 '' balance --db kept.db --at 2026-01-31
+has ../out 'article,number\nbolt,1\n' "the balance of a day after a file without options"
+ends 2 "$p: kept3.csv:1: no column \`on\`; there are: \`article\`, \`change\`, \`day\`; \`--date ''\` reads no dates" enter --quiet --db kept.db kept3.csv
+ends 2 "$p: kept3.csv:1: no column \`why\`; there are: \`article\`, \`change\`, \`day\`; \`--note ''\` reads no notes" enter --quiet --db kept.db --date day kept3.csv
+ends 0 '' enter --quiet --db kept.db --date day --note '' kept3.csv
+ends 0 '' enter --quiet --db kept.db --again --date '' --note '' kept3.csv
+ends 0 '' put --quiet --db kept.db bolt 1
+ends 0 '' take --quiet --db kept.db bolt 1
+is kept.db 'select date, note from movement where movement > 2 order by movement' '2026-01-04|\n|\n|\n|' "dates and notes by options"
+ends 0 '' undo --quiet --db kept.db kept2.csv
+ends 0 '' count --quiet --db kept.db --again stock.csv
+ends 0 '' verify --db kept.db
+ends 0 '' close --db kept.db --into kept4.db
+is kept4.db "select name, value from meta where name in ('date', 'note') order by name" 'date|on\nnote|why' "a new stock keeps the columns of dates and notes"
+ends 0 '' close --db kept.db --into kept5.db --date day --note ''
+is kept5.db "select name, value from meta where name in ('date', 'note') order by name" 'date|day' "a new stock keeps the columns that close names"
+ends 0 '' enter --quiet --db kept5.db kept3.csv
+is kept5.db 'select date from movement where batch = 2' '2026-01-04' "a date by a column that close named"
+# A database of an earlier program keeps no such columns, and is read as before
+sql kept.db "delete from meta where name in ('date', 'note')"
+ends 0 '' enter --quiet --db kept.db --again kept3.csv
+is kept.db 'select date, note from movement order by movement desc limit 1' '|' "no dates of a stock that keeps no column of them"
 printf 'article,change,on\nbolt,1,2026-01-31\n' > dated.csv
 ends 0 '' enter --quiet --db begun.db --from stock.csv --date on dated.csv
 is begun.db 'select batch, article, date from movement order by movement' '1|bolt|\n1|nut|\n1|washer|\n2|bolt|2026-01-31' "the stock at the beginning has no dates"

@@ -165,4 +165,42 @@ has cur.csv "$stock" "the old file after an open quote"
 printf 'article,change,note\n"12\ninch",5,"open\nbolt,1,\n' > open.csv
 ends 2 "hashbag_ledger: open.csv:3: quote never closed" open.csv
 
+# The stages of work in a database: each is a line with --progress, and none is with --quiet, nor in a file
+printf 'article,change\nbolt,5\n' > first.csv
+printf 'article,number\nbolt,4\n' > counted.csv
+# reports TEXT WORD..: the program ends with status 0 on these words and --progress, and reports these stages
+reports() {
+  local text=$1
+  shift
+  "$program" "$@" --progress > ../out 2> ../err < /dev/null || { cat ../err; fail "no status 0 with --progress: $*"; }
+  [ "$(grep -v -e ' MB' -e ': batch' ../err | tr '\n' '|')" = "$text" ] || { cat ../err; fail "not the stages $text: $*"; }
+}
+reports 'booking 1 movement|s.db: opening|s.db: reading movements|s.db: writing|' enter --db s.db first.csv
+printf 'article,change\nbolt,5\nnut,1\n' > second.csv
+reports 's.db: opening|s.db: reading movements|booking 2 movements|s.db: writing|' enter --db s.db second.csv
+reports 's.db: opening|s.db: reading movements|booking 1 movement|s.db: writing|' take --db s.db bolt 2
+reports 's.db: opening|s.db: reading movements|booking 1 movement|s.db: writing|' count --db ./s.db counted.csv
+reports 's.db: opening|s.db: reading movements|booking 1 movement|s.db: writing|' undo --db s.db --last
+reports 's.db: opening|s.db: reading movements|booking 6 movements|' verify --db s.db
+for job in balance batches "history bolt" "show 1"; do
+  # shellcheck disable=SC2086
+  reports 's.db: opening|s.db: reading movements|' $job --db s.db
+done
+reports 's.db: opening|s.db: reading movements|next.db: opening|booking 2 movements|next.db: writing|' close --db s.db --into next.db
+for job in balance batches "history bolt" "show 1" verify; do
+  # shellcheck disable=SC2086
+  ends 0 "" $job --db s.db
+  # shellcheck disable=SC2086
+  ends 0 "" $job --db s.db --quiet
+done
+"$program" verify --db s.db --quiet --progress > ../out 2> ../err
+[ $? = 2 ] || fail "--progress with --quiet"
+# On a terminal short work shows nothing, and 200000 movements show each stage in the place of the one before, which is erased at the end
+[ "$(script -qec "'$program' verify --db s.db" /dev/null < /dev/null | tr -d '\r')" = '5 batches, 6 movements, 0 of them refused: the balance and the refusals agree' ] || fail "short work on a terminal"
+{ echo article,change; yes bolt,1 | head -n 200000; } > many.csv
+shown=$(script -qec "'$program' enter --db s.db many.csv" /dev/null < /dev/null | tr '\r\033' '<>')
+[ "${shown#*<>\[Kbooking }" = '200000 movements<>[Ks.db: writing<>[Kmany.csv: batch 6, 200000 movements<' ] || fail "stages on a terminal: $shown"
+shown=$(script -qec "'$program' enter --again --quiet --db s.db many.csv" /dev/null < /dev/null | tr '\r\033' '<>')
+[ "$shown" = '' ] || fail "stages on a terminal with --quiet: $shown"
+
 echo "ledger: ok"

@@ -183,6 +183,25 @@ ends 1 "$p: said.db: batch 2 was undone by batch 10" undo --db said.db b.csv
 ends 1 'b.csv: batch 11, 2 movements, 1 refused' enter --refused refused.csv --db said.db --again b.csv
 ends 0 'b.csv: batch 12, 1 movement, the opposites of batch 11' undo --db said.db b.csv
 ends 2 "$p: said.db: no batch c.csv" undo --db said.db c.csv
+
+# A file that was entered by another path: the only batch that wasn't undone of a file of that name, unless both names have folders
+mkdir near far
+printf 'article,change\nbolt,1\n' > near/one.csv
+printf 'article,change\nbolt,2\n' > far/one.csv
+printf 'article,change\nbolt,4\n' > two.csv
+ends 0 './two.csv: batch 1, 1 movement' enter --db named.db ./two.csv
+ends 0 './two.csv: batch 2, 1 movement, the opposites of batch 1' undo --db named.db two.csv
+ends 2 "$p: named.db: no batch two.csv" undo --db named.db two.csv
+ends 0 'near/one.csv: batch 3, 1 movement' enter --db named.db near/one.csv
+ends 0 '' show --db named.db one.csv
+has ../out 'line,date,article,change,outcome,number,note\n2,,bolt,1,entered,1,\n' "the batch of a file without its folder"
+ends 2 "$p: named.db: no batch far/one.csv; is it batch 3 (near/one.csv)?" undo --db named.db far/one.csv
+ends 0 'far/one.csv: batch 4, 1 movement' enter --db named.db far/one.csv
+ends 2 "$p: named.db: no batch one.csv; is it batch 4 (far/one.csv)?" undo --db named.db one.csv
+ends 0 'near/one.csv: batch 5, 1 movement, the opposites of batch 3' undo --db named.db near/one.csv
+ends 0 'far/one.csv: batch 6, 1 movement, the opposites of batch 4' undo --db named.db one.csv
+ends 2 "$p: named.db: no batch ./one.csv" undo --db named.db ./one.csv
+ends 0 '' verify --db named.db
 ends 2 "$p: undo takes a batch, by its number or its file, or --last" undo --db said.db
 ends 2 "$p: undo takes a batch, by its number or its file, or --last" undo --db said.db --last 2
 ends 0 '' verify --db said.db
@@ -205,13 +224,24 @@ printf 'article,change\nbolt,5\n' > ../line && input=../line ends 0 '-: batch 1,
 ends 0 '-: batch 2, 1 movement' take --db typed.db bolt 2
 ends 1 "$(printf -- '-:2: refused: out 4 of "bolt", 3 there\n-: batch 3, 1 movement, 1 refused')" take --db typed.db bolt 4
 ends 0 '-: batch 4, 1 movement' take --db typed.db bolt 2
-ends 0 '' put --quiet --db typed.db 'screw, "long"' 1
+ends 0 "$(printf -- '-: batch 5, 1 movement\n%s: typed.db: "screw, "long"" is new' "$p")" put --db typed.db 'screw, "long"' 1
 ends 0 '' balance --db typed.db
 has ../out 'article,number\nbolt,1\n"screw, ""long""",1\n' "the balance after movements that were typed"
 ends 2 "$p: -:2: no number: \`--1\`" take --db typed.db bolt -- -1
 ends 2 "$p: -:2: no number: \`+-1\`" put --db typed.db bolt -- -1
 ends 2 "$p: -:2: whole numbers only: \`+1.5\`" put --db typed.db bolt 1.5
 is typed.db 'select batch, file, kind, movements, refused from batch order by batch' '1|-|moves|1|0\n2|-|moves|1|0\n3|-|moves|1|1\n4|-|moves|1|0\n5|-|moves|1|0' "the batches of movements that were typed"
+# A misspelt article is new, or isn't there: a near one is named. One of which none is left isn't new
+cp typed.db near.db
+ends 0 "$(printf -- '-: batch 6, 1 movement\n%s: near.db: "blot" is new; is it "bolt"?' "$p")" put --db near.db blot 1
+ends 0 '-: batch 7, 1 movement' take --db near.db blot 1
+ends 0 '-: batch 8, 1 movement' put --db near.db blot 1
+ends 0 '' put --quiet --db near.db bolts 1
+ends 0 "$(printf -- '-: batch 10, 1 movement\n%s: near.db: "x" is new' "$p")" put --db near.db x 1
+ends 1 "$(printf -- '-:2: refused: out 1 of "bolq", 0 there; is it "bolt"?\n-: batch 11, 1 movement, 1 refused')" take --db near.db bolq 1
+ends 1 "$(printf -- '-:2: refused: out 9 of "bolt", 1 there\n-: batch 12, 1 movement, 1 refused')" take --db near.db bolt 9
+ends 1 '-:2: refused: out 1 of "washer", 0 there' take --quiet --db near.db washer 1
+ends 0 '' verify --db near.db
 printf 'article,change\nsalt,1.25\n' > salt.csv
 ends 0 '' enter --quiet --db salt.db --scale 2 salt.csv
 ends 0 '' put --quiet --db salt.db --mark , salt 0,5

@@ -5,7 +5,7 @@ mod outputs;
 mod stock;
 
 use crate::outputs::{Outputs, conflict};
-use hashbag_ledger_args::arguments::{Request, parse};
+use hashbag_ledger_args::arguments::{Settings, parse};
 use hashbag_ledger_args::command::PROGRAM;
 use hashbag_ledger_args::jobs::has_job;
 use hashbag_ledger_db::troubles;
@@ -17,26 +17,26 @@ use std::hash::RandomState;
 use std::process::ExitCode;
 
 // Enters the files, and returns what is to be written.
-fn report_of<'a>(rt: &HostRuntime, request: &Request<'a>) -> Result<Report, Trouble<'a>> {
+fn report_of<'a>(rt: &HostRuntime, settings: &Settings<'a>) -> Result<Report, Trouble<'a>> {
     // The keys are random, so nobody can choose articles whose hashes collide.
     let state = match RandomState::new(rt) {
         Ok(state) => state,
         Err(error) => return Err(Trouble::Random(error)),
     };
-    let inputs = HostInputs::new(rt, request.reports, &request.files);
-    let report = enter_unkept(rt.alloc(), state, &inputs, request);
+    let inputs = HostInputs::new(rt, settings.reports, &settings.files);
+    let report = enter_unkept(rt.alloc(), state, &inputs, settings);
     inputs.end();
     report
 }
 
 // Does what the arguments ask for, and returns the exit status.
 fn answer<'a>(rt: &HostRuntime, words: &'a [String]) -> Result<u8, Trouble<'a>> {
-    let request = parse(rt, words)?;
-    if let Some(name) = conflict(rt, &request) {
+    let settings = parse(rt, words)?;
+    if let Some(name) = conflict(rt, &settings) {
         return Err(troubles::conflict(rt.alloc(), name));
     }
-    let outputs = Outputs::open(rt, &request)?;
-    match report_of(rt, &request) {
+    let outputs = Outputs::open(rt, &settings)?;
+    match report_of(rt, &settings) {
         Ok(report) => {
             outputs.write(rt, &report)?;
             Ok(report.status)

@@ -1,5 +1,5 @@
 //! The outputs: the refusals and the balance.
-use hashbag_ledger_args::arguments::Request;
+use hashbag_ledger_args::arguments::Settings;
 use hashbag_ledger_db::unkept::Report;
 use hashbag_shell::one_file::is_one_file;
 use hashbag_shell::output::{Output, write_text};
@@ -19,18 +19,18 @@ pub fn is_same(rt: &HostRuntime, first: &str, second: &str) -> bool {
 
 /// Returns the name of an output that is also an input or the other output, if there is one. The balance may replace the stock at the
 /// beginning.
-pub fn conflict<'a>(rt: &HostRuntime, request: &Request<'a>) -> Option<&'a str> {
-    for output in [request.output, request.refused] {
+pub fn conflict<'a>(rt: &HostRuntime, settings: &Settings<'a>) -> Option<&'a str> {
+    for output in [settings.output, settings.refused] {
         if let Some(name) = output {
-            for file in request.files.iter().copied() {
+            for file in settings.files.iter().copied() {
                 if is_same(rt, name, file) {
                     return Some(name);
                 }
             }
         }
     }
-    let refused = request.refused?;
-    for other in [request.start, request.output] {
+    let refused = settings.refused?;
+    for other in [settings.start, settings.output] {
         if let Some(name) = other
             && is_same(rt, refused, name)
         {
@@ -46,9 +46,9 @@ impl<'a> Outputs<'a> {
     /// # Errors
     ///
     /// `File` names the output that can't be opened, `Memory` if an allocation fails. Then the files are unchanged.
-    pub fn open(rt: &HostRuntime, request: &Request<'a>) -> Result<Outputs<'a>, Trouble<'a>> {
-        let refusals = Output::open(rt, request.refused)?;
-        match Output::open(rt, request.output) {
+    pub fn open(rt: &HostRuntime, settings: &Settings<'a>) -> Result<Outputs<'a>, Trouble<'a>> {
+        let refusals = Output::open(rt, settings.refused)?;
+        match Output::open(rt, settings.output) {
             Ok(balance) => Ok(Outputs { refusals, balance }),
             Err(trouble) => {
                 refusals.abandon(rt);

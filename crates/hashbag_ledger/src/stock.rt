@@ -4,9 +4,11 @@ mod database;
 mod enter;
 mod say;
 mod show;
+mod stages;
 mod undo;
 mod verify;
 
+use crate::stock::show::View;
 use clap::ArgMatches;
 use hashbag_ledger_args::job::Job;
 use hashbag_ledger_args::jobs::command;
@@ -22,10 +24,10 @@ fn do_job<'a>(rt: &HostRuntime, name: &str, given: &ArgMatches<'a>) -> Result<u8
         "take" => enter::enter_typed(rt, &job.typed(), "-"),
         "put" => enter::enter_typed(rt, &job.typed(), "+"),
         "count" => count::count(rt, &job),
-        "balance" => show::balance(rt, &job),
-        "history" => show::history(rt, &job),
-        "batches" => show::batches(rt, &job),
-        "show" => show::show(rt, &job),
+        "balance" => show::show(rt, &job, View::Balance),
+        "history" => show::show(rt, &job, View::History),
+        "batches" => show::show(rt, &job, View::Batches),
+        "show" => show::show(rt, &job, View::Batch),
         "undo" => undo::undo(rt, &job),
         "close" => enter::close(rt, &job),
         _ => verify::verify(rt, &job),

@@ -1,14 +1,18 @@
 -- How the files of a job are read: as its options say, else as the stock keeps it.
-use Rattle.std.specs.Prelude.{◌≡◌, ℕ, Bool, ◌-◌, ◌^◌, nat_le, if◌then◌else◌, List, Option, None, Some, String, string_bytes, codes, unwrap_or}
+use Rattle.std.specs.Prelude.{◌≡◌, ℕ, Bool, ◌-◌, ◌^◌, nat_le, if◌then◌else◌, List, Option, None, Some, String, string_bytes, codes, option_map, unwrap_or}
+use Rattle.std.specs.Borrow.{Bor}
 use Rattle.std.specs.Global.{Global}
 use Rattle.hashbag_csv.specs.Decimals.{most_decimals}
 use Rattle.hashbag_csv.specs.declared.counts.Reading.{Reading}
 use Rattle.hashbag_csv.specs.declared.scale.Mark.{Mark}
 use Rattle.hashbag_csv.specs.declared.scale.Mark.TheVariants.{Point}
 use Rattle.hashbag_ledger_args.specs.declared.columns.KeptColumns.{KeptColumns}
+use Rattle.hashbag_ledger_args.specs.declared.columns.KeptExtras.{KeptExtras}
 use Rattle.hashbag_ledger_args.specs.declared.job.Job.{Job}
+use Rattle.hashbag_ledger_lib.specs.Extras.{columns_of}
 use Rattle.hashbag_ledger_lib.specs.Movements.{names_now}
 use Rattle.hashbag_ledger_lib.specs.Styles.{plain_style}
+use Rattle.hashbag_ledger_lib.specs.declared.extras.ExtraColumns.{ExtraColumns}
 use Rattle.hashbag_ledger_lib.specs.declared.reading.ChangeColumns.{ChangeColumns}
 use Rattle.hashbag_ledger_lib.specs.declared.reading.ChangeColumns.TheVariants.{Signed, ByKind}
 use Rattle.hashbag_ledger_lib.specs.declared.reading.Columns.{Columns}
@@ -60,3 +64,24 @@ names_by job kept = elim job.columns [ None ↦ kept | Some given ↦ names_now 
 -- the encoding of the job's stock at the beginning, or of its movements
 abbrev pub encoding_of : Job → Bool → Option Encoding
 encoding_of job is_start = if is_start then job.start_encoding else job.encoding
+
+-- the names of the columns of dates and of notes, as bytes
+abbrev pub extras_now : ExtraColumns (Bor (List ℕ)) → ExtraColumns (List ℕ)
+extras_now names = columns_of (λ n. n.now) names
+
+-- those that a stock keeps
+abbrev pub kept_extras : KeptExtras → ExtraColumns (List ℕ)
+kept_extras kept = record { date = option_map string_bytes kept.date; note = option_map string_bytes kept.note }
+
+-- those of a stock that keeps none
+abbrev pub no_extras : ExtraColumns (List ℕ)
+no_extras = record { date = None; note = None }
+
+-- a column: as the job says, which may also say that there is none, else as it is kept
+abbrev pub extra_by : Option (Option (Bor (List ℕ))) → Option (List ℕ) → Option (List ℕ)
+extra_by None kept = kept
+extra_by (Some given) kept = option_map (λ n. n.now) given
+
+-- the columns of dates and of notes of movements: those of the job, else those of `kept`
+abbrev pub extras_by : Job → ExtraColumns (List ℕ) → ExtraColumns (List ℕ)
+extras_by job kept = record { date = extra_by job.extras.date kept.date; note = extra_by job.extras.note kept.note }

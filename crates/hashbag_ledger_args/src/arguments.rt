@@ -14,7 +14,7 @@ use std::alloc::{AllocError, Global};
 
 /// What the arguments ask for.
 #[derive(Drop)]
-pub struct Request<'a> {
+pub struct Settings<'a> {
     /// The file of the stock at the beginning, if there is one.
     pub start: Option<&'a str>,
     /// The columns of articles and of numbers of that stock.
@@ -48,13 +48,13 @@ fn reading_of(given: &ArgMatches<'_>) -> Reading {
     )
 }
 
-// Returns the request of the arguments.
-fn request_of<'a>(
+// Returns the settings of the arguments.
+fn settings_of<'a>(
     alloc: Global,
     matches: &ArgMatches<'a>,
     start_columns: (&'a str, &'a str),
     columns: Columns<&'a str>,
-) -> Result<Request<'a>, AllocError> {
+) -> Result<Settings<'a>, AllocError> {
     let mut files = Vec::new(alloc);
     for file in matches.get_strs("MOVES.csv").unwrap_or(&[]) {
         files.push(*file)?;
@@ -62,7 +62,7 @@ fn request_of<'a>(
     if files.is_empty() {
         files.push("-")?;
     }
-    Ok(Request {
+    Ok(Settings {
         start: matches.get_str("start"),
         start_columns,
         start_encoding: encoding(matches, "start-encoding"),
@@ -86,10 +86,10 @@ fn request_of<'a>(
 pub fn parse<'a, R: Print + Eprint + AllocGlobal>(
     rt: &R,
     words: &'a [String],
-) -> Result<Request<'a>, Trouble<'a>> {
+) -> Result<Settings<'a>, Trouble<'a>> {
     let alloc = rt.alloc();
     let given = given_to(rt, with_listed(alloc, command(alloc), words), words)?;
     let columns = columns_of(alloc, word(&given, "columns", COLUMNS))?;
     let start_columns = start_columns_of(alloc, word(&given, "start-columns", START_COLUMNS))?;
-    Ok(request_of(alloc, &given, start_columns, columns)?)
+    Ok(settings_of(alloc, &given, start_columns, columns)?)
 }

@@ -1,8 +1,9 @@
 //! The names of columns that are given as one word.
-ghost use Rattle.std.specs.Prelude.{◌≡◌, IfOk};
-ghost use Rattle.hashbag_ledger_args.specs.Readings.{kept_names, plain_names};
+ghost use Rattle.std.specs.Prelude.{◌≡◌, IfOk, option_map, string_bytes};
+ghost use Rattle.hashbag_ledger_args.specs.Readings.{extras_now, kept_extras, kept_names, no_extras, plain_names};
 ghost use Rattle.hashbag_ledger_lib.specs.Movements.{names_now};
 
+use hashbag_ledger_lib::extras::ExtraColumns;
 use hashbag_ledger_lib::reading::{ChangeColumns, Columns};
 use hashbag_shell::trouble::Trouble;
 use std::alloc::{AllocError, Global};
@@ -116,6 +117,45 @@ impl KeptColumns {
                 Some(kind) => ChangeColumns::ByKind(kind.as_str(), number),
                 None => ChangeColumns::Signed(number),
             },
+        }
+    }
+}
+
+/// Returns no columns of dates and of notes.
+pub fn plain_extras() -> ExtraColumns<&'static str>
+    ensures { extras_now result ≡ no_extras }
+{
+    let (date, note) = (None, None);
+    ExtraColumns { date, note }
+}
+
+/// The names of the columns of dates and of notes that a stock keeps.
+#[derive(Drop)]
+pub struct KeptExtras {
+    /// The column of dates, if there is one.
+    pub date: Option<String>,
+    /// The column of notes, if there is one.
+    pub note: Option<String>,
+}
+
+// Returns the text, if there is one.
+fn text_if(text: &Option<String>) -> Option<&str>
+    ensures { option_map (λ n. n.now) result ≡ option_map string_bytes text.now }
+{
+    match text {
+        Some(text) => Some(text.as_str()),
+        None => None,
+    }
+}
+
+impl KeptExtras {
+    /// Returns the names of these columns.
+    pub fn names(&self) -> ExtraColumns<&str>
+        ensures { extras_now result ≡ kept_extras self.now }
+    {
+        ExtraColumns {
+            date: text_if(&self.date),
+            note: text_if(&self.note),
         }
     }
 }

@@ -1,6 +1,6 @@
 //! What is asked of a database, by a subcommand's arguments.
 ghost use Rattle.std.specs.Prelude.{◌≡◌};
-ghost use Rattle.hashbag_ledger_args.specs.Readings.{asked_style, encoding_of, names_by, style_by, IsReadingOf};
+ghost use Rattle.hashbag_ledger_args.specs.Readings.{asked_style, encoding_of, extras_by, extras_now, names_by, style_by, IsReadingOf};
 ghost use Rattle.hashbag_ledger_lib.specs.Movements.{names_now};
 
 use crate::columns::{columns_of, plain_columns, start_columns_of};
@@ -39,8 +39,8 @@ pub struct Job<'a> {
     pub encoding: Option<Encoding>,
     /// The columns of movements, if they are named.
     pub columns: Option<Columns<&'a str>>,
-    /// The columns of dates and of notes, if they are named.
-    pub extras: ExtraColumns<&'a str>,
+    /// The columns of dates and of notes, if they are named: `Some(None)` says that there is none.
+    pub extras: ExtraColumns<Option<&'a str>>,
     /// The day of the balance, if one is named.
     pub at: Option<&'a str>,
     /// The scale, if one is named.
@@ -118,10 +118,21 @@ fn delimiter_of(given: &ArgMatches<'_>) -> Option<Delimiter> {
     }
 }
 
+// Returns the column that the option of this name names, if it is given. An empty name is no column.
+fn extra_of<'a>(given: &ArgMatches<'a>, option: &str) -> Option<Option<&'a str>> {
+    match given.get_str(option) {
+        Some("") => Some(None),
+        Some(name) => Some(Some(name)),
+        None => None,
+    }
+}
+
 // Returns the columns of dates and of notes that are named.
-fn extras_of<'a>(given: &ArgMatches<'a>) -> ExtraColumns<&'a str> {
-    let (date, note) = (given.get_str("date"), given.get_str("note"));
-    ExtraColumns { date, note }
+fn extras_of<'a>(given: &ArgMatches<'a>) -> ExtraColumns<Option<&'a str>> {
+    ExtraColumns {
+        date: extra_of(given, "date"),
+        note: extra_of(given, "note"),
+    }
 }
 
 impl<'a> Job<'a> {
@@ -185,6 +196,10 @@ impl<'a> Job<'a> {
     pub fn typed(self) -> Job<'a> {
         let mut job = self;
         job.columns = Some(plain_columns());
+        job.extras = ExtraColumns {
+            date: Some(None),
+            note: Some(None),
+        };
         job.delimiter = Some(Delimiter::Comma);
         job
     }
@@ -227,6 +242,23 @@ impl<'a> Job<'a> {
         match self.columns {
             Some(columns) => columns,
             None => kept,
+        }
+    }
+
+    /// Returns the names of the columns of dates and of notes: those that the job has, else those of `kept`. The job may say that there is
+    /// none.
+    pub fn extras_or<'k>(&'k self, kept: ExtraColumns<&'k str>) -> ExtraColumns<&'k str>
+        ensures { extras_now result ≡ extras_by self.entry.now (extras_now kept.entry) }
+    {
+        ExtraColumns {
+            date: match self.extras.date {
+                Some(date) => date,
+                None => kept.date,
+            },
+            note: match self.extras.note {
+                Some(note) => note,
+                None => kept.note,
+            },
         }
     }
 }

@@ -9,13 +9,16 @@ use std::alloc::Global;
 
 const ABOUT: &str = "Keeps a stock in a database.";
 
+// The help of `--quiet`, if the subcommand says nothing of what it did.
+const QUIET: &str = "Doesn't say how far it is";
+
 // The forms of a balance.
 static FORMS: [&str; 3] = ["csv", "table", "json"];
 
 const AFTER: &str = "\
 The database is a SQLite file; `sqlite3 stock.db` reads it too. Once a batch is entered it is on the disk. A file whose bytes were
-entered before is not entered again, except with --again. A new database keeps the scale, the columns, the delimiter and the mark of
-the call that makes it: later calls read and write by them, unless they name others.
+entered before is not entered again, except with --again. A new database keeps the scale, the columns, also of dates and notes, the
+delimiter and the mark of the call that makes it: later calls read and write by them, unless they name others.
 
 Status: 0 done, 1 some movements were refused, an undo was refused or made before, or the stock doesn't agree with its movements, 2 bad
 arguments, a bad line, no such batch, no stock or more than one, or a database that isn't one of a stock, 3 no memory, 4 a file can't
@@ -57,8 +60,8 @@ fn with_job<'a>(command: CommandResult<'a>, job: CommandResult<'a>) -> CommandRe
     command?.subcommand(job?)
 }
 
-// Returns a subcommand on a database.
-fn job<'a>(alloc: Global, name: &'a str, about: &'a str) -> CommandResult<'a> {
+// Returns a subcommand on a database, with `--progress`, and with `--quiet`, which has this help.
+fn job<'a>(alloc: Global, name: &'a str, about: &'a str, quiet: &'a str) -> CommandResult<'a> {
     let db = Arg::new(alloc, "db")
         .long("db")
         .value_name("FILE")
@@ -72,7 +75,7 @@ fn job<'a>(alloc: Global, name: &'a str, about: &'a str) -> CommandResult<'a> {
         .default_value("5")
         .help("How long to wait while another process has the database open");
     let command = Command::new(alloc, name).about(about).after_help(AFTER);
-    with(with(Ok(command), db), wait)
+    with_progress(alloc, with(with(Ok(command), db), wait), quiet)
 }
 
 // Adds the mark before decimals.
@@ -152,10 +155,10 @@ fn with_moves<'a>(alloc: Global, command: CommandResult<'a>) -> CommandResult<'a
 // Adds the columns of dates and of notes.
 fn with_extras<'a>(alloc: Global, command: CommandResult<'a>) -> CommandResult<'a> {
     let date = Arg::new(alloc, "date").long("date").value_name("NAME").help(
-        "The column of movements with their dates, each as 2026-02-28",
+        "The column of movements with their dates, each as 2026-02-28; by default what the database keeps, '' for none",
     );
     let note = Arg::new(alloc, "note").long("note").value_name("NAME").help(
-        "The column of movements with notes, which `history` and `show` write",
+        "The column of movements with notes, which `history` and `show` write; by default what the database keeps, '' for none",
     );
     with(with(command, date), note)
 }
@@ -175,16 +178,6 @@ fn with_rules<'a>(alloc: Global, command: CommandResult<'a>) -> CommandResult<'a
     with(with(command, scale), refused)
 }
 
-// Adds `--quiet`.
-fn with_quiet<'a>(alloc: Global, command: CommandResult<'a>, help: &'a str) -> CommandResult<'a> {
-    let quiet = Arg::new(alloc, "quiet")
-        .short('q')
-        .long("quiet")
-        .action(ArgAction::SetTrue)
-        .help(help);
-    with(command, quiet)
-}
-
 // Adds `--again`.
 fn with_again<'a>(alloc: Global, command: CommandResult<'a>) -> CommandResult<'a> {
     let again = Arg::new(alloc, "again")
@@ -200,8 +193,7 @@ fn with_flags<'a>(alloc: Global, command: CommandResult<'a>) -> CommandResult<'a
         .long("strict")
         .action(ArgAction::SetTrue)
         .help("Enters nothing if a movement is refused");
-    let help = "Doesn't say which batches were entered, nor how far it is";
-    with_progress(alloc, with_again(alloc, with(command, strict)), help)
+    with_again(alloc, with(command, strict))
 }
 
 fn enter<'a>(alloc: Global) -> CommandResult<'a> {
@@ -209,6 +201,7 @@ fn enter<'a>(alloc: Global) -> CommandResult<'a> {
         alloc,
         "enter",
         "Enters files of movements, each whole or not at all",
+        "Doesn't say which batches were entered, nor how far it is",
     );
     let command = with_extras(alloc, with_moves(alloc, with_start(alloc, command)));
     let command = with_encodings(alloc, with_form(alloc, command));
@@ -225,9 +218,9 @@ fn typed<'a>(alloc: Global, name: &'a str, about: &'a str) -> CommandResult<'a> 
         .required(true)
         .action(ArgAction::Set)
         .help("How many, without a sign, with as many decimals as the database has");
-    let command = with(with(job(alloc, name, about), article), number);
-    let help = "Doesn't say which batch was entered";
-    with_quiet(alloc, with_mark(alloc, command), help)
+    let help = "Doesn't say which batch was entered, whether the article is new, nor how far it is";
+    let command = with(with(job(alloc, name, about, help), article), number);
+    with_mark(alloc, command)
 }
 
 fn count<'a>(alloc: Global) -> CommandResult<'a> {
@@ -242,6 +235,7 @@ fn count<'a>(alloc: Global) -> CommandResult<'a> {
         alloc,
         "count",
         "Enters and writes the differences between the stock and what was counted",
+        "Doesn't say which batch was entered, nor how far it is",
     );
     let command = with(with(command, counted), all);
     let command = with_start_columns(
@@ -251,12 +245,7 @@ fn count<'a>(alloc: Global) -> CommandResult<'a> {
     );
     let help = "The encoding of what was counted; what is written is UTF-8";
     let encoding = encoding_arg(alloc, "encoding", help).default_value("UTF-8");
-    let command = with(command, encoding);
-    let help = "Doesn't say which batch was entered, nor how far it is";
-    with_output(
-        alloc,
-        with_progress(alloc, with_again(alloc, command), help),
-    )
+    with_output(alloc, with_again(alloc, with(command, encoding)))
 }
 
 fn balance<'a>(alloc: Global) -> CommandResult<'a> {
@@ -275,10 +264,9 @@ fn balance<'a>(alloc: Global) -> CommandResult<'a> {
     let at = Arg::new(alloc, "at").long("at").value_name("DATE").help(
         "The sum of what was entered with a date up to that day; without a date, the day of its entry counts, in UTC",
     );
-    let command = job(alloc, "balance", "Writes the balance");
-    let command = with(with(with(command, articles), form), at);
-    let help = "Doesn't say which of the articles aren't there";
-    with_output(alloc, with_quiet(alloc, command, help))
+    let help = "Doesn't say which of the articles aren't there, nor how far it is";
+    let command = job(alloc, "balance", "Writes the balance", help);
+    with_output(alloc, with(with(with(command, articles), form), at))
 }
 
 fn history<'a>(alloc: Global) -> CommandResult<'a> {
@@ -290,9 +278,9 @@ fn history<'a>(alloc: Global) -> CommandResult<'a> {
         alloc,
         "history",
         "Writes the movements of an article, with the balance after each",
+        "Doesn't say that the article has no movement, nor how far it is",
     );
-    let help = "Doesn't say that the article has no movement";
-    with_output(alloc, with_quiet(alloc, with(command, article), help))
+    with_output(alloc, with(command, article))
 }
 
 fn show<'a>(alloc: Global) -> CommandResult<'a> {
@@ -304,6 +292,7 @@ fn show<'a>(alloc: Global) -> CommandResult<'a> {
         alloc,
         "show",
         "Writes the movements of a batch, with the balance after each",
+        QUIET,
     );
     with_output(alloc, with(command, batch))
 }
@@ -320,9 +309,9 @@ fn undo<'a>(alloc: Global) -> CommandResult<'a> {
         alloc,
         "undo",
         "Enters the opposite movements of a batch, all or none",
+        "Doesn't say which batch was entered, nor how far it is",
     );
-    let help = "Doesn't say which batch was entered";
-    with_quiet(alloc, with(with(command, batch), last), help)
+    with(with(command, batch), last)
 }
 
 fn close<'a>(alloc: Global) -> CommandResult<'a> {
@@ -336,14 +325,17 @@ fn close<'a>(alloc: Global) -> CommandResult<'a> {
         alloc,
         "close",
         "Begins a new database with the balance of this one",
+        QUIET,
     );
-    with_columns(alloc, with_form(alloc, with(command, into)))
+    let command = with_columns(alloc, with_form(alloc, with(command, into)));
+    with_extras(alloc, command)
 }
 
 // Adds the subcommands that show a stock.
 fn with_views<'a>(alloc: Global, command: CommandResult<'a>) -> CommandResult<'a> {
     let command = with_job(with_job(command, balance(alloc)), history(alloc));
-    let batches = job(alloc, "batches", "Writes what was entered, and when");
+    let about = "Writes what was entered, and when";
+    let batches = job(alloc, "batches", about, QUIET);
     with_job(with_job(command, with_output(alloc, batches)), show(alloc))
 }
 
@@ -353,6 +345,7 @@ fn with_checks<'a>(alloc: Global, command: CommandResult<'a>) -> CommandResult<'
         alloc,
         "verify",
         "Counts all movements again, and compares the balance and the refusals",
+        QUIET,
     );
     let command = with_job(with_job(command, undo(alloc)), verify);
     with_job(command, close(alloc))

@@ -5,7 +5,7 @@ use Rattle.std.specs.Global.{Global}
 use Rattle.std.specs.String.{string_eq}
 use Rattle.hashbag_csv.specs.Counts.{count_line, counts_in}
 use Rattle.hashbag_csv.specs.Quantities.{IsBalance}
-use Rattle.hashbag_ledger_args.specs.declared.arguments.Request.{Request}
+use Rattle.hashbag_ledger_args.specs.declared.arguments.Settings.{Settings}
 use Rattle.hashbag_ledger_lib.specs.Ledger.{in_the_end, refused_of, Leaves}
 use Rattle.hashbag_ledger_lib.specs.Movements.{movements_in, names_now, content_of}
 use Rattle.hashbag_ledger_lib.specs.Settled.{listed, IsLedgerOf}
@@ -19,22 +19,22 @@ abbrev pub Comes : {S H : Type 0} → List (Movement (String Global)) → Ledger
 Comes ms old new =
     (L : List (String Global × ℕ)) (before : List (Movement (String Global))) → IsLedgerOf string_eq L before old.refusals.items old.stock → IsLedgerOf string_eq L (before ++ ms) new.refusals.items new.stock
 
-module _ (gives : List ℕ → List ℕ → Type 0) (request : Request) where
+module _ (gives : List ℕ → List ℕ → Type 0) (settings : Settings) where
   -- a list has the lines of the file of the stock at the beginning
   pub record IsStartIn (start : List (String Global × ℕ)) (file : Bor (List ℕ)) : Type 0 where
     pub text : List ℕ
-    pub read : IsTextRead gives request.start_encoding file.now text
-    pub lines : map count_line start ≡ counts_in request.reading request.start_columns.0.now request.start_columns.1.now text
+    pub read : IsTextRead gives settings.start_encoding file.now text
+    pub lines : map count_line start ≡ counts_in settings.reading settings.start_columns.0.now settings.start_columns.1.now text
 
   -- a list is the stock at the beginning: empty if no file is named
   abbrev pub IsStartOf : List (String Global × ℕ) → Type 0
-  IsStartOf start = MatchOption request.start (start ≡ []) (IsStartIn start)
+  IsStartOf start = MatchOption settings.start (start ≡ []) (IsStartIn start)
 
   -- these are the movements of the file of this number, in turn
   pub record AreMovementsIn (n : ℕ) (file : List ℕ) (ms : List (Movement (String Global))) : Type 0 where
     pub text : List ℕ
-    pub read : IsTextRead gives request.encoding file text
-    pub all : map content_of ms ≡ movements_in request.reading (names_now request.columns) text
+    pub read : IsTextRead gives settings.encoding file text
+    pub all : map content_of ms ≡ movements_in settings.reading (names_now settings.columns) text
     pub places : All (λ m. m.place.file ≡ n) ms
 
   -- these are the movements of files, in turn, of which the first has the number n
@@ -60,7 +60,7 @@ module _ (gives : List ℕ → List ℕ → Type 0) (request : Request) where
     pub start : List (String Global × ℕ)
     pub begun : IsStartOf start
     pub movements : List (Movement (String Global))
-    pub named : AreMovementsFrom 0 request.files.items movements
+    pub named : AreMovementsFrom 0 settings.files.items movements
     pub rows : IsBalance string_eq string_cmp (in_the_end string_eq (listed string_eq start) movements) entered.balance.items
     pub leaves : Leaves string_eq (listed string_eq start) movements (listed string_eq entered.balance.items)
     pub refused : entered.refusals.items ≡ refused_of string_eq (listed string_eq start) movements

@@ -1,6 +1,6 @@
 //! What a database has before the inputs of a job are entered. Only [`before_in`] makes a `Before`, so it is what was read.
 ghost use Rattle.std.specs.Prelude.{◌≡◌, [], IfOk};
-ghost use Rattle.hashbag_ledger_args.specs.Readings.{kept_names, plain_names};
+ghost use Rattle.hashbag_ledger_args.specs.Readings.{extras_now, kept_extras, kept_names, no_extras, plain_names};
 ghost use Rattle.hashbag_ledger_lib.specs.Changes.{Rises};
 ghost use Rattle.hashbag_ledger_lib.specs.Movements.{names_now};
 
@@ -8,14 +8,15 @@ use crate::movements::{Input, is_once};
 use crate::putting::in_database;
 use crate::said::movements_in;
 use crate::troubles::{entered_as, has_stock, of_stock, same_bytes};
-use hashbag_ledger_args::columns::{KeptColumns, plain_columns};
+use hashbag_ledger_args::columns::{KeptColumns, KeptExtras, plain_columns};
 use hashbag_ledger_args::job::Job;
+use hashbag_ledger_lib::extras::ExtraColumns;
 use hashbag_ledger_lib::once::{Batch, entered_before, next_number};
 use hashbag_ledger_lib::reading::Columns;
 use hashbag_shell::trouble::Trouble;
 use hashbag_stock::error::StockError;
-use hashbag_stock::reading::{balance_of, batches_of};
-use hashbag_stock::tables::{Contents, Shape, columns_of};
+use hashbag_stock::reading::{balance_of, batches_of, movements_of_article};
+use hashbag_stock::tables::{Contents, Shape, columns_of, extras_of};
 use sqlite::{Alter, Connection};
 use std::alloc::Global;
 
@@ -26,6 +27,10 @@ pub struct Before {
     balance: Vec<(String, usize)>,
     // The columns of movements that it keeps.
     columns: KeptColumns,
+    // The columns of dates and of notes that it keeps.
+    extras: KeptExtras,
+    // Whether the article of a movement that is typed has no movement yet.
+    is_new_article: bool,
     // The number of the next batch.
     number: i64,
     movements: u64,
@@ -44,6 +49,18 @@ impl Before {
         ensures { names_now result ≡ kept_names self.now.columns }
     {
         self.columns.names()
+    }
+
+    /// Returns the names of the columns of dates and of notes that the database keeps.
+    pub fn extras(&self) -> ExtraColumns<&str>
+        ensures { extras_now result ≡ kept_extras self.now.extras }
+    {
+        self.extras.names()
+    }
+
+    /// Returns whether the article of a movement that is typed has no movement yet.
+    pub fn is_new_article(&self) -> bool {
+        self.is_new_article
     }
 
     /// Returns the number of the next batch.
@@ -108,6 +125,39 @@ pub fn kept_columns<'a, D: Alter>(
     }
 }
 
+/// Returns the columns of dates and of notes that a stock keeps.
+///
+/// # Errors
+///
+/// What fails.
+pub fn kept_extras<'a, D: Alter>(
+    alloc: Global,
+    db: &'a str,
+    conn: &mut Connection<D>,
+) -> Result<KeptExtras, Trouble<'a>> {
+    let (date, note) = in_database(alloc, db, extras_of(conn))?;
+    Ok(KeptExtras { date, note })
+}
+
+// Returns whether the article of a movement that is typed has no movement yet. `balance` is what is there: only if none of the article is, the
+// movements are read.
+fn is_new_article<'a, D: Alter>(
+    alloc: Global,
+    job: &Job<'a>,
+    conn: &mut Connection<D>,
+    shape: Shape,
+    balance: &[(String, usize)],
+) -> Result<bool, Trouble<'a>> {
+    let Some(article) = job.articles.first().copied() else {
+        return Ok(false);
+    };
+    if balance.iter().any(|entry| entry.0.as_str() == article) {
+        return Ok(false);
+    }
+    let movements = movements_of_article(alloc, conn, shape, article);
+    Ok(in_database(alloc, job.db, movements)?.is_empty())
+}
+
 /// Returns what an open database has, if the inputs may be entered into it.
 ///
 /// # Errors
@@ -123,6 +173,7 @@ pub fn before_in<'a, D: Alter>(
     ensures contents { IfOk result (λ before. before.contents ≡ contents) }
     ensures empty { contents ≡ Contents.Empty → IfOk result (λ before. before.balance.items ≡ []) }
     ensures new { contents ≡ Contents.Empty → IfOk result (λ before. kept_names before.columns ≡ plain_names) }
+    ensures none { contents ≡ Contents.Empty → IfOk result (λ before. kept_extras before.extras ≡ no_extras) }
     ensures rising { IfOk result (λ before. Rises before.balance.items) }
 {
     let Contents::Stock(shape) = contents else {
@@ -130,6 +181,11 @@ pub fn before_in<'a, D: Alter>(
             contents,
             balance: Vec::new(alloc),
             columns: KeptColumns::copy_of(alloc, plain_columns())?,
+            extras: KeptExtras {
+                date: None,
+                note: None,
+            },
+            is_new_article: false,
             number: 1,
             movements: 0,
         });
@@ -142,10 +198,13 @@ pub fn before_in<'a, D: Alter>(
     if !job.again {
         entered_twice(alloc, inputs, &batches)?;
     }
+    let balance = in_database(alloc, db, balance_of(alloc, conn))?;
     Ok(Before {
         contents,
-        balance: in_database(alloc, db, balance_of(alloc, conn))?,
+        is_new_article: is_new_article(alloc, job, conn, shape, &balance)?,
+        balance,
         columns: kept_columns(alloc, db, conn, shape)?,
+        extras: kept_extras(alloc, db, conn)?,
         number: next_number(&batches),
         movements: movements_in(&batches),
     })

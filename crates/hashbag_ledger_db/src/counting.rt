@@ -8,6 +8,7 @@ use crate::before::entered_twice;
 use crate::movements::{Input, input_of, read};
 use crate::putting::{in_database, put};
 use crate::said::{entered_text, movements_in};
+use crate::stages::{Stage, Stages};
 use crate::troubles::{no_counts, start_too_many, too_large};
 use hashbag_csv::counts::Reading;
 use hashbag_csv::fault::in_file;
@@ -63,19 +64,21 @@ fn records_of<'a>(
 }
 
 // Returns what a count does to the balance that is kept.
-fn counted_of<'a, S: BuildHasher + Copy + Drop>(
+fn counted_of<'a, S: BuildHasher + Copy + Drop, G: Stages>(
     alloc: Global,
     state: S,
     job: &Job<'a>,
     input: &Input<'a>,
     shape: Shape,
     kept: &[(String, usize)],
+    stages: &G,
 ) -> Result<Filed, Trouble<'a>>
     ensures { input.now.is_start ≡ true
         → IfOk result (IsCountedAs job.now shape.style kept.now input.now.text.items) }
 {
     let reading = job.reading(shape.style);
     let records = records_of(alloc, job, input, reading, kept)?;
+    stages.begin(Stage::Booking(records.len()));
     match count_stock(alloc, state, kept, records) {
         Ok(filed) => Ok(filed),
         Err(LedgerError::TooMany(place)) => {
@@ -125,9 +128,10 @@ fn write<'a, D: Alter>(
 /// # Errors
 ///
 /// Why nothing is entered.
-pub fn count_in<'a, D: Alter, S: BuildHasher + Copy + Drop>(
+pub fn count_in<'a, D: Alter, S: BuildHasher + Copy + Drop, G: Stages>(
     alloc: Global,
     state: S,
+    stages: &G,
     job: &Job<'a>,
     shape: Shape,
     conn: &mut Connection<D>,
@@ -142,15 +146,17 @@ pub fn count_in<'a, D: Alter, S: BuildHasher + Copy + Drop>(
     if !shape.takes_counts() {
         return Err(no_counts(alloc, db, shape.version));
     }
+    stages.begin(Stage::Reading);
     let input = input_of(alloc, job.counted, bytes, job.encoding, true)?;
     let batches = in_database(alloc, db, batches_of(alloc, conn, shape))?;
     if !job.again {
         entered_twice(alloc, slice::from_ref(&input), &batches)?;
     }
     let kept = in_database(alloc, db, balance_of(alloc, conn))?;
-    let filed = counted_of(alloc, state, job, &input, shape, &kept)?;
+    let filed = counted_of(alloc, state, job, &input, shape, &kept, stages)?;
     let entries = &filed.booked.entries;
     let table = differences_text(alloc, job.reading(shape.style), entries)?;
+    stages.begin(Stage::Writing);
     let said = write(alloc, conn, db, shape, &input, &batches, &filed)?;
     Ok(Counted {
         table,

@@ -5,26 +5,29 @@ ghost use Rattle.hashbag_ledger_args.specs.Readings.{kept_names};
 ghost use Rattle.hashbag_ledger_db.specs.Filed.{AreMovementsOf, IsFiledOf, IsFiledAs, IsFiledAnew, IsFiledIn, has_refusal, status_after, IfStock, IsAnewIfThere, IsThereAsFiled};
 ghost use Rattle.hashbag_ledger_lib.specs.Movements.{names_now};
 
-use crate::before::{Before, before_in, entered_twice, kept_columns};
-use crate::movements::{Input, extras_of, has_extras, input_of, movements_of};
+use crate::before::{Before, before_in, entered_twice};
+use crate::movements::{Input, extras_of, has_extras, movements_of};
 use crate::putting::{in_database, put};
-use crate::said::entered_text;
+use crate::said::{entered_text, new_text, refusal_end};
+use crate::stages::{Stage, Stages};
 use crate::troubles::{no_dates, other_scale, start_too_many, too_large};
 use hashbag_csv::counts::Reading;
-use hashbag_ledger_args::columns::{KeptColumns, columns_text, plain_columns};
+use hashbag_csv::delimiter::Delimiter;
+use hashbag_ledger_args::columns::{columns_text, plain_columns, plain_extras};
 use hashbag_ledger_args::job::Job;
+use hashbag_ledger_lib::balance_forms::rows_of;
 use hashbag_ledger_lib::entering::LedgerError;
-use hashbag_ledger_lib::extras::Extra;
+use hashbag_ledger_lib::extras::{Extra, ExtraColumns};
 use hashbag_ledger_lib::filing::{Filed, enter_files, refusals_of};
 use hashbag_ledger_lib::ledger::booking::count_refused;
 use hashbag_ledger_lib::movements::Movement;
 use hashbag_ledger_lib::once::Kind;
-use hashbag_ledger_lib::output::{balance_text, refusals_table, refusals_text};
+use hashbag_ledger_lib::output::{refusals_table, refusals_text};
 use hashbag_ledger_lib::reading::Columns;
 use hashbag_ledger_lib::sealing::{Draft, sealed_rows};
 use hashbag_shell::status::{DENIED, DONE};
 use hashbag_shell::trouble::Trouble;
-use hashbag_stock::reading::{balance_of, time_of};
+use hashbag_stock::reading::time_of;
 use hashbag_stock::tables::{Contents, Shape};
 use hashbag_stock::writing::{NewRows, NewStock};
 use sqlite::{Alter, Connection};
@@ -95,8 +98,17 @@ fn trouble_of<'a>(
     }
 }
 
-// Enters the inputs into the balance that is kept. On failure it returns the first error in input order.
-fn filed_of<'a, S: BuildHasher + Drop>(
+// Returns how many movements files have.
+fn number_in(files: &[Vec<Movement<String>>]) -> usize {
+    let mut number = 0usize;
+    for movements in files {
+        number = number.saturating_add(movements.len());
+    }
+    number
+}
+
+/// Enters the inputs into the balance that is kept. On failure it returns the first error in input order.
+pub(crate) fn filed_of<'a, S: BuildHasher + Drop, G: Stages>(
     alloc: Global,
     state: S,
     job: &Job<'a>,
@@ -104,11 +116,13 @@ fn filed_of<'a, S: BuildHasher + Drop>(
     columns: Columns<&str>,
     reading: Reading,
     kept: &[(String, usize)],
+    stages: &G,
 ) -> Result<Filed, Trouble<'a>>
     ensures { IfOk result (λ filed.
         IsFiledOf job.now reading (names_now columns.entry) inputs.now kept.now filed) }
 {
     let (files, bad) = all_movements(alloc, job, inputs, columns, reading)?;
+    stages.begin(Stage::Booking(number_in(&files)));
     let filed = match enter_files(alloc, state, kept, files) {
         Ok(filed) => filed,
         Err(error) => return Err(trouble_of(alloc, job.db, inputs, reading, error)),
@@ -127,19 +141,26 @@ fn shape_of<'a>(alloc: Global, job: &Job<'a>, contents: Contents) -> Result<Shap
         (Contents::Stock(shape), Some(asked)) if shape.style.scale != asked => {
             Err(other_scale(alloc, db, shape.style.scale, asked))
         }
-        (Contents::Stock(shape), _) if has_extras(job) && !shape.is_dated() => {
+        (Contents::Stock(shape), _)
+            if has_extras(job.extras_or(plain_extras())) && !shape.is_dated() => {
             Err(no_dates(alloc, db))
         }
         (Contents::Stock(shape), _) => Ok(shape),
     }
 }
 
-// Returns what a stock of this shape keeps with these columns, if it is new.
-fn new_stock_of(contents: Contents, shape: Shape, columns: &str) -> Option<NewStock<'_>> {
+/// Returns what a stock of this shape keeps with these columns, if it is new.
+pub(crate) fn new_stock_of<'k>(
+    contents: Contents,
+    shape: Shape,
+    columns: &'k str,
+    extras: ExtraColumns<&'k str>,
+) -> Option<NewStock<'k>> {
     match contents {
         Contents::Empty => Some(NewStock {
             style: shape.style,
             columns,
+            extras,
         }),
         Contents::Stock(_) => None,
     }
@@ -174,8 +195,8 @@ fn drafts_of<'i, 'a>(
     Ok(drafts)
 }
 
-// Writes the batches of the inputs, and returns what is said of them.
-fn write<'a, D: Alter>(
+/// Writes the batches of the inputs, and returns what is said of them.
+pub(crate) fn write<'a, D: Alter, G: Stages>(
     alloc: Global,
     conn: &mut Connection<D>,
     db: &'a str,
@@ -184,7 +205,9 @@ fn write<'a, D: Alter>(
     inputs: &[Input<'a>],
     extras: &[Extra],
     ready: &Ready,
+    stages: &G,
 ) -> Result<String, Trouble<'a>> {
+    stages.begin(Stage::Writing);
     let time = in_database(alloc, db, time_of(conn))?;
     let (before, filed) = (&ready.before, &ready.filed);
     let drafts = drafts_of(alloc, inputs, &filed.counts, before.number(), time.as_str())?;
@@ -228,6 +251,42 @@ fn text_of<'a>(
     }
 }
 
+// Appends to the refusal of a movement that is typed, if it is refused and its article isn't there, a near name.
+fn with_near(
+    alloc: Global,
+    job: &Job<'_>,
+    before: &Before,
+    refusals: Vec<u8>,
+) -> Result<Vec<u8>, AllocError> {
+    let mut text = refusals;
+    if let Some(article) = job.articles.first().copied()
+        && text.pop().is_some()
+    {
+        let balance = rows_of(alloc, before.balance())?;
+        text.extend_from_slice(refusal_end(alloc, &balance, article)?.as_bytes())?;
+    }
+    Ok(text)
+}
+
+// Appends that the article of a movement that is typed is new, if it is and the movement was entered.
+fn with_new(
+    alloc: Global,
+    job: &Job<'_>,
+    ready: &Ready,
+    said: String,
+) -> Result<String, AllocError> {
+    let before = &ready.before;
+    let mut text = said;
+    if let Some(article) = job.articles.first().copied()
+        && before.is_new_article()
+        && !is_refused(&ready.filed)
+    {
+        let balance = rows_of(alloc, before.balance())?;
+        text.push_str(new_text(alloc, job.db, &balance, article)?.as_str())?;
+    }
+    Ok(text)
+}
+
 /// Returns whether there is a refusal.
 pub fn is_refused(filed: &Filed) -> bool
     ensures { result ≡ has_refusal filed.now }
@@ -247,19 +306,21 @@ fn status_of(filed: &Filed) -> u8
 /// # Errors
 ///
 /// What is wrong with an input, or a failed allocation.
-pub fn filed_anew<'a, S: BuildHasher + Drop>(
+pub fn filed_anew<'a, S: BuildHasher + Drop, G: Stages>(
     alloc: Global,
     state: S,
     job: &Job<'a>,
     inputs: &[Input<'a>],
+    stages: &G,
 ) -> Result<Filed, Trouble<'a>>
     // All movements of all inputs are booked, read as the job says.
     ensures { IfOk result (IsFiledAnew job.now inputs.now) }
 {
     let reading = job.reading(job.asked_style());
     let columns = job.columns_or(plain_columns());
-    let filed = filed_of(alloc, state, job, inputs, columns, reading, &[])?;
-    extras_of(alloc, job, inputs, reading.delimiter)?;
+    let filed = filed_of(alloc, state, job, inputs, columns, reading, &[], stages)?;
+    let names = job.extras_or(plain_extras());
+    extras_of(alloc, job, inputs, names, reading.delimiter)?;
     if !job.again {
         entered_twice(alloc, inputs, &[])?;
     }
@@ -267,7 +328,7 @@ pub fn filed_anew<'a, S: BuildHasher + Drop>(
 }
 
 // Returns what the inputs do to the balance that the database has.
-fn filed_in<'a, S: BuildHasher + Drop>(
+fn filed_in<'a, S: BuildHasher + Drop, G: Stages>(
     alloc: Global,
     state: S,
     job: &Job<'a>,
@@ -275,6 +336,7 @@ fn filed_in<'a, S: BuildHasher + Drop>(
     before: &Before,
     contents: Contents,
     anew: Option<Filed>,
+    stages: &G,
 ) -> Result<Filed, Trouble<'a>>
     ensures empty { contents ≡ Contents.Empty → IsAnewIfThere job.now inputs.now anew
         → IfOk result (IsFiledAnew job.now inputs.now) }
@@ -283,7 +345,7 @@ fn filed_in<'a, S: BuildHasher + Drop>(
 {
     match (contents, anew) {
         (Contents::Empty, Some(filed)) => Ok(filed),
-        (Contents::Empty, None) => filed_anew(alloc, state, job, inputs),
+        (Contents::Empty, None) => filed_anew(alloc, state, job, inputs, stages),
         (Contents::Stock(shape), _) => {
             let reading = job.reading(shape.style);
             let columns = job.columns_or(before.names());
@@ -295,6 +357,7 @@ fn filed_in<'a, S: BuildHasher + Drop>(
                 columns,
                 reading,
                 before.balance(),
+                stages,
             )
         }
     }
@@ -302,7 +365,7 @@ fn filed_in<'a, S: BuildHasher + Drop>(
 
 // Returns what the inputs do to the stock of an open database. `anew` is what they do to an empty stock. It is `None` if the file wasn't
 // new; if it has no tables all the same, that is computed here. If another process made a stock meanwhile, `anew` isn't used.
-fn ready_in<'a, D: Alter, S: BuildHasher + Drop>(
+fn ready_in<'a, D: Alter, S: BuildHasher + Drop, G: Stages>(
     alloc: Global,
     state: S,
     job: &Job<'a>,
@@ -310,12 +373,48 @@ fn ready_in<'a, D: Alter, S: BuildHasher + Drop>(
     conn: &mut Connection<D>,
     contents: Contents,
     anew: Option<Filed>,
+    stages: &G,
 ) -> Result<Ready, Trouble<'a>>
     ensures { IsAnewIfThere job.now inputs.now anew → IfOk result (IsFiledIn job.now contents inputs.now) }
 {
+    stages.begin(Stage::Reading);
     let before = before_in(alloc, job, inputs, conn, contents)?;
-    let filed = filed_in(alloc, state, job, inputs, &before, contents, anew)?;
+    let filed = filed_in(alloc, state, job, inputs, &before, contents, anew, stages)?;
     Ok(Ready { before, filed })
+}
+
+// Returns the dates and notes of all movements, in the columns that the job names, or else in those that the database keeps.
+fn read_extras<'a>(
+    alloc: Global,
+    job: &Job<'a>,
+    inputs: &[Input<'a>],
+    before: &Before,
+    delimiter: Delimiter,
+) -> Result<Vec<Extra>, Trouble<'a>> {
+    let names = job.extras_or(before.extras());
+    extras_of(alloc, job, inputs, names, delimiter)
+}
+
+// Writes the batches of the inputs, and what a new stock keeps. Returns what is said of them.
+fn written<'a, D: Alter, G: Stages>(
+    alloc: Global,
+    job: &Job<'a>,
+    inputs: &[Input<'a>],
+    conn: &mut Connection<D>,
+    contents: Contents,
+    shape: Shape,
+    extras: &[Extra],
+    ready: &Ready,
+    stages: &G,
+) -> Result<String, Trouble<'a>> {
+    let columns = job.columns_or(ready.before.names());
+    let names = job.extras_or(ready.before.extras());
+    let text = columns_text(alloc, columns)?;
+    let new_stock = new_stock_of(contents, shape, text.as_str(), names);
+    let said = write(
+        alloc, conn, job.db, shape, new_stock, inputs, extras, ready, stages,
+    )?;
+    Ok(with_new(alloc, job, ready, said)?)
 }
 
 /// Enters the inputs into an open database, and returns what the run of the subcommand writes. The texts are made before anything is
@@ -324,7 +423,7 @@ fn ready_in<'a, D: Alter, S: BuildHasher + Drop>(
 /// # Errors
 ///
 /// Why nothing is entered.
-pub fn report_in<'a, D: Alter, S: BuildHasher + Drop>(
+pub fn report_in<'a, D: Alter, S: BuildHasher + Drop, G: Stages>(
     alloc: Global,
     state: S,
     job: &Job<'a>,
@@ -332,6 +431,7 @@ pub fn report_in<'a, D: Alter, S: BuildHasher + Drop>(
     conn: &mut Connection<D>,
     contents: Contents,
     anew: Option<Filed>,
+    stages: &G,
 ) -> Result<Report, Trouble<'a>>
     // If `anew` is what the inputs do to an empty stock, as `filed_anew` returns it, then `ready` is what they do to the balance that was
     // read: all movements of all inputs are booked on it.
@@ -342,18 +442,18 @@ pub fn report_in<'a, D: Alter, S: BuildHasher + Drop>(
     ensures status { IfOk result (λ report. IsSomeAnd report.ready (λ ready.
         report.status ≡ status_after ready.filed)) }
 {
-    let db = job.db;
     let shape = shape_of(alloc, job, contents)?;
-    let ready = ready_in(alloc, state, job, inputs, conn, contents, anew)?;
+    let ready = ready_in(alloc, state, job, inputs, conn, contents, anew, stages)?;
     let reading = job.reading(shape.style);
-    let extras = extras_of(alloc, job, inputs, reading.delimiter)?;
+    let extras = read_extras(alloc, job, inputs, &ready.before, reading.delimiter)?;
     let refusals = text_of(alloc, job, inputs, reading, &ready.filed)?;
+    let refusals = with_near(alloc, job, &ready.before, refusals)?;
     let said = if job.strict && is_refused(&ready.filed) {
         String::new(alloc)
     } else {
-        let columns = columns_text(alloc, job.columns_or(ready.before.names()))?;
-        let new_stock = new_stock_of(contents, shape, columns.as_str());
-        write(alloc, conn, db, shape, new_stock, inputs, &extras, &ready)?
+        written(
+            alloc, job, inputs, conn, contents, shape, &extras, &ready, stages,
+        )?
     };
     Ok(Report {
         refusals,
@@ -384,76 +484,4 @@ pub fn denied_report(
         status: DENIED,
         ready: None,
     })
-}
-
-/// What a stock leaves to the one that follows it.
-#[derive(Drop)]
-pub struct Closed {
-    /// The shape of the closed stock.
-    pub shape: Shape,
-    /// The columns of movements that it keeps.
-    pub columns: KeptColumns,
-    /// Its balance.
-    pub balance: Vec<(String, usize)>,
-}
-
-/// Returns what an open stock leaves to the one that follows it.
-///
-/// # Errors
-///
-/// Why it can't be read.
-pub fn closed_in<'a, D: Alter>(
-    alloc: Global,
-    job: &Job<'a>,
-    shape: Shape,
-    conn: &mut Connection<D>,
-) -> Result<Closed, Trouble<'a>> {
-    let db = job.db;
-    Ok(Closed {
-        shape,
-        columns: kept_columns(alloc, db, conn, shape)?,
-        balance: in_database(alloc, db, balance_of(alloc, conn))?,
-    })
-}
-
-/// Returns the balance of a database as the input that begins another one: a text of CSV, which is entered as a file would be.
-///
-/// # Errors
-///
-/// An allocation fails.
-pub fn beginning_of<'a>(
-    alloc: Global,
-    job: &Job<'a>,
-    closed: &Closed,
-) -> Result<Input<'a>, Trouble<'a>> {
-    let reading = job.reading(closed.shape.style);
-    let text = balance_text(alloc, ("article", "number"), reading, &closed.balance)?;
-    input_of(alloc, job.db, text, None, true)
-}
-
-/// Writes the first batch of a new database, which keeps what the closed one kept, and what the job names in place of it.
-///
-/// # Errors
-///
-/// Why it isn't written.
-pub fn begin_in<'a, D: Alter, S: BuildHasher + Drop>(
-    alloc: Global,
-    state: S,
-    job: &Job<'a>,
-    closed: &Closed,
-    inputs: &[Input<'a>],
-    conn: &mut Connection<D>,
-) -> Result<(), Trouble<'a>> {
-    let (contents, db) = (Contents::Empty, job.into);
-    let reading = job.reading(closed.shape.style);
-    let columns = job.columns_or(closed.columns.names());
-    let ready = Ready {
-        before: before_in(alloc, job, inputs, conn, contents)?,
-        filed: filed_of(alloc, state, job, inputs, columns, reading, &[])?,
-    };
-    let shape = Shape::of_new(job.style(closed.shape.style));
-    let text = columns_text(alloc, columns)?;
-    let new_stock = new_stock_of(contents, shape, text.as_str());
-    write(alloc, conn, db, shape, new_stock, inputs, &[], &ready)?;
-    Ok(())
 }

@@ -7,6 +7,7 @@ ghost use Rattle.hashbag_ledger_db.specs.Inputs.{AreInputsOf, IsRead, IsReadyOf,
 
 use crate::entering::{Report, denied_report, filed_anew, is_refused, report_in};
 use crate::movements::{Input, input_of};
+use crate::stages::{Stage, Stages};
 use hashbag_ledger_args::job::Job;
 use hashbag_shell::inputs::Inputs;
 use hashbag_shell::trouble::Trouble;
@@ -86,7 +87,15 @@ pub fn enter_named<
     I: Inputs,
     F: Databases<Connection<D>>,
     S: BuildHasher + Copy + Drop,
->(alloc: Global, state: S, files: &I, databases: &F, job: &Job<'a>) -> Result<Report, Trouble<'a>>
+    G: Stages,
+>(
+    alloc: Global,
+    state: S,
+    files: &I,
+    databases: &F,
+    stages: &G,
+    job: &Job<'a>,
+) -> Result<Report, Trouble<'a>>
     // All movements of all files that are named are booked on the balance that the database had.
     ensures filed { IfOk result (λ report.
         IfSome report.ready (IsReadyOf (I.gives files.now) (F.has databases.now) job.now)) }
@@ -100,14 +109,17 @@ pub fn enter_named<
     let inputs = inputs_of(alloc, files, job)?;
     let mut anew = None;
     if databases.is_new(job.db)? {
-        let filed = filed_anew(alloc, state, job, &inputs)?;
+        let filed = filed_anew(alloc, state, job, &inputs, stages)?;
         if job.strict && is_refused(&filed) {
             return Ok(denied_report(alloc, job, &inputs, &filed)?);
         }
         anew = Some(filed);
     }
+    stages.begin(Stage::Opening);
     let (mut conn, contents) = databases.open_or_make(job.db, job.wait)?;
-    let report = report_in(alloc, state, job, &inputs, &mut conn, contents, anew)?;
+    let report = report_in(
+        alloc, state, job, &inputs, &mut conn, contents, anew, stages,
+    )?;
     databases.close(conn);
     Ok(report)
 }

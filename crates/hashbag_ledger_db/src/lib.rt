@@ -3,6 +3,7 @@
 #![tactic(auto)]
 
 pub mod before;
+pub mod closing;
 pub mod counting;
 pub mod entering;
 pub mod files;
@@ -10,7 +11,9 @@ pub mod movements;
 pub mod putting;
 pub mod said;
 pub mod showing;
+pub mod stages;
 pub mod troubles;
 pub mod undoing;
 pub mod unkept;
 pub mod verifying;
+pub(crate) mod wanted;

@@ -8,6 +8,7 @@ use crate::troubles::of_extras;
 use hashbag_csv::counts::{Reading, read_counts_as};
 use hashbag_csv::delimiter::Delimiter;
 use hashbag_csv::fault::{SheetError, in_file};
+use hashbag_ledger_args::columns::plain_extras;
 use hashbag_ledger_args::job::Job;
 use hashbag_ledger_args::start::in_start;
 use hashbag_ledger_lib::extras::{Extra, ExtraColumns, read_extras};
@@ -155,13 +156,21 @@ pub fn movements_of<'a>(
     in_file(alloc, input.file, read)
 }
 
-/// Returns whether a column of dates or of notes is named.
-pub fn has_extras(job: &Job<'_>) -> bool {
-    job.extras.date.is_some() || job.extras.note.is_some()
+/// Returns whether there is a column of dates or of notes.
+pub fn has_extras(names: ExtraColumns<&str>) -> bool {
+    names.date.is_some() || names.note.is_some()
 }
 
-/// Returns the dates and notes of all movements of the inputs, in turn; none if no column of them is named. The stock at the beginning has
-/// neither.
+// Returns those columns that the job doesn't name: the stock keeps them.
+fn kept_of<'n>(job: &Job<'_>, names: ExtraColumns<&'n str>) -> ExtraColumns<&'n str> {
+    ExtraColumns {
+        date: names.date.filter(|_| job.extras.date.is_none()),
+        note: names.note.filter(|_| job.extras.note.is_none()),
+    }
+}
+
+/// Returns the dates and notes of all movements of the inputs, in turn, whose columns have these names; none if there is no column of them. The
+/// stock at the beginning has neither.
 ///
 /// # Errors
 ///
@@ -170,25 +179,25 @@ pub fn extras_of<'a>(
     alloc: Global,
     job: &Job<'a>,
     inputs: &[Input<'a>],
+    names: ExtraColumns<&str>,
     delimiter: Delimiter,
 ) -> Result<Vec<Extra>, Trouble<'a>> {
     let mut extras = Vec::new(alloc);
-    if !has_extras(job) {
+    if !has_extras(names) {
         return Ok(extras);
     }
-    let (date, note) = (None, None);
     for input in inputs {
-        let names = if input.is_start {
-            ExtraColumns { date, note }
+        let own = if input.is_start {
+            plain_extras()
         } else {
-            job.extras
+            names
         };
-        match read_extras(alloc, input.text.as_slice(), names, delimiter) {
+        match read_extras(alloc, input.text.as_slice(), own, delimiter) {
             Ok(read) => {
                 let mut own = read;
                 extras.append(&mut own)?;
             }
-            Err(error) => return Err(of_extras(alloc, input.file, error)),
+            Err(error) => return Err(of_extras(alloc, input.file, kept_of(job, names), error)),
         }
     }
     Ok(extras)

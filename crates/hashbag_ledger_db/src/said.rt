@@ -125,10 +125,52 @@ pub fn absent_text(
 ) -> Result<String, AllocError> {
     let mut text = String::new(alloc);
     for article in articles {
-        if balance.iter().all(|entry| entry.0 != *article) {
+        if !has(balance, *article) {
             write!(text, "{PROGRAM}: {db}: none of \"{}\"", Escaped(article))?;
             end_with_near(alloc, &mut text, balance, article)?;
         }
+    }
+    Ok(text)
+}
+
+// Returns whether a balance has this article.
+fn has(balance: &[(&str, Change)], article: &str) -> bool {
+    balance.iter().any(|entry| entry.0 == article)
+}
+
+/// Returns what is said of an article that has its first movement, with one of the balance before whose name is near.
+///
+/// # Errors
+///
+/// An allocation fails.
+pub fn new_text(
+    alloc: Global,
+    db: &str,
+    balance: &[(&str, Change)],
+    article: &str,
+) -> Result<String, AllocError> {
+    let mut text = String::new(alloc);
+    write!(text, "{PROGRAM}: {db}: \"{}\" is new", Escaped(article))?;
+    end_with_near(alloc, &mut text, balance, article)?;
+    Ok(text)
+}
+
+/// Returns the end of the line of a refusal of this article: if the article isn't in the balance, one that is and whose name is
+/// near.
+///
+/// # Errors
+///
+/// An allocation fails.
+pub fn refusal_end(
+    alloc: Global,
+    balance: &[(&str, Change)],
+    article: &str,
+) -> Result<String, AllocError> {
+    let mut text = String::new(alloc);
+    if has(balance, article) {
+        text.push('\n')?;
+    } else {
+        end_with_near(alloc, &mut text, balance, article)?;
     }
     Ok(text)
 }

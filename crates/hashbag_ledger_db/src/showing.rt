@@ -4,7 +4,7 @@ ghost use Rattle.std.specs.Prelude.{◌≡◌, Ok, IfOk};
 use crate::putting::in_database;
 use crate::said::{absent_text, unmoved_text};
 use crate::troubles::{moved_too_much, no_day, start_too_many};
-use crate::undoing::wanted_of;
+use crate::wanted::wanted_of;
 use hashbag_ledger_args::job::Job;
 use hashbag_ledger_lib::balance_forms::{formed_text, rows_of};
 use hashbag_ledger_lib::dated::{DatedError, balance_at};

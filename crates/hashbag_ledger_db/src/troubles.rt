@@ -1,8 +1,8 @@
 //! Why a subcommand doesn't do all that it is asked, as the trouble of a program.
 use hashbag_csv::counts::Reading;
 use hashbag_csv::decimals::write_decimal;
-use hashbag_csv::fault::{SheetError, in_file};
-use hashbag_ledger_lib::extras::ExtraError;
+use hashbag_csv::fault::{Fault, SheetError, in_file};
+use hashbag_ledger_lib::extras::{ExtraColumns, ExtraError};
 use hashbag_ledger_lib::numbers::MOST;
 use hashbag_ledger_lib::once::Batch;
 use hashbag_shell::status::{
@@ -81,17 +81,55 @@ pub fn no_dates<'a>(alloc: Global, db: &str) -> Trouble<'a> {
     ))
 }
 
-/// Returns the trouble of dates and notes that can't be read.
-pub fn of_extras<'a>(alloc: Global, file: &'a str, error: ExtraError) -> Trouble<'a> {
+// Returns how to read a text without a column of these, which the stock keeps, if the text lacks one.
+fn cure_of(kept: ExtraColumns<&str>, error: &SheetError) -> Option<&'static str> {
+    let SheetError::Line {
+        fault: Fault::NoColumn { name, .. },
+        ..
+    } = error
+    else {
+        return None;
+    };
+    if kept.date == Some(name.as_str()) {
+        return Some("`--date ''` reads no dates");
+    }
+    if kept.note == Some(name.as_str()) {
+        return Some("`--note ''` reads no notes");
+    }
+    None
+}
+
+// Returns the trouble of a line, whose message ends with how to read the file.
+fn with_cure<'a>(alloc: Global, trouble: Trouble<'a>, cure: &str) -> Trouble<'a> {
+    match &trouble {
+        Trouble::BadLine {
+            file,
+            line,
+            what,
+            ..
+        } => Trouble::of_line(*file, *line, format!(in alloc; "{what}; {cure}")),
+        _ => trouble,
+    }
+}
+
+/// Returns the trouble of dates and notes that can't be read. `kept` has the columns that the stock keeps, and no option names.
+pub fn of_extras<'a>(
+    alloc: Global,
+    file: &'a str,
+    kept: ExtraColumns<&str>,
+    error: ExtraError,
+) -> Trouble<'a> {
     match error {
         ExtraError::NoDate { line, field } => bad(format!(in alloc;
             "{file}:{line}: no date: `{field}`; a date is written as 2026-02-28"
         )),
         ExtraError::Sheet(error) => {
+            let cure = cure_of(kept, &error);
             let read: Result<(), SheetError> = Err(error);
-            match in_file(alloc, file, read) {
-                Ok(()) => Trouble::Memory,
-                Err(trouble) => trouble,
+            match (in_file(alloc, file, read), cure) {
+                (Ok(()), _) => Trouble::Memory,
+                (Err(trouble), Some(cure)) => with_cure(alloc, trouble, cure),
+                (Err(trouble), None) => trouble,
             }
         }
     }
@@ -134,9 +172,14 @@ pub fn too_large<'a>(alloc: Global, file: &str, line: u64, reading: Reading) -> 
     Trouble::with_status(what, TOTAL_TOO_LARGE)
 }
 
-/// Returns the trouble of a stock that has no batch of that number or file, or none that may be undone.
-pub fn no_batch<'a>(alloc: Global, db: &str, name: &str) -> Trouble<'a> {
-    bad(format!(in alloc; "{db}: no batch {name}"))
+/// Returns the trouble of a stock that has no batch of that number or file, or none that may be undone. It names a batch whose file has a
+/// similar name, if there is one.
+pub fn no_batch<'a>(alloc: Global, db: &str, name: &str, near: Option<&Batch>) -> Trouble<'a> {
+    let Some(near) = near else {
+        return bad(format!(in alloc; "{db}: no batch {name}"));
+    };
+    let (number, file) = (near.number, near.file.as_str());
+    bad(format!(in alloc; "{db}: no batch {name}; is it batch {number} ({file})?"))
 }
 
 /// Returns the trouble of an undo that doesn't name one batch.

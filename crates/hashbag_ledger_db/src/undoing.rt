@@ -1,13 +1,15 @@
 //! A batch that is taken back, in an open database.
 use crate::putting::{in_database, put as put_in};
 use crate::said::{entered_text, movements_in};
-use crate::troubles::{no_batch, start_too_many, too_large, undone_before};
+use crate::stages::{Stage, Stages};
+use crate::troubles::{start_too_many, too_large, undone_before};
+use crate::wanted::wanted_of;
 use hashbag_ledger_args::job::Job;
 use hashbag_ledger_lib::entering::LedgerError;
 use hashbag_ledger_lib::extras::{Extra, opposite_extras};
 use hashbag_ledger_lib::ledger::booking::Booked;
 use hashbag_ledger_lib::movements::{Movement, Refusal};
-use hashbag_ledger_lib::once::{Batch, Kind, batch_of, next_number, undone_by};
+use hashbag_ledger_lib::once::{Batch, Kind, next_number, undone_by};
 use hashbag_ledger_lib::output::refusals_text;
 use hashbag_ledger_lib::pairs::halves;
 use hashbag_ledger_lib::rows::RowChange;
@@ -39,54 +41,6 @@ struct Found {
 struct Undone {
     refusals: Vec<Refusal<String>>,
     said: String,
-}
-
-// Returns the last batch that is no undo and wasn't undone.
-fn last_of(batches: &[Batch]) -> Option<&Batch> {
-    let mut last = None;
-    for batch in batches {
-        if batch.undoes.is_none() && undone_by(batches, batch.number).is_none() {
-            last = Some(batch);
-        }
-    }
-    last
-}
-
-// Returns the last batch of a file that wasn't undone, or else its first.
-fn batch_of_file<'b>(batches: &'b [Batch], file: &str) -> Option<&'b Batch> {
-    let mut found = None;
-    for batch in batches {
-        if batch.file.as_str() == file && batch.undoes.is_none() {
-            let is_undone = undone_by(batches, batch.number).is_some();
-            if found.is_none() || !is_undone {
-                found = Some(batch);
-            }
-        }
-    }
-    found
-}
-
-/// Returns the batch that is asked for.
-///
-/// # Errors
-///
-/// `NoBatch` if there is none.
-pub(crate) fn wanted_of<'a, 'b>(
-    alloc: Global,
-    job: &Job<'a>,
-    batches: &'b [Batch],
-) -> Result<&'b Batch, Trouble<'a>> {
-    let (wanted, name) = match job.batch {
-        None => (last_of(batches), "to undo"),
-        Some(name) => match name.parse::<i64>() {
-            Ok(number) => (batch_of(batches, number), name),
-            Err(_) => (batch_of_file(batches, name), name),
-        },
-    };
-    match wanted {
-        Some(batch) => Ok(batch),
-        None => Err(no_batch(alloc, job.db, name)),
-    }
 }
 
 // Returns what is known of the batch that is asked for, if it may be undone.
@@ -175,9 +129,10 @@ fn undo_of<'a, S: BuildHasher + Drop>(
 }
 
 // Takes the batch back in an open database, and returns what is written of that.
-fn take_back_in<'a, D: Alter, S: BuildHasher + Drop>(
+fn take_back_in<'a, D: Alter, S: BuildHasher + Drop, G: Stages>(
     alloc: Global,
     state: S,
+    stages: &G,
     job: &Job<'a>,
     shape: Shape,
     conn: &mut Connection<D>,
@@ -193,16 +148,20 @@ fn take_back_in<'a, D: Alter, S: BuildHasher + Drop>(
     let (entered, _) = halves(alloc, entered)?;
     let kept = in_database(alloc, db, balance_of(alloc, conn))?;
     let file = found.file.as_str();
+    stages.begin(Stage::Booking(entered.len()));
     let (undo, changed) = undo_of(alloc, state, job, shape.style, file, &kept, entered)?;
     match undo {
         Undo::Refused(refusals) => Ok(Undone {
             refusals,
             said: String::new(alloc),
         }),
-        Undo::Done(booked) => Ok(Undone {
-            refusals: Vec::new(alloc),
-            said: put(alloc, conn, db, shape, found, &booked, &extras, &changed)?,
-        }),
+        Undo::Done(booked) => {
+            stages.begin(Stage::Writing);
+            Ok(Undone {
+                refusals: Vec::new(alloc),
+                said: put(alloc, conn, db, shape, found, &booked, &extras, &changed)?,
+            })
+        }
     }
 }
 
@@ -244,14 +203,16 @@ fn report_of(
 /// # Errors
 ///
 /// Why the batch can't be taken back.
-pub fn undo_in<'a, D: Alter, S: BuildHasher + Drop>(
+pub fn undo_in<'a, D: Alter, S: BuildHasher + Drop, G: Stages>(
     alloc: Global,
     state: S,
+    stages: &G,
     job: &Job<'a>,
     shape: Shape,
     conn: &mut Connection<D>,
 ) -> Result<Report, Trouble<'a>> {
+    stages.begin(Stage::Reading);
     let found = found_in(alloc, conn, job, shape)?;
-    let undone = take_back_in(alloc, state, job, shape, conn, &found)?;
+    let undone = take_back_in(alloc, state, stages, job, shape, conn, &found)?;
     Ok(report_of(alloc, job, shape, found.file.as_str(), undone)?)
 }

@@ -5,7 +5,7 @@ ghost use Rattle.hashbag_ledger_db.specs.Unkept.{EntersFileOf, EntersFiles, IsBe
 
 use hashbag_csv::counts::read_counts_as;
 use hashbag_csv::fault::in_file;
-use hashbag_ledger_args::arguments::Request;
+use hashbag_ledger_args::arguments::Settings;
 use hashbag_ledger_args::start::in_start;
 use hashbag_ledger_lib::ledger::{Entered, Ledger, end};
 use hashbag_ledger_lib::movements::Refusal;
@@ -34,16 +34,16 @@ pub struct Report {
 fn start_of<'a, I: Inputs>(
     alloc: Global,
     inputs: &I,
-    request: &Request<'a>,
+    settings: &Settings<'a>,
 ) -> Result<Vec<(String, usize)>, Trouble<'a>>
-    ensures { IfOk result (λ start. IsStartOf (I.gives inputs.now) request.now start.items) }
+    ensures { IfOk result (λ start. IsStartOf (I.gives inputs.now) settings.now start.items) }
 {
-    let Some(file) = request.start else {
+    let Some(file) = settings.start else {
         return Ok(Vec::new(alloc));
     };
-    let text = read_text(alloc, inputs, file, request.start_encoding)?;
-    let (article, number) = request.start_columns;
-    let start = read_counts_as(alloc, text.as_slice(), article, number, request.reading);
+    let text = read_text(alloc, inputs, file, settings.start_encoding)?;
+    let (article, number) = settings.start_columns;
+    let start = read_counts_as(alloc, text.as_slice(), article, number, settings.reading);
     Ok(in_start(alloc, file, start)?)
 }
 
@@ -52,11 +52,11 @@ fn ledger_of<'a, I: Inputs, S: BuildHasher + Drop>(
     alloc: Global,
     state: S,
     inputs: &I,
-    request: &Request<'a>,
+    settings: &Settings<'a>,
 ) -> Result<Ledger<String, S>, Trouble<'a>>
-    ensures { IfOk result (IsBegunFrom (I.gives inputs.now) request.now) }
+    ensures { IfOk result (IsBegunFrom (I.gives inputs.now) settings.now) }
 {
-    let start = start_of(alloc, inputs, request)?;
+    let start = start_of(alloc, inputs, settings)?;
     match Ledger::begin(alloc, state, usize::MAX, start) {
         Ok(ledger) => Ok(ledger),
         // The stock at the beginning isn't too large: that was checked when it was read.
@@ -68,16 +68,16 @@ fn ledger_of<'a, I: Inputs, S: BuildHasher + Drop>(
 fn enter_file<'a, I: Inputs, S: BuildHasher + Drop>(
     alloc: Global,
     inputs: &I,
-    request: &Request<'a>,
+    settings: &Settings<'a>,
     at: usize,
     file: &'a str,
     ledger: &mut Ledger<String, S>,
 ) -> Result<(), Trouble<'a>>
-    ensures { OnOk result (EntersFileOf (I.gives inputs.now) request.now at file.now ledger.old ledger.new) }
+    ensures { OnOk result (EntersFileOf (I.gives inputs.now) settings.now at file.now ledger.old ledger.new) }
 {
-    let text = read_text(alloc, inputs, file, request.encoding)?;
+    let text = read_text(alloc, inputs, file, settings.encoding)?;
     let bytes = text.as_slice();
-    let entered = enter_movements(alloc, ledger, bytes, at, request.columns, request.reading);
+    let entered = enter_movements(alloc, ledger, bytes, at, settings.columns, settings.reading);
     Ok(in_file(alloc, file, entered)?)
 }
 
@@ -85,13 +85,13 @@ fn enter_file<'a, I: Inputs, S: BuildHasher + Drop>(
 fn enter_files<'a, I: Inputs, S: BuildHasher + Drop>(
     alloc: Global,
     inputs: &I,
-    request: &Request<'a>,
+    settings: &Settings<'a>,
     ledger: &mut Ledger<String, S>,
 ) -> Result<(), Trouble<'a>>
-    ensures { OnOk result (EntersFiles (I.gives inputs.now) request.now request.now.files.items ledger.old ledger.new) }
+    ensures { OnOk result (EntersFiles (I.gives inputs.now) settings.now settings.now.files.items ledger.old ledger.new) }
 {
-    for i in 0..request.files.len() {
-        enter_file(alloc, inputs, request, i, request.files[i], ledger)?;
+    for i in 0..settings.files.len() {
+        enter_file(alloc, inputs, settings, i, settings.files[i], ledger)?;
     }
     Ok(())
 }
@@ -101,31 +101,31 @@ fn entered_of<'a, I: Inputs, S: BuildHasher + Drop>(
     alloc: Global,
     state: S,
     inputs: &I,
-    request: &Request<'a>,
+    settings: &Settings<'a>,
 ) -> Result<Entered<String>, Trouble<'a>>
-    ensures { IfOk result (IsEnteredOf (I.gives inputs.now) request.now) }
+    ensures { IfOk result (IsEnteredOf (I.gives inputs.now) settings.now) }
 {
-    let mut ledger = ledger_of(alloc, state, inputs, request)?;
-    enter_files(alloc, inputs, request, &mut ledger)?;
+    let mut ledger = ledger_of(alloc, state, inputs, settings)?;
+    enter_files(alloc, inputs, settings, &mut ledger)?;
     Ok(end(alloc, ledger)?)
 }
 
 // Returns the text of the refusals: of the first one alone, if that is asked for.
 fn refused_text(
     alloc: Global,
-    request: &Request<'_>,
+    settings: &Settings<'_>,
     all: &[Refusal<String>],
 ) -> Result<Vec<u8>, AllocError> {
-    let named = if request.strict {
+    let named = if settings.strict {
         &all[..all.len().min(1)]
     } else {
         all
     };
     // A table for a file, lines for standard error.
-    match request.refused {
-        Some(_) => refusals_table(alloc, &request.files, request.reading, named),
+    match settings.refused {
+        Some(_) => refusals_table(alloc, &settings.files, settings.reading, named),
         None => {
-            let text = refusals_text(alloc, &request.files, request.reading.scale, named)?;
+            let text = refusals_text(alloc, &settings.files, settings.reading.scale, named)?;
             Ok(text.into_bytes())
         }
     }
@@ -134,16 +134,16 @@ fn refused_text(
 // Returns the text of the balance, if one is written.
 fn left_text(
     alloc: Global,
-    request: &Request<'_>,
+    settings: &Settings<'_>,
     entered: &Entered<String>,
 ) -> Result<Option<Vec<u8>>, AllocError>
-    ensures { IfOk result (λ text. text ≡ None ↔ (request.now.strict ≡ true) × (has_refusal entered.now ≡ true)) }
+    ensures { IfOk result (λ text. text ≡ None ↔ (settings.now.strict ≡ true) × (has_refusal entered.now ≡ true)) }
 {
-    if request.strict && is_refused(entered) {
+    if settings.strict && is_refused(entered) {
         return Ok(None);
     }
-    let names = request.start_columns;
-    Ok(Some(balance_text(alloc, names, request.reading, &entered.balance)?))
+    let names = settings.start_columns;
+    Ok(Some(balance_text(alloc, names, settings.reading, &entered.balance)?))
 }
 
 // Returns whether there is a refusal.
@@ -170,21 +170,21 @@ pub fn enter_unkept<'a, I: Inputs, S: BuildHasher + Drop>(
     alloc: Global,
     state: S,
     inputs: &I,
-    request: &Request<'a>,
+    settings: &Settings<'a>,
 ) -> Result<Report, Trouble<'a>>
     // All movements of all files that are named come, in turn, to the stock at the beginning.
-    ensures entered { IfOk result (λ report. IsEnteredOf (I.gives inputs.now) request.now report.entered) }
+    ensures entered { IfOk result (λ report. IsEnteredOf (I.gives inputs.now) settings.now report.entered) }
 
     // The status is 1 exactly if a movement is refused.
     ensures status { IfOk result (λ report. report.status ≡ status_with report.entered) }
 
     // No balance is written exactly if `strict` is set, and a movement is refused.
-    ensures denied { IfOk result (λ report. report.balance ≡ None ↔ (request.now.strict ≡ true) × (report.status ≡ 1)) }
+    ensures denied { IfOk result (λ report. report.balance ≡ None ↔ (settings.now.strict ≡ true) × (report.status ≡ 1)) }
 {
-    let entered = entered_of(alloc, state, inputs, request)?;
+    let entered = entered_of(alloc, state, inputs, settings)?;
     Ok(Report {
-        refusals: refused_text(alloc, request, entered.refusals.as_slice())?,
-        balance: left_text(alloc, request, &entered)?,
+        refusals: refused_text(alloc, settings, entered.refusals.as_slice())?,
+        balance: left_text(alloc, settings, &entered)?,
         status: status_of(&entered),
         entered,
     })

@@ -1,5 +1,6 @@
 //! A stock that is counted again from all its movements, in an open database.
 use crate::putting::in_database;
+use crate::stages::{Stage, Stages};
 use hashbag_csv::counts::Reading;
 use hashbag_csv::decimals::write_decimal;
 use hashbag_csv::escaped::Escaped;
@@ -148,15 +149,18 @@ pub enum Verdict {
 /// # Errors
 ///
 /// Why they can't be read.
-pub fn verify_in<'a, D: Alter, S: BuildHasher + Drop>(
+pub fn verify_in<'a, D: Alter, S: BuildHasher + Drop, G: Stages>(
     alloc: Global,
     state: S,
+    stages: &G,
     job: &Job<'a>,
     shape: Shape,
     conn: &mut Connection<D>,
 ) -> Result<Verdict, Trouble<'a>> {
     let db = job.db;
+    stages.begin(Stage::Reading);
     let kept = in_database(alloc, db, everything_of(alloc, conn, shape))?;
+    stages.begin(Stage::Booking(kept.movements.len()));
     let said = agreement(
         alloc,
         kept.batches.len(),

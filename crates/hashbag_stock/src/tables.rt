@@ -196,6 +196,17 @@ pub fn columns_of<S: Alter>(
     Ok(Some(text_of(conn, "columns")?))
 }
 
+/// Returns the names of the columns of dates and of notes that a stock keeps, each if it keeps one.
+///
+/// # Errors
+///
+/// The error of the database.
+pub fn extras_of<S: Alter>(
+    conn: &mut Connection<S>,
+) -> Result<(Option<String>, Option<String>), StockError> {
+    Ok((text_if(conn, "date")?, text_if(conn, "note")?))
+}
+
 // Returns the number of this name in the table `meta`, or `None`.
 fn number_of<S: Alter>(conn: &mut Connection<S>, name: &str) -> Result<Option<i64>, StockError> {
     let rows = conn.query_all("SELECT value FROM meta WHERE name = ?1", params![name])?;
@@ -205,11 +216,19 @@ fn number_of<S: Alter>(conn: &mut Connection<S>, name: &str) -> Result<Option<i6
     }
 }
 
-// Returns the text of this name in the table `meta`.
-fn text_of<S: Alter>(conn: &mut Connection<S>, name: &str) -> Result<String, StockError> {
+// Returns the text of this name in the table `meta`, if there is one.
+fn text_if<S: Alter>(conn: &mut Connection<S>, name: &str) -> Result<Option<String>, StockError> {
     let rows = conn.query_all("SELECT value FROM meta WHERE name = ?1", params![name])?;
     match rows.first() {
-        Some(row) => Ok(row.get(0)?),
+        Some(row) => Ok(Some(row.get(0)?)),
+        None => Ok(None),
+    }
+}
+
+// Returns the text of this name in the table `meta`.
+fn text_of<S: Alter>(conn: &mut Connection<S>, name: &str) -> Result<String, StockError> {
+    match text_if(conn, name)? {
+        Some(text) => Ok(text),
         None => Err(StockError::Damaged("no mark, delimiter or columns in the table meta")),
     }
 }

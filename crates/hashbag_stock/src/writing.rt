@@ -7,7 +7,7 @@ ghost use Rattle.hashbag_stock.specs.Extras.{HasAllExtras};
 
 use crate::error::StockError;
 use crate::tables::{TABLES, VERSION, delimiter_name, mark_name};
-use hashbag_ledger_lib::extras::Extra;
+use hashbag_ledger_lib::extras::{Extra, ExtraColumns};
 use hashbag_ledger_lib::movements::{Entry, Movement, Outcome};
 use hashbag_ledger_lib::numbers::{number_of, signed};
 use hashbag_ledger_lib::once::Batch;
@@ -39,6 +39,8 @@ pub struct NewStock<'a> {
     pub style: Style,
     /// The names of the columns of movements, with commas between them.
     pub columns: &'a str,
+    /// The names of the columns of dates and of notes, if there are any.
+    pub extras: ExtraColumns<&'a str>,
 }
 
 const TOO_LARGE: &str = "a number past 9223372036854775807";
@@ -77,6 +79,21 @@ fn keep<S: Alter>(
     )
 }
 
+// Writes the name of a column into the table `meta`, if there is one.
+fn keep_if<S: Alter>(
+    transaction: &mut Transaction<'_, S>,
+    name: &str,
+    column: Option<&str>,
+) -> Result<(), StockError>
+    ensures same_reference { transaction.new.conn.ghost_name ≡ transaction.old.conn.ghost_name }
+    ensures inside { IsInside (state S.Store transaction.old.conn.now) (state S.Store transaction.new.conn.now) }
+{
+    match column {
+        Some(column) => keep(transaction, name, column),
+        None => Ok(()),
+    }
+}
+
 // Writes what a new stock keeps, except for its scale.
 fn keep_style<S: Alter>(
     transaction: &mut Transaction<'_, S>,
@@ -91,7 +108,9 @@ fn keep_style<S: Alter>(
         "delimiter",
         delimiter_name(stock.style.delimiter),
     )?;
-    keep(transaction, "columns", stock.columns)
+    keep(transaction, "columns", stock.columns)?;
+    keep_if(transaction, "date", stock.extras.date)?;
+    keep_if(transaction, "note", stock.extras.note)
 }
 
 // Creates the tables of a stock.

@@ -2,6 +2,7 @@
 use crate::outputs::is_same;
 use crate::stock::database::{ended, is_of_database, open};
 use crate::stock::say::{random_state, say};
+use crate::stock::stages::HostStages;
 use hashbag_ledger_args::job::Job;
 use hashbag_ledger_db::counting::{Counted, count_in};
 use hashbag_ledger_db::troubles;
@@ -23,16 +24,31 @@ fn conflict<'a>(rt: &HostRuntime, job: &Job<'a>) -> Result<Option<&'a str>, Trou
     Ok(None)
 }
 
+// Enters the differences between the stock and what these bytes say.
+fn counted_by<'a>(
+    rt: &HostRuntime,
+    stages: &HostStages<'_>,
+    job: &Job<'a>,
+    bytes: Vec<u8>,
+) -> Result<Counted, Trouble<'a>> {
+    let state = random_state(rt)?;
+    let (mut conn, shape) = open(rt, stages, job)?;
+    let done = count_in(rt.alloc(), state, stages, job, shape, &mut conn, bytes);
+    ended(conn, done)
+}
+
 // Enters the differences between the stock and what was counted.
 fn counted<'a>(rt: &HostRuntime, job: &Job<'a>) -> Result<Counted, Trouble<'a>> {
     let inputs = HostInputs::new(rt, job.reports, &[job.counted]);
     let bytes = inputs.read(job.counted);
+    let stages = HostStages::new(rt, job.reports, job.db, &[job.counted]);
+    let done = match bytes {
+        Ok(bytes) => counted_by(rt, &stages, job, bytes),
+        Err(trouble) => Err(trouble),
+    };
     inputs.end();
-    let bytes = bytes?;
-    let state = random_state(rt)?;
-    let (mut conn, shape) = open(rt, job)?;
-    let done = count_in(rt.alloc(), state, job, shape, &mut conn, bytes);
-    ended(conn, done)
+    stages.end();
+    done
 }
 
 /// Enters the differences between the stock and what was counted, writes them, and says which batch was entered.

@@ -2,9 +2,11 @@
 ghost use Rattle.std.specs.Prelude.{⊤};
 
 use crate::outputs::is_same;
+use crate::stock::stages::HostStages;
 use hashbag_ledger_args::job::Job;
 use hashbag_ledger_db::files::Databases;
 use hashbag_ledger_db::putting::in_database;
+use hashbag_ledger_db::stages::{Stage, Stages};
 use hashbag_ledger_db::troubles::{no_file, no_stock, of_stock};
 use hashbag_shell::trouble::Trouble;
 use hashbag_stock::error::StockError;
@@ -96,7 +98,11 @@ pub fn open_or_make<'a>(
 /// # Errors
 ///
 /// `NoFile` or `NoStock` if there is none, or why it gives none.
-pub fn open<'a>(rt: &HostRuntime, job: &Job<'a>) -> Result<(Db, Shape), Trouble<'a>> {
+pub fn open<'a>(
+    rt: &HostRuntime,
+    stages: &HostStages<'_>,
+    job: &Job<'a>,
+) -> Result<(Db, Shape), Trouble<'a>> {
     let db = job.db;
     if is_new(rt, db)? {
         return Err(match fs::metadata(rt, db) {
@@ -104,6 +110,7 @@ pub fn open<'a>(rt: &HostRuntime, job: &Job<'a>) -> Result<(Db, Shape), Trouble<
             Err(_) => no_file(rt.alloc(), db),
         });
     }
+    stages.begin(Stage::Opening);
     let (conn, contents) = open_or_make(rt, db, job.wait)?;
     match contents {
         Contents::Stock(shape) => Ok((conn, shape)),

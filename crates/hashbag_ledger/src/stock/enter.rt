@@ -4,10 +4,13 @@ ghost use Rattle.std.specs.Prelude.{◌≡◌};
 use crate::outputs::{is_same, write_refusals};
 use crate::stock::database::{HostDatabases, ended, is_new, is_of_database, open, open_or_make};
 use crate::stock::say::{random_state, say};
+use crate::stock::stages::HostStages;
 use hashbag_csv::delimiter::Delimiter;
 use hashbag_ledger_args::job::Job;
-use hashbag_ledger_db::entering::{Closed, Report, begin_in, beginning_of, closed_in};
+use hashbag_ledger_db::closing::{Closed, begin_in, beginning_of, closed_in};
+use hashbag_ledger_db::entering::Report;
 use hashbag_ledger_db::files::enter_named;
+use hashbag_ledger_db::stages::{Stage, Stages};
 use hashbag_ledger_db::troubles;
 use hashbag_ledger_lib::output::typed_text;
 use hashbag_shell::inputs::{HostInputs, Inputs};
@@ -80,8 +83,11 @@ pub fn enter<'a>(rt: &HostRuntime, job: &Job<'a>) -> Result<u8, Trouble<'a>> {
     let state = random_state(rt)?;
     let output = output_of(rt, job)?;
     let inputs = HostInputs::new(rt, job.reports, &job.files);
-    let entered = enter_named(rt.alloc(), state, &inputs, &HostDatabases { rt }, job);
+    let stages = HostStages::new(rt, job.reports, job.db, &job.files);
+    let databases = HostDatabases { rt };
+    let entered = enter_named(rt.alloc(), state, &inputs, &databases, &stages, job);
     inputs.end();
+    stages.end();
     write(rt, job, output, entered)
 }
 
@@ -114,20 +120,52 @@ pub fn enter_typed<'a>(rt: &HostRuntime, job: &Job<'a>, sign: &str) -> Result<u8
     let state = random_state(rt)?;
     let output = output_of(rt, job)?;
     let inputs = Typed { text };
-    let entered = enter_named(rt.alloc(), state, &inputs, &HostDatabases { rt }, job);
+    let stages = HostStages::new(rt, job.reports, job.db, &[]);
+    let databases = HostDatabases { rt };
+    let entered = enter_named(rt.alloc(), state, &inputs, &databases, &stages, job);
+    stages.end();
     write(rt, job, output, entered)
 }
 
 // Begins a new database with what another one leaves to it.
-fn begin<'a>(rt: &HostRuntime, job: &Job<'a>, closed: &Closed) -> Result<(), Trouble<'a>> {
+fn begin<'a>(
+    rt: &HostRuntime,
+    stages: &HostStages<'_>,
+    job: &Job<'a>,
+    closed: &Closed,
+) -> Result<(), Trouble<'a>> {
     let (alloc, state) = (rt.alloc(), random_state(rt)?);
     let inputs = [beginning_of(alloc, job, closed)?];
+    stages.begin(Stage::Opening);
     let (mut conn, contents) = open_or_make(rt, job.into, job.wait)?;
     let begun = match contents {
-        Contents::Empty => begin_in(alloc, state, job, closed, inputs.as_slice(), &mut conn),
+        Contents::Empty => begin_in(
+            alloc,
+            state,
+            job,
+            closed,
+            inputs.as_slice(),
+            &mut conn,
+            stages,
+        ),
         Contents::Stock(_) => Err(troubles::has_stock(alloc, job.into)),
     };
     ended(conn, begun)
+}
+
+// Returns what the database leaves to the one that follows it.
+fn closed<'a>(rt: &HostRuntime, job: &Job<'a>) -> Result<Closed, Trouble<'a>> {
+    let stages = HostStages::new(rt, job.reports, job.db, &[]);
+    let closed = match open(rt, &stages, job) {
+        Ok((mut conn, shape)) => {
+            stages.begin(Stage::Reading);
+            let closed = closed_in(rt.alloc(), job, shape, &mut conn);
+            ended(conn, closed)
+        }
+        Err(trouble) => Err(trouble),
+    };
+    stages.end();
+    closed
 }
 
 /// Begins a new database with the balance of this one.
@@ -139,8 +177,10 @@ pub fn close<'a>(rt: &HostRuntime, job: &Job<'a>) -> Result<u8, Trouble<'a>> {
     if is_of_database(rt, job.db, job.into)? {
         return Err(troubles::conflict(rt.alloc(), job.into));
     }
-    let (mut conn, shape) = open(rt, job)?;
-    let closed = closed_in(rt.alloc(), job, shape, &mut conn);
-    begin(rt, job, &ended(conn, closed)?)?;
+    let closed = closed(rt, job)?;
+    let stages = HostStages::new(rt, job.reports, job.into, &[]);
+    let begun = begin(rt, &stages, job, &closed);
+    stages.end();
+    begun?;
     Ok(DONE)
 }

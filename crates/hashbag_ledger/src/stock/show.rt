@@ -1,10 +1,12 @@
 //! What is shown of a stock: its balance, the history of an article, the batches, and the movements of one.
 use crate::stock::database::{ended, is_of_database, open};
 use crate::stock::say::{random_state, say};
+use crate::stock::stages::HostStages;
 use hashbag_ledger_args::job::Job;
 use hashbag_ledger_db::showing::{
     Shown, balance_at_in, balance_in, batches_in, history_in, show_in,
 };
+use hashbag_ledger_db::stages::{Stage, Stages};
 use hashbag_ledger_db::troubles;
 use hashbag_shell::output::Output;
 use hashbag_shell::status::DONE;
@@ -22,52 +24,47 @@ fn write<'a>(rt: &HostRuntime, job: &Job<'a>, shown: &Shown) -> Result<u8, Troub
     Ok(DONE)
 }
 
-/// Writes the balance, or the numbers of some articles; and says which of these aren't there.
-///
-/// # Errors
-///
-/// Why there is none, or why it can't be written.
-pub fn balance<'a>(rt: &HostRuntime, job: &Job<'a>) -> Result<u8, Trouble<'a>> {
-    let state = random_state(rt)?;
-    let (mut conn, shape) = open(rt, job)?;
-    let shown = match job.at {
-        Some(date) => balance_at_in(rt.alloc(), state, job, shape, &mut conn, date),
-        None => balance_in(rt.alloc(), job, shape, &mut conn),
+/// What is shown.
+#[derive(Clone, Copy)]
+pub enum View {
+    /// The balance, or the numbers of some articles; and which of these aren't there.
+    Balance,
+    /// The movements of an article; or that there are none.
+    History,
+    /// The batches.
+    Batches,
+    /// The movements of a batch.
+    Batch,
+}
+
+// Returns what is shown of the database.
+fn shown<'a>(
+    rt: &HostRuntime,
+    stages: &HostStages<'_>,
+    job: &Job<'a>,
+    view: View,
+) -> Result<Shown, Trouble<'a>> {
+    let (alloc, state) = (rt.alloc(), random_state(rt)?);
+    let (mut conn, shape) = open(rt, stages, job)?;
+    stages.begin(Stage::Reading);
+    let shown = match (view, job.at) {
+        (View::Balance, Some(date)) => balance_at_in(alloc, state, job, shape, &mut conn, date),
+        (View::Balance, None) => balance_in(alloc, job, shape, &mut conn),
+        (View::History, _) => history_in(alloc, state, job, shape, &mut conn),
+        (View::Batches, _) => batches_in(alloc, job, shape, &mut conn),
+        (View::Batch, _) => show_in(alloc, state, job, shape, &mut conn),
     };
-    write(rt, job, &ended(conn, shown)?)
+    ended(conn, shown)
 }
 
-/// Writes the movements of an article, or says that there are none.
+/// Writes what is shown of the database.
 ///
 /// # Errors
 ///
-/// Same as [`balance`].
-pub fn history<'a>(rt: &HostRuntime, job: &Job<'a>) -> Result<u8, Trouble<'a>> {
-    let state = random_state(rt)?;
-    let (mut conn, shape) = open(rt, job)?;
-    let shown = history_in(rt.alloc(), state, job, shape, &mut conn);
-    write(rt, job, &ended(conn, shown)?)
-}
-
-/// Writes the batches.
-///
-/// # Errors
-///
-/// Same as [`balance`].
-pub fn batches<'a>(rt: &HostRuntime, job: &Job<'a>) -> Result<u8, Trouble<'a>> {
-    let (mut conn, shape) = open(rt, job)?;
-    let shown = batches_in(rt.alloc(), job, shape, &mut conn);
-    write(rt, job, &ended(conn, shown)?)
-}
-
-/// Writes the movements of a batch.
-///
-/// # Errors
-///
-/// Same as [`balance`], and if there is no such batch.
-pub fn show<'a>(rt: &HostRuntime, job: &Job<'a>) -> Result<u8, Trouble<'a>> {
-    let state = random_state(rt)?;
-    let (mut conn, shape) = open(rt, job)?;
-    let shown = show_in(rt.alloc(), state, job, shape, &mut conn);
-    write(rt, job, &ended(conn, shown)?)
+/// Why there is no such thing, or why it can't be written.
+pub fn show<'a>(rt: &HostRuntime, job: &Job<'a>, view: View) -> Result<u8, Trouble<'a>> {
+    let stages = HostStages::new(rt, job.reports, job.db, &[]);
+    let shown = shown(rt, &stages, job, view);
+    stages.end();
+    write(rt, job, &shown?)
 }

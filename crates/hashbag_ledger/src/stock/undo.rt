@@ -1,13 +1,26 @@
 //! A batch that is taken back.
 use crate::stock::database::{ended, open};
 use crate::stock::say::{random_state, say};
+use crate::stock::stages::HostStages;
 use hashbag_ledger_args::command::PROGRAM;
 use hashbag_ledger_args::job::Job;
 use hashbag_ledger_db::troubles;
-use hashbag_ledger_db::undoing::undo_in;
+use hashbag_ledger_db::undoing::{Report, undo_in};
 use hashbag_shell::output::write_text;
 use hashbag_shell::status::DENIED;
 use hashbag_shell::trouble::Trouble;
+
+// Takes the batch back in the database.
+fn undone<'a>(
+    rt: &HostRuntime,
+    stages: &HostStages<'_>,
+    job: &Job<'a>,
+) -> Result<Report, Trouble<'a>> {
+    let state = random_state(rt)?;
+    let (mut conn, shape) = open(rt, stages, job)?;
+    let done = undo_in(rt.alloc(), state, stages, job, shape, &mut conn);
+    ended(conn, done)
+}
 
 /// Enters the opposite movements of a batch, all or none. Writes the refusals, or says which batch was entered.
 ///
@@ -18,10 +31,10 @@ pub fn undo<'a>(rt: &HostRuntime, job: &Job<'a>) -> Result<u8, Trouble<'a>> {
     if job.last == job.batch.is_some() {
         return Err(troubles::no_batch_named(rt.alloc()));
     }
-    let state = random_state(rt)?;
-    let (mut conn, shape) = open(rt, job)?;
-    let done = undo_in(rt.alloc(), state, job, shape, &mut conn);
-    let report = ended(conn, done)?;
+    let stages = HostStages::new(rt, job.reports, job.db, &[]);
+    let undone = undone(rt, &stages, job);
+    stages.end();
+    let report = undone?;
     say(rt, job.quiet, report.said.as_str());
     write_text(&mut rt.stderr(), report.refusals.as_bytes())?;
     if report.status == DENIED {

@@ -1,6 +1,7 @@
 //! A stock that is counted again from all its movements.
 use crate::stock::database::{ended, open};
 use crate::stock::say::random_state;
+use crate::stock::stages::HostStages;
 use hashbag_ledger_args::job::Job;
 use hashbag_ledger_db::verifying::{Verdict, verify_in};
 use hashbag_shell::output::write_text;
@@ -8,16 +9,28 @@ use hashbag_shell::status::{DENIED, DONE};
 use hashbag_shell::trouble::Trouble;
 use std::io;
 
+// Counts all movements of the database again.
+fn verdict<'a>(
+    rt: &HostRuntime,
+    stages: &HostStages<'_>,
+    job: &Job<'a>,
+) -> Result<Verdict, Trouble<'a>> {
+    let state = random_state(rt)?;
+    let (mut conn, shape) = open(rt, stages, job)?;
+    let verdict = verify_in(rt.alloc(), state, stages, job, shape, &mut conn);
+    ended(conn, verdict)
+}
+
 /// Counts all movements again, compares the balance, the refusals and the seals that are kept, and says whether they agree.
 ///
 /// # Errors
 ///
 /// Why they can't be read, or the answer can't be written.
 pub fn verify<'a>(rt: &HostRuntime, job: &Job<'a>) -> Result<u8, Trouble<'a>> {
-    let state = random_state(rt)?;
-    let (mut conn, shape) = open(rt, job)?;
-    let verdict = verify_in(rt.alloc(), state, job, shape, &mut conn);
-    match ended(conn, verdict)? {
+    let stages = HostStages::new(rt, job.reports, job.db, &[]);
+    let verdict = verdict(rt, &stages, job);
+    stages.end();
+    match verdict? {
         Verdict::Differs(text) => {
             write_text(&mut rt.stderr(), text.as_bytes())?;
             Ok(DENIED)

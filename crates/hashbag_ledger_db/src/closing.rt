@@ -1,0 +1,102 @@
+//! A stock that is closed: its balance begins another one, in an open database.
+use crate::before::{before_in, kept_columns, kept_extras};
+use crate::entering::{Ready, filed_of, new_stock_of, write};
+use crate::movements::{Input, input_of};
+use crate::putting::in_database;
+use crate::stages::Stages;
+use hashbag_ledger_args::columns::{KeptColumns, KeptExtras, columns_text};
+use hashbag_ledger_args::job::Job;
+use hashbag_ledger_lib::output::balance_text;
+use hashbag_shell::trouble::Trouble;
+use hashbag_stock::reading::balance_of;
+use hashbag_stock::tables::{Contents, Shape};
+use sqlite::{Alter, Connection};
+use std::alloc::Global;
+use std::hash::BuildHasher;
+
+/// What a stock leaves to the one that follows it.
+#[derive(Drop)]
+pub struct Closed {
+    /// The shape of the closed stock.
+    pub shape: Shape,
+    /// The columns of movements that it keeps.
+    pub columns: KeptColumns,
+    /// The columns of dates and of notes that it keeps.
+    pub extras: KeptExtras,
+    /// Its balance.
+    pub balance: Vec<(String, usize)>,
+}
+
+/// Returns what an open stock leaves to the one that follows it.
+///
+/// # Errors
+///
+/// Why it can't be read.
+pub fn closed_in<'a, D: Alter>(
+    alloc: Global,
+    job: &Job<'a>,
+    shape: Shape,
+    conn: &mut Connection<D>,
+) -> Result<Closed, Trouble<'a>> {
+    let db = job.db;
+    Ok(Closed {
+        shape,
+        columns: kept_columns(alloc, db, conn, shape)?,
+        extras: kept_extras(alloc, db, conn)?,
+        balance: in_database(alloc, db, balance_of(alloc, conn))?,
+    })
+}
+
+/// Returns the balance of a database as the input that begins another one: a text of CSV, which is entered as a file would be.
+///
+/// # Errors
+///
+/// An allocation fails.
+pub fn beginning_of<'a>(
+    alloc: Global,
+    job: &Job<'a>,
+    closed: &Closed,
+) -> Result<Input<'a>, Trouble<'a>> {
+    let reading = job.reading(closed.shape.style);
+    let text = balance_text(alloc, ("article", "number"), reading, &closed.balance)?;
+    input_of(alloc, job.db, text, None, true)
+}
+
+/// Writes the first batch of a new database, which keeps what the closed one kept, and what the job names in place of it.
+///
+/// # Errors
+///
+/// Why it isn't written.
+pub fn begin_in<'a, D: Alter, S: BuildHasher + Drop, G: Stages>(
+    alloc: Global,
+    state: S,
+    job: &Job<'a>,
+    closed: &Closed,
+    inputs: &[Input<'a>],
+    conn: &mut Connection<D>,
+    stages: &G,
+) -> Result<(), Trouble<'a>> {
+    let (contents, db) = (Contents::Empty, job.into);
+    let reading = job.reading(closed.shape.style);
+    let columns = job.columns_or(closed.columns.names());
+    let ready = Ready {
+        before: before_in(alloc, job, inputs, conn, contents)?,
+        filed: filed_of(alloc, state, job, inputs, columns, reading, &[], stages)?,
+    };
+    let shape = Shape::of_new(job.style(closed.shape.style));
+    let text = columns_text(alloc, columns)?;
+    let extras = job.extras_or(closed.extras.names());
+    let new_stock = new_stock_of(contents, shape, text.as_str(), extras);
+    write(
+        alloc,
+        conn,
+        db,
+        shape,
+        new_stock,
+        inputs,
+        &[],
+        &ready,
+        stages,
+    )?;
+    Ok(())
+}
