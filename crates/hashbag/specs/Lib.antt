@@ -23,6 +23,7 @@ pub use Rattle.hashbag_core.specs.Walks
 pub use Rattle.hashbag_ops.specs.Lacked
 pub use Rattle.hashbag_ops.specs.Order
 pub use Rattle.hashbag_ops.specs.Unions
+pub use Rattle.hashbag_script.specs.Collected
 pub use Rattle.hashbag_script.specs.Pairs
 pub use Rattle.hashbag_script.specs.Rows
 pub use Rattle.hashbag_script.specs.Script

@@ -70,6 +70,17 @@ none_either : (b : Bool) → ◌≡◌ {A = ℕ} 0 (cond b 0 0)
 none_either true = refl
 none_either false = refl
 
+-- an insertion that the limit allows fails for memory alone: for the clauses `refused` of `insert`, `insert_many` and an entry's `or_insert`
+pub refused_for_memory : {T S A : Type 0} (eq : T → T → Bool) (bag : Bag T S) (v : T) (n : ℕ) (r : Result A BagError) → IfErr r (IsRefused eq bag v n) → length bag.items + n ≤ bag.most → IfErr r (λ e. e ≡ Memory)
+refused_for_memory eq bag v n (Ok a) refused fits = tt
+refused_for_memory eq bag v n (Err TooMany) refused fits = let over = refused.why in absurd (omega (arith, over, fits))
+refused_for_memory eq bag v n (Err Memory) refused fits = refl
+refused_for_memory eq bag v n (Err BelowTotal) refused fits = absurd refused.why
+
+-- what an iterator gave to its end is the list that it yields: for the items of `Extends` and of the clause `len` of an extend
+pub items_that_came : {S A B : Type 0} {steps : S → Option A → S → Type 0} {v : A → B} {it : S} {all : List B} → (came : List A) → Drains steps it came → YieldsList steps v it all → map v came ≡ all
+items_that_came came h yields = items_from_drains came (h.1.0, h.1.1, λ _. (h.0, h.1.2)) yields
+
 module _ {T : Type 0} {eq : T → T → Bool} (laws : IsEquivalence eq) where
   -- ---- lists
 
@@ -105,34 +116,25 @@ module _ {T : Type 0} {eq : T → T → Bool} (laws : IsEquivalence eq) where
       count_copies v x (drop n (alike eq x X)) (all_to_recursion (λ y. eq x y ≡ true) (drop n (alike eq x X)) (All-drop (λ y. eq x y ≡ true) n _ (filter_passes (eq x) X)))
       ∙ ap (λ (k : ℕ). cond (eq v x) k 0) (length-drop n (alike eq x X) ∙ ap (λ (k : ℕ). k - n) (length-filter (eq x) X))
 
+  one_of_two : (b : Bool) (k m c d : ℕ) → c ≡ cond b 0 m → d ≡ cond b k 0 → c + d ≡ cond b k m
+  one_of_two true k m c d first second = omega arith
+  one_of_two false k m c d first second = omega arith
+
+  -- where all that equal x make way for a list Z of such, each value that equals x occurs as often as in Z
+  count_beside : (v x : T) (k : ℕ) (X Z : List T) (b : Bool) → eq v x ≡ b → count eq v Z ≡ cond (eq v x) k 0 → count eq v (others eq x X ++ Z) ≡ cond b k (count eq v X)
+  count_beside v x k X Z b is copies =
+      count_append laws v (others eq x X) Z ∙ one_of_two b k (count eq v X) _ _ (count_others v x X b is) (copies ∙ ap (λ (b : Bool). cond b k 0) is)
+
   count_less_at : (v x : T) (n : ℕ) (X : List T) (b : Bool) → eq v x ≡ b → count eq v (less eq x n X) ≡ cond b (count eq v X - n) (count eq v X)
-  count_less_at v x n X true same =
-      let parts = count_append laws v (others eq x X) (drop n (alike eq x X)) in
-      let none = count_others v x X true same in
-      let left : count eq v (drop n (alike eq x X)) ≡ count eq x X - n = count_alike_left v x n X ∙ ap (λ (b : Bool). cond b (count eq x X - n) 0) same in
-      let equal = count_congr laws X v x same in
-      omega arith
-  count_less_at v x n X false other =
-      let parts = count_append laws v (others eq x X) (drop n (alike eq x X)) in
-      let all = count_others v x X false other in
-      let none : count eq v (drop n (alike eq x X)) ≡ 0 = count_alike_left v x n X ∙ ap (λ (b : Bool). cond b (count eq x X - n) 0) other in
-      omega arith
+  count_less_at v x n X true same = count_beside v x (count eq x X - n) X (drop n (alike eq x X)) true same (count_alike_left v x n X) ∙ ap (λ (k : ℕ). k - n) (sym (count_congr laws X v x same))
+  count_less_at v x n X false other = count_beside v x (count eq x X - n) X (drop n (alike eq x X)) false other (count_alike_left v x n X)
 
   -- n fewer of x are n fewer of each value that equals x
   pub count_less : (v x : T) (n : ℕ) (X : List T) → count eq v (less eq x n X) ≡ cond (eq v x) (count eq v X - n) (count eq v X)
   count_less v x n X = count_less_at v x n X (eq v x) refl
 
   count_put_at : (v x : T) (n : ℕ) (X : List T) (b : Bool) → eq v x ≡ b → count eq v (put eq x n X) ≡ cond b n (count eq v X)
-  count_put_at v x n X true same =
-      let parts = count_append laws v (others eq x X) (replicate n x) in
-      let none = count_others v x X true same in
-      let copies : count eq v (replicate n x) ≡ n = count_replicate v x n ∙ ap (λ (b : Bool). cond b n 0) same in
-      omega arith
-  count_put_at v x n X false other =
-      let parts = count_append laws v (others eq x X) (replicate n x) in
-      let all = count_others v x X false other in
-      let copies : count eq v (replicate n x) ≡ 0 = count_replicate v x n ∙ ap (λ (b : Bool). cond b n 0) other in
-      omega arith
+  count_put_at v x n X b is = count_beside v x n X (replicate n x) b is (count_replicate v x n)
 
   -- n of x in the place of all that equal it are n of each value that equals x
   pub count_put : (v x : T) (n : ℕ) (X : List T) → count eq v (put eq x n X) ≡ cond (eq v x) n (count eq v X)
@@ -170,7 +172,7 @@ module _ {T : Type 0} {eq : T → T → Bool} (laws : IsEquivalence eq) where
     pub count_inserted : (x : T) (n : ℕ) → IsBagOf eq before (add eq x n before.items) after → count eq x after.items ≡ count eq x before.items + n
     count_inserted x n h = count_means x (add eq x n before.items) h.means ∙ count_added laws x x n before.items ∙ ap (λ (b : Bool). count eq x before.items + cond b n 0) (laws.refl x)
 
-    -- after the same, if v doesn't equal x: v occurs as often as before
+    -- after an insertion of x, if v doesn't equal it: v occurs as often as before
     pub count_inserted_other : (v x : T) (n : ℕ) → IsBagOf eq before (add eq x n before.items) after → eq v x ≡ false → count eq v after.items ≡ count eq v before.items
     count_inserted_other v x n h other =
         let all = count_means v (add eq x n before.items) h.means in
@@ -190,7 +192,7 @@ module _ {T : Type 0} {eq : T → T → Bool} (laws : IsEquivalence eq) where
     pub count_removed : (x : T) (n : ℕ) → IsBagOf eq before (less eq x n before.items) after → count eq x after.items ≡ count eq x before.items - n
     count_removed x n h = count_means x (less eq x n before.items) h.means ∙ count_less_at x x n before.items true (laws.refl x)
 
-    -- after the same, if v doesn't equal x: v occurs as often as before
+    -- after a removal of x, if v doesn't equal it: v occurs as often as before
     pub count_removed_other : (v x : T) (n : ℕ) → IsBagOf eq before (less eq x n before.items) after → eq v x ≡ false → count eq v after.items ≡ count eq v before.items
     count_removed_other v x n h other = count_means v (less eq x n before.items) h.means ∙ count_less_at v x n before.items false other
 
@@ -207,7 +209,7 @@ module _ {T : Type 0} {eq : T → T → Bool} (laws : IsEquivalence eq) where
     pub count_replaced : (x : T) (n : ℕ) → IsBagOf eq before (put eq x n before.items) after → count eq x after.items ≡ n
     count_replaced x n h = count_means x (put eq x n before.items) h.means ∙ count_put_at x x n before.items true (laws.refl x)
 
-    -- after the same, if v doesn't equal x: v occurs as often as before
+    -- after `replace` by x, if v doesn't equal it: v occurs as often as before
     pub count_replaced_other : (v x : T) (n : ℕ) → IsBagOf eq before (put eq x n before.items) after → eq v x ≡ false → count eq v after.items ≡ count eq v before.items
     count_replaced_other v x n h other = count_means v (put eq x n before.items) h.means ∙ count_put_at v x n before.items false other
 
@@ -216,7 +218,7 @@ module _ {T : Type 0} {eq : T → T → Bool} (laws : IsEquivalence eq) where
     count_set x n h =
         count_means x (put eq (instance_or_itself eq x before.items) n before.items) h.means ∙ count_put_instance x x n before.items ∙ ap (λ (b : Bool). cond b n (count eq x before.items)) (laws.refl x)
 
-    -- after the same, if v doesn't equal x: v occurs as often as before
+    -- after a call that set the count of x, if v doesn't equal it: v occurs as often as before
     pub count_set_other : (v x : T) (n : ℕ) → IsBagOf eq before (put eq (instance_or_itself eq x before.items) n before.items) after → eq v x ≡ false → count eq v after.items ≡ count eq v before.items
     count_set_other v x n h other =
         count_means v (put eq (instance_or_itself eq x before.items) n before.items) h.means ∙ count_put_instance v x n before.items ∙ ap (λ (b : Bool). cond b n (count eq v before.items)) other
@@ -297,24 +299,21 @@ module _ {T : Type 0} {eq : T → T → Bool} (laws : IsEquivalence eq) where
         let none : m ≡ 0 = omega arith in
         sym (ap (λ (k : ℕ). replicate k v ++ occurrences es) none)
 
+    -- m copies of x before a list
+    copies_before : (v x : T) (m : ℕ) (X : List T) (b : Bool) → eq v x ≡ b → count eq v (replicate m x ++ X) ≡ cond b m 0 + count eq v X
+    copies_before v x m X b is = count_append laws v (replicate m x) X ∙ ap (λ (k : ℕ). k + count eq v X) (count_replicate v x m ∙ ap (λ (b : Bool). cond b m 0) is)
+
     kept_step : (v : T) (e : T × ℕ) (es rest : List (T × ℕ)) (b : Bool) → eq v e.0 ≡ b → count eq e.0 (occurrences es) ≡ 0 → count eq v (occurrences rest) ≡ min (many v) (count eq v (occurrences es))
         → count eq v (replicate (min (many e.0) e.1) e.0 ++ occurrences rest) ≡ min (many v) (count eq v (replicate e.1 e.0 ++ occurrences es))
-    kept_step v e es rest true same absent later =
-        let m = min (many e.0) e.1 in
-        let parts = count_append laws v (replicate m e.0) (occurrences rest) in
-        let copies : count eq v (replicate m e.0) ≡ m = count_replicate v e.0 m ∙ ap (λ (b : Bool). cond b m 0) same in
-        let parts_before = count_append laws v (replicate e.1 e.0) (occurrences es) in
-        let copies_before : count eq v (replicate e.1 e.0) ≡ e.1 = count_replicate v e.0 e.1 ∙ ap (λ (b : Bool). cond b e.1 0) same in
-        let none : count eq v (occurrences es) ≡ 0 = count_congr laws (occurrences es) v e.0 same ∙ absent in
-        let quota = congr v e.0 same in
-        omega arith
-    kept_step v e es rest false other absent later =
-        let m = min (many e.0) e.1 in
-        let parts = count_append laws v (replicate m e.0) (occurrences rest) in
-        let copies : count eq v (replicate m e.0) ≡ 0 = count_replicate v e.0 m ∙ ap (λ (b : Bool). cond b m 0) other in
-        let parts_before = count_append laws v (replicate e.1 e.0) (occurrences es) in
-        let copies_before : count eq v (replicate e.1 e.0) ≡ 0 = count_replicate v e.0 e.1 ∙ ap (λ (b : Bool). cond b e.1 0) other in
-        omega arith
+    kept_step v e es rest b is absent later =
+        rw (copies_before v e.0 (min (many e.0) e.1) (occurrences rest) b is, copies_before v e.0 e.1 (occurrences es) b is) (by_test b is)
+      where
+        by_test : (b : Bool) → eq v e.0 ≡ b → cond b (min (many e.0) e.1) 0 + count eq v (occurrences rest) ≡ min (many v) (cond b e.1 0 + count eq v (occurrences es))
+        by_test true same =
+            let none : count eq v (occurrences es) ≡ 0 = count_congr laws (occurrences es) v e.0 same ∙ absent in
+            let quota = congr v e.0 same in
+            omega arith
+        by_test false other = omega arith
 
     none_left : (n : ℕ) → 0 ≡ min n 0
     none_left n = omega arith
@@ -334,25 +333,13 @@ module _ {T : Type 0} {eq : T → T → Bool} (laws : IsEquivalence eq) where
         ∙ count_of_kept v done.walk (set_walk_distinct before.items done.walk (done.set_walk.walk before.items (IsPermutation-refl _)))
         ∙ ap (λ (n : ℕ). min (many v) n) (count_rearranged laws v (occurrences done.walk) before.items done.set_walk.means)
 
--- an insertion that the limit allows fails for memory alone: for the clauses `refused` of `insert`, `insert_many` and an entry's `or_insert`
-pub refused_for_memory : {T S A : Type 0} (eq : T → T → Bool) (bag : Bag T S) (v : T) (n : ℕ) (r : Result A BagError) → IfErr r (IsRefused eq bag v n) → length bag.items + n ≤ bag.most → IfErr r (λ e. e ≡ Memory)
-refused_for_memory eq bag v n (Ok a) refused fits = tt
-refused_for_memory eq bag v n (Err TooMany) refused fits = let over = refused.why in absurd (omega (arith, over, fits))
-refused_for_memory eq bag v n (Err Memory) refused fits = refl
-refused_for_memory eq bag v n (Err BelowTotal) refused fits = absurd refused.why
-
--- what an iterator gave to its end is the list that it yields: for the items of `Extends` and of the clause `len` of an extend
-pub items_that_came : {S A B : Type 0} {steps : S → Option A → S → Type 0} {v : A → B} {it : S} {all : List B} → (came : List A) → Drains steps it came → YieldsList steps v it all → map v came ≡ all
-items_that_came came h yields = items_from_drains came (h.1.0, h.1.1, λ _. (h.0, h.1.2)) yields
-
-module _ {T : Type 0} {eq : T → T → Bool} (laws : IsEquivalence eq) where
   -- after an `extend` by a known list xs, or `from_iter` (`all`): v occurs as often more as in xs
   pub count_listed : {S I : Type 0} {steps : I → Option T → I → Type 0} {it : I} (before after : Bag T S) (xs : List T) → InsertsAll eq steps Once it before after → YieldsList steps (λ x. x) it xs
       → (v : T) → count eq v after.items ≡ count eq v before.items + count eq v xs
   count_listed before after xs all yields v =
       let came = sym (map-id all.items) ∙ items_that_came all.items all.came yields in
-      let whole = count_extended laws v before.items all.pairs after (all_added laws all).means in
-      let each = count_once laws v all.items all.pairs all.went ∙ ap (λ (l : List T). count eq v l) came in
+      let whole = count_extended v before.items all.pairs after (all_added laws all).means in
+      let each = count_once v all.items all.pairs all.went ∙ ap (λ (l : List T). count eq v l) came in
       omega arith
 
   moved_at : (b : Bool) (f f' t t' n : ℕ) → (b ≡ true → n ≤ f) → f' ≡ cond b (f - n) f → t' ≡ t + cond b n 0 → f' + t' ≡ f + t
@@ -365,8 +352,8 @@ module _ {T : Type 0} {eq : T → T → Bool} (laws : IsEquivalence eq) where
       → n ≤ count eq x from.items → IsBagOf eq from (less eq x n from.items) from' → IsBagOf eq to (add eq y n to.items) to'
       → count eq v from'.items + count eq v to'.items ≡ count eq v from.items + count eq v to.items
   count_moved from from' to to' v x y n alike some less more =
-      let went = count_inserted_any laws to to' v y n more ∙ ap (λ (b : Bool). count eq v to.items + cond b n 0) (laws.symm v y ∙ sym (laws.congr x y v alike) ∙ laws.symm x v) in
-      moved_at (eq v x) _ _ _ _ n (λ same. let equal = count_congr laws from.items v x same in omega arith) (count_removed_any laws from from' v x n less) went
+      let went = count_inserted_any to to' v y n more ∙ ap (λ (b : Bool). count eq v to.items + cond b n 0) (laws.symm v y ∙ sym (laws.congr x y v alike) ∙ laws.symm x v) in
+      moved_at (eq v x) _ _ _ _ n (λ same. let equal = count_congr laws from.items v x same in omega arith) (count_removed_any from from' v x n less) went
 
 -- after the next `remove` of a loop over a list: as many less than at the start as the list so far has (`seen`), or none
 pub left_after : (b : Bool) (start old new seen seen' : ℕ) → old ≡ start - seen → new ≡ cond b (old - 1) old → seen' ≡ seen + cond b 1 0 → new ≡ start - seen'

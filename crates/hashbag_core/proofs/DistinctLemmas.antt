@@ -69,6 +69,17 @@ module _ {T : Type 0} {eq : T → T → Bool} (laws : IsEquivalence eq) where
       copies_count_once e.0 e.1 (occurrences es) (counted.positive 0 e.1 (omega arith)) (absent_later e es counted.distinct)
       ∙ ap suc (distinct_count-occurrences es later)
 
+  -- a map that is one of m entries more has m values more
+  distinct_more : (m : ℕ) (es made fs : List (T × ℕ)) → IsCounted eq es → IsCounted eq fs → IsPermutation made fs → length made ≡ length es + m
+      → distinct_count eq (occurrences fs) ≡ distinct_count eq (occurrences es) + m
+  distinct_more m es made fs counted after h more =
+      distinct_count-occurrences fs after ∙ length_permutation made fs h ∙ more ∙ ap (λ (k : ℕ). k + m) (sym (distinct_count-occurrences es counted))
+
+  -- without a value that it hasn't a map is as long as before
+  length_without_absent : (v : T) (es : List (T × ℕ)) → IsCounted eq es → count eq v (occurrences es) ≡ 0 → length (remove_entry (eq v) es) ≡ length es
+  length_without_absent v es counted none =
+      ap (λ (l : List (T × ℕ)). length l) (without_absent (eq v) es (absent_from_count laws v es counted (sym (count_occurrences laws v es counted.distinct) ∙ none)))
+
   -- a map in which one value got a count has at most one value more, and none where that one was there
   pub distinct_added : (v : T) (n : ℕ) (es fs : List (T × ℕ)) → IsCounted eq es → IsCounted eq fs → IsPermutation (with_count eq v n es) fs
       → distinct_count eq (occurrences fs) ≤ distinct_count eq (occurrences es) + 1
@@ -82,31 +93,19 @@ module _ {T : Type 0} {eq : T → T → Bool} (laws : IsEquivalence eq) where
   pub distinct_same : (v : T) (n : ℕ) (es fs : List (T × ℕ)) → IsCounted eq es → IsCounted eq fs → IsPermutation (with_count eq v n es) fs
       → 0 < count eq v (occurrences es) → distinct_count eq (occurrences fs) ≡ distinct_count eq (occurrences es)
   distinct_same v n es fs counted after h some =
-      let before = distinct_count-occurrences es counted in
-      let now = distinct_count-occurrences fs after in
       let same = count_occurrences laws v es counted.distinct in
-      let long = length_permutation (with_count eq v n es) fs h in
       let fewer = length_without_one (eq v) es (present_from_count laws v es (omega arith)) in
+      let stays = distinct_more 0 es (with_count eq v n es) fs counted after h (omega arith) in
       omega arith
 
   -- and one value more where that one was absent
   pub distinct_one_more : (v : T) (n : ℕ) (es fs : List (T × ℕ)) → IsCounted eq es → IsCounted eq fs → IsPermutation (with_count eq v n es) fs
       → count eq v (occurrences es) ≡ 0 → distinct_count eq (occurrences fs) ≡ distinct_count eq (occurrences es) + 1
   distinct_one_more v n es fs counted after h none =
-      let before = distinct_count-occurrences es counted in
-      let now = distinct_count-occurrences fs after in
-      let long = length_permutation (with_count eq v n es) fs h in
-      let absent = absent_from_count laws v es counted (sym (count_occurrences laws v es counted.distinct) ∙ none) in
-      let same = ap (λ (l : List (T × ℕ)). length l) (without_absent (eq v) es absent) in
-      omega arith
+      distinct_more 1 es (with_count eq v n es) fs counted after h (let same = length_without_absent v es counted none in omega arith)
 
   -- a map that a value which it hadn't was put into has one value more
   pub distinct_put : (v : T) (n : ℕ) (es fs : List (T × ℕ)) → IsCounted eq es → IsCounted eq fs → count eq v (occurrences es) ≡ 0 → IsPermutation (with_instance eq v n es) fs
       → distinct_count eq (occurrences fs) ≡ distinct_count eq (occurrences es) + 1
   distinct_put v n es fs counted after none h =
-      let before = distinct_count-occurrences es counted in
-      let now = distinct_count-occurrences fs after in
-      let long = length_permutation (with_instance eq v n es) fs h in
-      let absent = absent_from_count laws v es counted (sym (count_occurrences laws v es counted.distinct) ∙ none) in
-      let same = ap (λ (l : List (T × ℕ)). length l) (without_absent (eq v) es absent) in
-      omega arith
+      distinct_more 1 es (with_instance eq v n es) fs counted after h (let same = length_without_absent v es counted none in omega arith)

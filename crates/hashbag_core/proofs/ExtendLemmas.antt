@@ -1,5 +1,5 @@
 -- Adding the items that come, one after another.
-use Rattle.std.proofs.Common.{◌≡◌, ℕ, ◌+◌, ◌<◌, ◌≤◌, Bool, List, [], ◌∷◌, ◌++◌, length, sum_by, Result, Ok, Err, IfErr, IsOkAnd, IsErrAnd, refl, sym, subst, arith}
+use Rattle.std.proofs.Common.{◌≡◌, ℕ, ◌+◌, ◌<◌, ◌≤◌, Bool, List, [], ◌∷◌, ◌++◌, length, sum_by, Result, Ok, Err, IfErr, IsOkAnd, IsErrAnd, refl, sym, ◌∙◌, subst, arith}
 use Rattle.std.specs.Cmp.{IsEquivalence}
 use Rattle.std.specs.List.{AllZip}
 use Rattle.std.proofs.lemmas.List.Sums.{sum_by-cons}
@@ -36,14 +36,11 @@ module _ {T A : Type 0} (Goes : A → T × ℕ → Type 0) (number : A → ℕ) 
 
 module _ {T A : Type 0} (Goes : A → T × ℕ → Type 0) (says : (x : A) (p : T × ℕ) → Goes x p → p.1 ≡ 1) where
   pub sum_went_once : (items : List A) (pairs : List (T × ℕ)) → AllZip Goes items pairs → sum_by (λ p. p.1) pairs ≡ length items
-  sum_went_once [] [] h = refl
-  sum_went_once [] (p ∷ pairs) h = absurd h
-  sum_went_once (x ∷ items) [] h = absurd h
-  sum_went_once (x ∷ items) (p ∷ pairs) h =
-      let first = says x p h.0 in
-      let later = sum_went_once items pairs h.1 in
-      let sum = sum_by-cons (λ (p : T × ℕ). p.1) p pairs in
-      omega arith
+  sum_went_once items pairs h = sum_went Goes (λ x. 1) says items pairs h ∙ ones items
+    where
+      ones : (xs : List A) → sum_by (λ x. 1) xs ≡ length xs
+      ones [] = refl
+      ones (x ∷ xs) = let sum = sum_by-cons (λ (y : A). 1) x xs in let later = ones xs in omega arith
 
 module _ {T : Type 0} {eq : T → T → Bool} (laws : IsEquivalence eq) where
   pub add_all_last : (X : List T) (pairs : List (T × ℕ)) (p : T × ℕ) → add_all eq X (pairs ++ p ∷ []) ≡ add eq p.0 p.1 (add_all eq X pairs)

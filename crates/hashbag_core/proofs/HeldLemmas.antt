@@ -6,14 +6,14 @@ use Rattle.std.proofs.lemmas.List.{nil_from_length, length-replicate}
 use Rattle.hashbag_slots.specs.declared.slots.Slot.{Slot}
 use Rattle.hashbag_slots.specs.declared.slots.Slot.TheVariants.{Empty, Removed}
 use Rattle.hashbag_slots.specs.Slots.{recounted, live_count}
-use Rattle.hashbag_table.specs.Table.{Table}
+use Rattle.hashbag_table.specs.Table.{Table, IsMapOf}
 use Rattle.hashbag_table.specs.Entries.{entry_of, IsCounted}
 use Rattle.hashbag_table.specs.Tables.{Tables, most_used, room, entries_of, IsLeast, IsPacked, KeepsRoom, Writes, Rewrites, slot_in}
 use Rattle.hashbag_table.proofs.CarryLemmas.{live_fresh, live_empty, removed_empty}
-use Rattle.hashbag_core.specs.Bag.{Bag, occurrences}
+use Rattle.hashbag_core.specs.Bag.{Bag, occurrences, IsBagOf, IsTallied}
 use Rattle.hashbag_core.specs.Occurrences.{count}
 use Rattle.hashbag_core.specs.Held.{no_slots, cleared, left_in, AreHeld}
-use Rattle.hashbag_core.proofs.OccurrenceLemmas.{count_occurrences, absent_from_count, present_from_count}
+use Rattle.hashbag_core.proofs.OccurrenceLemmas.{bag_from_tally, count_occurrences, count_of_entry, absent_from_count, occurrences_rearranged, present_from_count, tally_rearranged}
 use Rattle.hashbag_core.proofs.WalkLemmas.{length_occurrences, length_le_total}
 
 -- what a bag with a limit shows of its table
@@ -93,6 +93,9 @@ module _ {T : Type 0} {eq : T → T → Bool} (laws : IsEquivalence eq) where
   pub absent_in_table : (v : T) (es : List (T × ℕ)) → IsCounted eq es → count eq v (occurrences es) ≡ 0 → entry_of eq v es ≡ None
   absent_in_table v es counted none = absent_from_count laws v es counted (sym (count_occurrences laws v es counted.distinct) ∙ none)
 
+  pub absent_from_table : (v : T) (es : List (T × ℕ)) → IsCounted eq es → entry_of eq v es ≡ None → count eq v (occurrences es) ≡ 0
+  absent_from_table v es counted none = count_occurrences laws v es counted.distinct ∙ count_of_entry laws v es None (sym none)
+
   pub present_in_table : (v : T) (es : List (T × ℕ)) → IsCounted eq es → 0 < count eq v (occurrences es) → IsSome (entry_of eq v es)
   present_in_table v es counted some =
       let same = count_occurrences laws v es counted.distinct in
@@ -104,3 +107,13 @@ module _ {T : Type 0} {eq : T → T → Bool} (laws : IsEquivalence eq) where
       let few = length_le_total es counted.positive in
       let zero_long : length (occurrences es) ≡ 0 = ap (λ (X : List T). length X) none in
       nil_from_length es (omega (arith, long, few, zero_long))
+
+-- the entries of a bag's table in another order: the bag means what it did
+pub items_stay : {T S : Type 0} {eq : T → T → Bool} (laws : IsEquivalence eq) {most : ℕ} (total : ℕ) (old new : Table T S) → IsTallied eq old.entries total most → IsMapOf eq old old.entries new
+    → IsBagOf eq (shown most old) (occurrences old.entries) (shown most new)
+items_stay laws total old new was same = record {
+  means = occurrences_rearranged _ _ same.means;
+  hasher = same.hasher;
+  limit = refl;
+  bag = bag_from_tally laws _ _ (tally_rearranged laws _ _ total was same.counted same.means);
+}

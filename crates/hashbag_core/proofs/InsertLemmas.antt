@@ -131,9 +131,7 @@ module _ {T S : Type 0} (eq : T → T → Bool) where
   -- so there were at least as many items before it
   pub refused_after_room : (pairs : List (T × ℕ)) (before after : Bag T S) (v : T) (n : ℕ) → InTurn eq pairs before after → IsRefused eq after v n Memory → room before.tables ≤ length pairs
   refused_after_room pairs before after v n h declined =
-      let past = refused_past_room pairs before after v n h declined in
-      let few = few_in_turn pairs before after h in
-      omega (arith, past, few)
+      omega (arith, few_in_turn pairs before after h, refused_past_room pairs before after v n h declined)
 
 module _ {T S : Type 0} {eq : T → T → Bool} (laws : IsEquivalence eq) where
   -- 0 of a value
@@ -219,6 +217,33 @@ module _ {T S : Type 0} {eq : T → T → Bool} (laws : IsEquivalence eq) where
   pub clone_refused : (is_clone : T → T → Type 0) (is_infallible : T → Type 0) (bag : Bag T S) (v x : T) (n : ℕ) (e : BagError) → is_clone v x → IsRefused eq bag x n e → IsCloneRefused eq is_clone is_infallible bag v n e
   clone_refused is_clone is_infallible bag v x n e clone declined = record { why = refuses_clones laws bag.most bag.items x n e declined.why; memory = λ _. inr (x, clone, declined) }
 
+  -- ---- an `extend` by a known list
+
+  -- an insertion of one fails only where the limit is reached, or for memory
+  declined_once : (bag : Bag T S) (v : T) (e : BagError) → Refuses eq bag.most bag.items v 1 e → length bag.items + 1 ≤ bag.most → e ≡ Memory
+  declined_once bag v TooMany over fits = absurd (omega (arith, over, fits))
+  declined_once bag v Memory asks fits = refl
+  declined_once bag v BelowTotal never fits = absurd never
+
+  -- an `extend` by a known list doesn't fail, with room for its length and within the limit
+  pub none_refused : {I B : Type 0} {steps : I → Option T → I → Type 0} {view : T → B} {it : I} {all : List B} {before after : Bag T S} {e : BagError}
+      → InsertsUpTo eq steps Once (RefusesOne eq) it before after e → YieldsList steps view it all → length all ≤ room before.tables → length before.items + length all ≤ before.most → ⊥
+  none_refused {all = all} {before = before} {after = after} {e = e} h yields enough fits =
+      let fewer : length h.items < length all = (YieldsList-turn yields h.items h.came.0 h.came.1 (Some h.refused) h.rest h.refused refl h.came.2).0 in
+      let as_many = AllZip-long Once h.items h.pairs h.went in
+      let long = length_in_turn eq h.pairs before after h.turn in
+      let numbers = sum_went_once Once (λ x p is. ap (λ (q : T × ℕ). q.1) is) h.items h.pairs h.went in
+      let limit = (some_added h).limit in
+      let memory = declined_once after h.refused e h.why.why (omega (arith, long, numbers, fewer, fits, limit)) in
+      let late = refused_after_room eq h.pairs before after h.refused 1 h.turn (subst (λ (x : BagError). IsRefused eq after h.refused 1 x) memory h.why) in
+      omega (arith, late, as_many, fewer, enough)
+
+  -- so such an `extend` succeeds
+  pub takes_all : {I A B : Type 0} {steps : I → Option T → I → Type 0} {view : T → B} {it : I} {all : List B} → (before after : Bag T S) (r : Result A BagError)
+      → IfErr r (InsertsUpTo eq steps Once (RefusesOne eq) it before after) → YieldsList steps view it all → length all ≤ room before.tables → length before.items + length all ≤ before.most → IsOk r
+  takes_all before after (Ok a) h yields enough fits = refl
+  takes_all before after (Err e) h yields enough fits = absurd (none_refused h yields enough fits)
+
 -- ---- while a loop runs
 
 module _ {T S A : Type 0} (eq : T → T → Bool) (Goes : A → T × ℕ → Type 0) where
@@ -263,48 +288,19 @@ module _ {T S A : Type 0} (eq : T → T → Bool) (Goes : A → T × ℕ → Typ
 -- ---- for callers of the extends
 
 module _ {T S I A : Type 0} {eq : T → T → Bool} {steps : I → Option A → I → Type 0} {Goes : A → T × ℕ → Type 0} {it : I} {before after : Bag T S} (h : InsertsAll eq steps Goes it before after) where
+  longer : (n : ℕ) → sum_by (λ p. p.1) h.pairs ≡ n → length after.items ≡ length before.items + n
+  longer n numbers = length_in_turn eq h.pairs before after h.turn ∙ ap (λ (k : ℕ). length before.items + k) numbers
+
   -- of `all`, if each item is inserted once: the bag is longer by their number
   pub longer_by_items : ((x : A) (p : T × ℕ) → Goes x p → p.1 ≡ 1) → length after.items ≡ length before.items + length h.items
-  longer_by_items says =
-      let long = length_in_turn eq h.pairs before after h.turn in
-      let numbers = sum_went_once Goes says h.items h.pairs h.went in
-      omega (arith, long, numbers)
+  longer_by_items says = longer _ (sum_went_once Goes says h.items h.pairs h.went)
 
   -- of `all`: the bag is longer by the sum of the numbers
   pub longer_by_numbers : (number : A → ℕ) → ((x : A) (p : T × ℕ) → Goes x p → p.1 ≡ number x) → length after.items ≡ length before.items + sum_by number h.items
-  longer_by_numbers number says =
-      let long = length_in_turn eq h.pairs before after h.turn in
-      let numbers = sum_went Goes number says h.items h.pairs h.went in
-      omega (arith, long, numbers)
+  longer_by_numbers number says = longer _ (sum_went Goes number says h.items h.pairs h.went)
 
   -- of `all`, with room for as many values as items: there are as many slots, and no table is built
   pub stays_within : length h.items ≤ room before.tables → StaysWithin eq before after
   stays_within enough =
       let as_many = AllZip-long Goes h.items h.pairs h.went in
       stays_in_turn eq h.pairs before after h.turn (omega (arith, as_many, enough))
-
-module _ {T S : Type 0} {eq : T → T → Bool} (laws : IsEquivalence eq) where
-  -- once is refused only where the limit is reached, or for memory
-  declined_once : (bag : Bag T S) (v : T) (e : BagError) → Refuses eq bag.most bag.items v 1 e → length bag.items + 1 ≤ bag.most → e ≡ Memory
-  declined_once bag v TooMany over fits = absurd (omega (arith, over, fits))
-  declined_once bag v Memory asks fits = refl
-  declined_once bag v BelowTotal never fits = absurd never
-
-  -- an `extend` by a known list doesn't fail, with room for its length and within the limit
-  pub none_refused : {I B : Type 0} {steps : I → Option T → I → Type 0} {view : T → B} {it : I} {all : List B} {before after : Bag T S} {e : BagError}
-      → InsertsUpTo eq steps Once (RefusesOne eq) it before after e → YieldsList steps view it all → length all ≤ room before.tables → length before.items + length all ≤ before.most → ⊥
-  none_refused {all = all} {before = before} {after = after} {e = e} h yields enough fits =
-      let fewer : length h.items < length all = (YieldsList-turn yields h.items h.came.0 h.came.1 (Some h.refused) h.rest h.refused refl h.came.2).0 in
-      let as_many = AllZip-long Once h.items h.pairs h.went in
-      let long = length_in_turn eq h.pairs before after h.turn in
-      let numbers = sum_went_once Once (λ x p is. ap (λ (q : T × ℕ). q.1) is) h.items h.pairs h.went in
-      let limit = (some_added laws h).limit in
-      let memory = declined_once after h.refused e h.why.why (omega (arith, long, numbers, fewer, fits, limit)) in
-      let late = refused_after_room eq h.pairs before after h.refused 1 h.turn (subst (λ (x : BagError). IsRefused eq after h.refused 1 x) memory h.why) in
-      omega (arith, late, as_many, fewer, enough)
-
-  -- so such an `extend` succeeds
-  pub takes_all : {I A B : Type 0} {steps : I → Option T → I → Type 0} {view : T → B} {it : I} {all : List B} → (before after : Bag T S) (r : Result A BagError)
-      → IfErr r (InsertsUpTo eq steps Once (RefusesOne eq) it before after) → YieldsList steps view it all → length all ≤ room before.tables → length before.items + length all ≤ before.most → IsOk r
-  takes_all before after (Ok a) h yields enough fits = refl
-  takes_all before after (Err e) h yields enough fits = absurd (none_refused h yields enough fits)

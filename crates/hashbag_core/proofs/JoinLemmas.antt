@@ -20,6 +20,12 @@ use Rattle.hashbag_core.proofs.MemberLemmas.{map_ext, map-map}
 use Rattle.hashbag_core.proofs.OccurrenceLemmas.{count_rearranged}
 use Rattle.hashbag_core.proofs.WalkLemmas.{each_rearranged}
 
+abbrev excess_of : {T : Type 0} → (T → T → Bool) → List T → T × ℕ → T × ℕ
+excess_of eq Y e = (e.0, e.1 - count eq e.0 Y)
+
+abbrev counted_in : {T : Type 0} → (T → T → Bool) → List T → List T → T → T × ℕ × ℕ
+counted_in eq X Y v = (v, count eq v X, count eq v Y)
+
 module _ {T : Type 0} {eq : T → T → Bool} (laws : IsEquivalence eq) where
   -- ---- whatever the order of the lists
 
@@ -97,7 +103,7 @@ module _ {T : Type 0} {eq : T → T → Bool} (laws : IsEquivalence eq) where
 
   pub difference_from_walk : (X Y : List T) (W : List (T × ℕ)) → IsSetWalk eq X W → IsDifference eq X Y (excesses eq Y W)
   difference_from_walk X Y W h =
-      let excess : T × ℕ → T × ℕ = λ e. (e.0, e.1 - count eq e.0 Y) in
+      let excess = excess_of eq Y in
       let keys : keys_of (map excess W) ≡ h.values = map-map excess (λ e. e.0) W ∙ keys_of_walk X W h in
       record {
         once = IsDistinct-keys_filter eq (λ e. nat_lt 0 e.1) (map excess W) (subst (λ (l : List T). IsDistinct eq l) (sym keys) h.each.once);
@@ -127,7 +133,7 @@ module _ {T : Type 0} {eq : T → T → Bool} (laws : IsEquivalence eq) where
 
   pub outer_from_walks : (X Y : List T) (W M : List (T × ℕ)) → IsSetWalk eq X W → IsNotIn eq Y X M → IsOuterJoin eq X Y (with_second eq Y W ++ with_no_first M)
   outer_from_walks X Y W M walk rest =
-      let both : T → T × ℕ × ℕ = λ v. (v, count eq v X, count eq v Y) in
+      let both = counted_in eq X Y in
       let front : with_second eq Y W ≡ map both walk.values = ap (with_second eq Y) walk.counts ∙ map-map (λ v. (v, count eq v X)) (λ e. (e.0, e.1, count eq e.0 Y)) walk.values in
       let places : All (λ e. (e.0, 0, e.1) ≡ both e.0) M = All-from_Contains (λ e. (e.0, 0, e.1) ≡ both e.0) M (λ e c. let f = (rest.exactly e.0 e.1).0 c in λ i. (e.0, sym f.3 i, f.1 i)) in
       let back : with_no_first M ≡ map both (keys_of M) = map_ext (λ e. (e.0, 0, e.1)) (λ e. both e.0) M places ∙ sym (map-map (λ (e : T × ℕ). e.0) both M) in
@@ -142,7 +148,7 @@ module _ {T : Type 0} {eq : T → T → Bool} (laws : IsEquivalence eq) where
   -- no value has the count 0 in both lists
   pub outer_none_zero : (X Y : List T) (J : List (T × ℕ × ℕ)) → IsOuterJoin eq X Y J → All (λ j. 0 < j.1 + j.2) J
   outer_none_zero X Y J h =
-      let both : T → T × ℕ × ℕ = λ v. (v, count eq v X, count eq v Y) in
+      let both = counted_in eq X Y in
       let in_first = All-weaker (λ v. Contains X v) (λ v. 0 < count eq v X + count eq v Y) (λ v c. let some = count_of_item v X c in omega arith) h.first h.of_first.only in
       let in_second = All-weaker (λ v. Contains (alone eq X Y) v) (λ v. 0 < count eq v X + count eq v Y) (λ v c. let some = count_of_item v Y (Contains-filter_back (λ y. count eq y X == 0) v Y c).0 in omega arith) h.second h.of_second.only in
       let all = All-append (λ v. 0 < count eq v X + count eq v Y) h.first h.second in_first in_second in
@@ -155,7 +161,7 @@ module _ {T : Type 0} {eq : T → T → Bool} (laws : IsEquivalence eq) where
 module _ {T : Type 0} (eq : T → T → Bool) (Y : List T) where
   pub length_excesses : (es : List (T × ℕ)) → length (excesses eq Y es) ≤ length es
   length_excesses es =
-      let excess : T × ℕ → T × ℕ = λ e. (e.0, e.1 - count eq e.0 Y) in
+      let excess = excess_of eq Y in
       let kept = length-filter (λ (e : T × ℕ). nat_lt 0 e.1) (map excess es) in
       let few = count_by-le-length (λ (e : T × ℕ). nat_lt 0 e.1) (map excess es) in
       let long = length-map es excess in

@@ -16,7 +16,7 @@ use Rattle.hashbag_core.specs.declared.json.JsonError.{JsonError}
 use Rattle.hashbag_core.specs.declared.json.JsonError.TheVariants.{BadItem, TooMany}
 use Rattle.hashbag_core.specs.Bag.{Bag}
 use Rattle.hashbag_core.specs.Inserts.{Inserts, InTurn}
-use Rattle.hashbag_core.specs.JsonFaults.{list_of, array_of, two_of, pair_of, pair_count, part_fault, pair_fault, first_fault, IsCountedItem, MayEndAmong}
+use Rattle.hashbag_core.specs.JsonFaults.{list_of, array_of, two_of, pair_of, pair_count, part_fault, pair_fault, first_fault, IsCountedItem, MayRunOutAmong}
 use Rattle.hashbag_core.specs.JsonItems.{u64_of}
 use Rattle.hashbag_core.specs.JsonTrees.{IsPair}
 use Rattle.hashbag_core.specs.Occurrences.{add, IsBag}
@@ -122,14 +122,14 @@ module _ {T S : Type 0} {eq : T → T → Bool} (laws : IsEquivalence eq) (end :
   fault_at ds rest d i now e so bad = whole_fault ds (d ∷ rest) i now so ∙ at_pair laws end has_item reads d rest i (length now.items) e bad
 
   -- memory may have ended it there
-  pub may_end_at : (ds rest : List Data) (d : Data) (i : ℕ) (now : Bag T S) → IsReadTo ds (d ∷ rest) i now → IsCountedItem has_item d → MayEndAmong end has_item ds
-  may_end_at ds rest d i now so asks = record {
+  pub may_run_out_at : (ds rest : List Data) (d : Data) (i : ℕ) (now : Bag T S) → IsReadTo ds (d ∷ rest) i now → IsCountedItem has_item d → MayRunOutAmong end has_item ds
+  may_run_out_at ds rest d i now so allocates = record {
     before = so.done;
     pair = d;
     after = rest;
     parts = so.parts;
     good = ap (λ (l : List Data). first_fault end has_item 0 0 l) (sym (append-nil so.done)) ∙ so.fault [] ∙ none_left laws end has_item reads i (length now.items);
-    asks = asks;
+    allocates = allocates;
   }
 
   pub no_fault_at_end : (ds : List Data) (i : ℕ) (now : Bag T S) → IsReadTo ds [] i now → first_fault end has_item 0 0 ds ≡ None

@@ -104,6 +104,12 @@ module _ {T : Type 0} {eq : T → T → Bool} (laws : IsEquivalence eq) where
   first_copy zero x h = absurd (omega arith)
   first_copy (suc c) x h = refl
 
+  -- an entry that is found is found with its number, which isn't 0
+  found_some : (v : T) (es : List (T × ℕ)) (e : T × ℕ) → IsCounted eq es → lookup_entry (eq v) es ≡ Some e → (lookup (eq v) es ≡ Some e.1) × (0 < e.1)
+  found_some v es e counted p =
+      let found : lookup (eq v) es ≡ Some e.1 = lookup-entry (eq v) es ∙ ap (option_map (λ (e : T × ℕ). e.1)) p in
+      (found, subst (λ (o : Option ℕ). IfSome o (λ n. 0 < n)) found (IfSome-lookup_from_All (λ n. 0 < n) (eq v) es counted.positive))
+
   -- the instance in the list is the one that the map stores
   pub instance_occurrences : (v : T) (es : List (T × ℕ)) → IsCounted eq es → instance eq v (occurrences es) ≡ lookup_key (eq v) es
   instance_occurrences v es counted = find-filter (eq v) (occurrences es) ∙ ap (λ (l : List T). slice_get l 0) (alike_occurrences v es counted.distinct) ∙ first (lookup_entry (eq v) es) refl
@@ -113,10 +119,9 @@ module _ {T : Type 0} {eq : T → T → Bool} (laws : IsEquivalence eq) where
           let none : count_of eq v es ≡ 0 = ap (λ (o : Option ℕ). unwrap_or o 0) (lookup-entry (eq v) es ∙ ap (option_map (λ (e : T × ℕ). e.1)) p) in
           ap (λ (n : ℕ). slice_get (replicate n (stored_or_itself eq v es)) 0) none ∙ sym (lookup_key-entry (eq v) es ∙ ap (option_map (λ (e : T × ℕ). e.0)) p)
       first (Some e) p =
-          let found : lookup (eq v) es ≡ Some e.1 = lookup-entry (eq v) es ∙ ap (option_map (λ (e : T × ℕ). e.1)) p in
+          let found = found_some v es e counted p in
           let key : lookup_key (eq v) es ≡ Some e.0 = lookup_key-entry (eq v) es ∙ ap (option_map (λ (e : T × ℕ). e.0)) p in
-          let some : 0 < e.1 = subst (λ (o : Option ℕ). IfSome o (λ n. 0 < n)) found (IfSome-lookup_from_All (λ n. 0 < n) (eq v) es counted.positive) in
-          ap (λ (o : Option ℕ). slice_get (replicate (unwrap_or o 0) (stored_or_itself eq v es)) 0) found ∙ first_copy e.1 _ some ∙ ap (λ (o : Option T). Some (unwrap_or o v)) key ∙ sym key
+          ap (λ (o : Option ℕ). slice_get (replicate (unwrap_or o 0) (stored_or_itself eq v es)) 0) found.0 ∙ first_copy e.1 _ found.1 ∙ ap (λ (o : Option T). Some (unwrap_or o v)) key ∙ sym key
 
   -- a map's occurrences are those of v and those of the map without v
   occurrences_parts : (v : T) (es : List (T × ℕ)) → IsCounted eq es → IsPermutation (occurrences es) (replicate (count_of eq v es) (stored_or_itself eq v es) ++ occurrences (without eq v es))
@@ -138,6 +143,12 @@ module _ {T : Type 0} {eq : T → T → Bool} (laws : IsEquivalence eq) where
       (IsPermutation-trans _ _ _ (IsPermutation-append_comm (replicate c i ++ rest) (replicate n i))
       (IsPermutation-trans _ _ _ (IsPermutation-same _ _ front) (IsPermutation-flat_map (λ (e : T × ℕ). replicate e.1 e.0) _ _ h))))
 
+  -- what is the entries but for v and n of w behind them, is that with n of w before them
+  behind : (v w : T) (n : ℕ) (es fs : List (T × ℕ)) (X : List T) → X ≡ occurrences (without eq v es) ++ replicate n w → IsPermutation ((w, n) ∷ without eq v es) fs → IsPermutation X (occurrences fs)
+  behind v w n es fs X is h =
+      IsPermutation-trans _ _ _ (IsPermutation-same _ _ is)
+      (IsPermutation-trans _ _ _ (IsPermutation-append_comm (occurrences (without eq v es)) (replicate n w)) (occurrences_rearranged _ _ h))
+
   less_is : (v : T) (n : ℕ) (es : List (T × ℕ)) → IsCounted eq es → less eq v n (occurrences es) ≡ occurrences (without eq v es) ++ replicate (count_of eq v es - n) (stored_or_itself eq v es)
   less_is v n es counted =
       ap (λ (l : List T). l ++ drop n (alike eq v (occurrences es))) (others_occurrences v es counted.distinct)
@@ -145,10 +156,7 @@ module _ {T : Type 0} {eq : T → T → Bool} (laws : IsEquivalence eq) where
 
   -- where some of v are left
   pub less_occurrences : (v : T) (n : ℕ) (es fs : List (T × ℕ)) → IsCounted eq es → IsPermutation (with_count eq v (count_of eq v es - n) es) fs → IsPermutation (less eq v n (occurrences es)) (occurrences fs)
-  less_occurrences v n es fs counted h =
-      IsPermutation-trans _ _ _ (IsPermutation-same _ _ (less_is v n es counted))
-      (IsPermutation-trans _ _ _ (IsPermutation-append_comm (occurrences (without eq v es)) (replicate (count_of eq v es - n) (stored_or_itself eq v es)))
-      (IsPermutation-flat_map (λ (e : T × ℕ). replicate e.1 e.0) _ _ h))
+  less_occurrences v n es fs counted h = behind v (stored_or_itself eq v es) (count_of eq v es - n) es fs _ (less_is v n es counted) h
 
   -- where none is left
   pub less_all_occurrences : (v : T) (n : ℕ) (es fs : List (T × ℕ)) → IsCounted eq es → count_of eq v es ≤ n → IsPermutation (without eq v es) fs → IsPermutation (less eq v n (occurrences es)) (occurrences fs)
@@ -167,10 +175,7 @@ module _ {T : Type 0} {eq : T → T → Bool} (laws : IsEquivalence eq) where
 
   -- n of v in the place of all that are equal to it
   pub put_occurrences : (v : T) (n : ℕ) (es fs : List (T × ℕ)) → IsCounted eq es → IsPermutation ((v, n) ∷ without eq v es) fs → IsPermutation (put eq v n (occurrences es)) (occurrences fs)
-  put_occurrences v n es fs counted h =
-      IsPermutation-trans _ _ _ (IsPermutation-same _ _ (ap (λ (l : List T). l ++ replicate n v) (others_occurrences v es counted.distinct)))
-      (IsPermutation-trans _ _ _ (IsPermutation-append_comm (occurrences (without eq v es)) (replicate n v))
-      (IsPermutation-flat_map (λ (e : T × ℕ). replicate e.1 e.0) _ _ h))
+  put_occurrences v n es fs counted h = behind v v n es fs _ (ap (λ (l : List T). l ++ replicate n v) (others_occurrences v es counted.distinct)) h
 
   pub all_occurrences : (P : T → Type 0) (es : List (T × ℕ)) → AllByRecursion P (keys_of es) → All P (occurrences es)
   all_occurrences P [] h = All-nil P
@@ -230,12 +235,15 @@ module _ {T : Type 0} {eq : T → T → Bool} (laws : IsEquivalence eq) where
   pub none_found : (v : T) (X : List T) → count eq v X ≡ 0 → instance eq v X ≡ None
   none_found v X none = find-filter (eq v) X ∙ ap (λ (l : List T). slice_get l 0) (nil_from_length (alike eq v X) (length-filter (eq v) X ∙ none))
 
+  -- then all are others
+  all_others : (v : T) (X : List T) → count eq v X ≡ 0 → (alike eq v X ≡ []) × IsPermutation X (others eq v X)
+  all_others v X none =
+      let empty : alike eq v X ≡ [] = nil_from_length (alike eq v X) (length-filter (eq v) X ∙ none) in
+      (empty, subst (λ (l : List T). IsPermutation X (l ++ others eq v X)) empty (IsPermutation-filter_both (eq v) (λ x. not (eq v x)) (λ x. refl) X))
+
   pub put_absent : (v : T) (n : ℕ) (X : List T) → count eq v X ≡ 0 → IsPermutation (put eq v n X) (add eq v n X)
   put_absent v n X none =
-      let empty : alike eq v X ≡ [] = nil_from_length (alike eq v X) (length-filter (eq v) X ∙ none) in
-      let split = IsPermutation-filter_both (eq v) (λ x. not (eq v x)) (λ x. refl) X in
-      let left : IsPermutation X (others eq v X) = subst (λ (l : List T). IsPermutation X (l ++ others eq v X)) empty split in
-      subst (λ (o : Option T). IsPermutation (put eq v n X) (X ++ replicate n (unwrap_or o v))) (sym (none_found v X none)) (IsPermutation-append_left _ _ _ (IsPermutation-sym _ _ left))
+      subst (λ (o : Option T). IsPermutation (put eq v n X) (X ++ replicate n (unwrap_or o v))) (sym (none_found v X none)) (IsPermutation-append_left _ _ _ (IsPermutation-sym _ _ (all_others v X none).1))
 
   pub recount_absent : (v : T) (n : ℕ) (X : List T) → count eq v X ≡ 0 → IsPermutation (recount eq v n X) (add eq v n X)
   recount_absent v n X none = subst (λ (o : Option T). IsPermutation (put eq (unwrap_or o v) n X) (add eq v n X)) (sym (none_found v X none)) (put_absent v n X none)
@@ -247,9 +255,9 @@ module _ {T : Type 0} {eq : T → T → Bool} (laws : IsEquivalence eq) where
       by_entry : (o : Option (T × ℕ)) → lookup_entry (eq v) es ≡ o → o ≡ None
       by_entry None p = refl
       by_entry (Some e) p =
-          let found : lookup (eq v) es ≡ Some e.1 = lookup-entry (eq v) es ∙ ap (option_map (λ (e : T × ℕ). e.1)) p in
-          let some : 0 < e.1 = subst (λ (o : Option ℕ). IfSome o (λ n. 0 < n)) found (IfSome-lookup_from_All (λ n. 0 < n) (eq v) es counted.positive) in
-          let number : count_of eq v es ≡ e.1 = ap (λ (o : Option ℕ). unwrap_or o 0) found in
+          let found = found_some v es e counted p in
+          let some = found.1 in
+          let number : count_of eq v es ≡ e.1 = ap (λ (o : Option ℕ). unwrap_or o 0) found.0 in
           absurd (omega arith)
 
   -- n of a value that was absent
@@ -260,11 +268,9 @@ module _ {T : Type 0} {eq : T → T → Bool} (laws : IsEquivalence eq) where
   -- what is absent can't be taken
   pub less_absent : (v : T) (n : ℕ) (X : List T) → count eq v X ≡ 0 → IsPermutation (less eq v n X) X
   less_absent v n X none =
-      let empty : alike eq v X ≡ [] = nil_from_length (alike eq v X) (length-filter (eq v) X ∙ none) in
-      let split = IsPermutation-filter_both (eq v) (λ x. not (eq v x)) (λ x. refl) X in
-      let left : IsPermutation X (others eq v X) = subst (λ (l : List T). IsPermutation X (l ++ others eq v X)) empty split in
-      let same : less eq v n X ≡ others eq v X = ap (λ (l : List T). others eq v X ++ drop n l) empty ∙ ap (λ (l : List T). others eq v X ++ l) (drop_all n [] (omega arith)) ∙ append-nil _ in
-      subst (λ (l : List T). IsPermutation l X) (sym same) (IsPermutation-sym _ _ left)
+      let all = all_others v X none in
+      let same : less eq v n X ≡ others eq v X = ap (λ (l : List T). others eq v X ++ drop n l) all.0 ∙ ap (λ (l : List T). others eq v X ++ l) (drop_all n [] (omega arith)) ∙ append-nil _ in
+      subst (λ (l : List T). IsPermutation l X) (sym same) (IsPermutation-sym _ _ all.1)
 
   pub bag_from_tally : {most : ℕ} → (es : List (T × ℕ)) (total : ℕ) → IsTallied eq es total most → IsBag eq most (occurrences es)
   bag_from_tally es total tally = bag_occurrences es tally.counted (let same = tally.sum in let fits = tally.fits in omega arith)
@@ -281,11 +287,28 @@ module _ {T : Type 0} {eq : T → T → Bool} (laws : IsEquivalence eq) where
     counted = counted;
   }
 
+  -- the total is the count of a value and the others
+  tally_split : {most : ℕ} → (v : T) (es : List (T × ℕ)) (total : ℕ) → IsTallied eq es total most → total ≡ count_of eq v es + length (others eq v (occurrences es))
+  tally_split v es total tally =
+      let whole = length_split v (occurrences es) in
+      let alike_count = length-filter (eq v) (occurrences es) in
+      let same = count_occurrences v es tally.counted.distinct in
+      let sum = tally.sum in
+      omega arith
+
+  -- n others in the place of all that are equal to v, in the map and in the total
+  tally_others : {most : ℕ} → (v : T) (n : ℕ) (es fs : List (T × ℕ)) (total : ℕ) → IsTallied eq es total most → IsCounted eq fs → total - count_of eq v es + n ≤ most → length (occurrences fs) ≡ length (others eq v (occurrences es)) + n → IsTallied eq fs (total - count_of eq v es + n) most
+  tally_others v n es fs total tally counted fits parts = record {
+    sum = let split = tally_split v es total tally in omega arith;
+    fits = fits;
+    limit = tally.limit;
+    counted = counted;
+  }
+
   -- n fewer in the map and in the total, or as many as there are
   pub tally_less : {most : ℕ} → (v : T) (n taken : ℕ) (es fs : List (T × ℕ)) (total : ℕ) → IsTallied eq es total most → taken ≡ min n (count_of eq v es) → IsCounted eq fs → IsPermutation (less eq v n (occurrences es)) (occurrences fs) → IsTallied eq fs (total - taken) most
   tally_less v n taken es fs total tally number counted h =
-      let same = count_occurrences v es tally.counted.distinct in
-      let fewer = length_less v n (occurrences es) (occurrences fs) h in
+      let fewer = rw (count_occurrences v es tally.counted.distinct) at (length_less v n (occurrences es) (occurrences fs) h) in
       let was = tally.sum in
       let fits = tally.fits in
       record { sum = omega arith; fits = omega arith; limit = tally.limit; counted = counted }
@@ -312,9 +335,7 @@ module _ {T : Type 0} {eq : T → T → Bool} (laws : IsEquivalence eq) where
 
   pub set_occurrences : (v : T) (n : ℕ) (es fs : List (T × ℕ)) → IsCounted eq es → 0 < count_of eq v es → IsPermutation (with_count eq v n es) fs → IsPermutation (put eq (instance_or_itself eq v (occurrences es)) n (occurrences es)) (occurrences fs)
   set_occurrences v n es fs counted some h =
-      IsPermutation-trans _ _ _ (IsPermutation-same _ _ (set_is v n es counted some))
-      (IsPermutation-trans _ _ _ (IsPermutation-append_comm (occurrences (without eq v es)) (replicate n (stored_or_itself eq v es)))
-      (occurrences_rearranged _ _ h))
+      behind v (stored_or_itself eq v es) n es fs _ (set_is v n es counted some) h
 
   pub set_none_occurrences : (v : T) (n : ℕ) (es fs : List (T × ℕ)) → IsCounted eq es → 0 < count_of eq v es → n ≡ 0 → IsPermutation (without eq v es) fs → IsPermutation (put eq (instance_or_itself eq v (occurrences es)) n (occurrences es)) (occurrences fs)
   set_none_occurrences v n es fs counted some none h =
@@ -325,26 +346,18 @@ module _ {T : Type 0} {eq : T → T → Bool} (laws : IsEquivalence eq) where
   pub tally_set : {most : ℕ} → (v : T) (n : ℕ) (es fs : List (T × ℕ)) (total : ℕ) → IsTallied eq es total most → IsCounted eq fs → 0 < count_of eq v es → total - count_of eq v es + n ≤ most → IsPermutation (put eq (instance_or_itself eq v (occurrences es)) n (occurrences es)) (occurrences fs) → IsTallied eq fs (total - count_of eq v es + n) most
   tally_set v n es fs total tally counted some fits h =
       let i = stored_or_itself eq v es in
-      let same = count_occurrences v es tally.counted.distinct in
-      let whole = length_split v (occurrences es) in
-      let alike_count = length-filter (eq v) (occurrences es) in
       let rest : length (others eq v (occurrences es)) ≡ length (occurrences (without eq v es)) = ap (λ (l : List T). length l) (others_occurrences v es tally.counted.distinct) in
       let copies = length-replicate n i in
       let parts : length (occurrences fs) ≡ length (occurrences (without eq v es)) + length (replicate n i) =
       length_permutation _ _ h ∙ ap (λ (l : List T). length l) (set_is v n es tally.counted some) ∙ length-append (occurrences (without eq v es)) (replicate n i) in
-      let was = tally.sum in
-      record { sum = omega arith; fits = fits; limit = tally.limit; counted = counted }
+      tally_others v n es fs total tally counted fits (omega arith)
 
   -- n of v in the place of all that are equal to it, in the map and in the total
   pub tally_put : {most : ℕ} → (v : T) (n : ℕ) (es fs : List (T × ℕ)) (total : ℕ) → IsTallied eq es total most → IsCounted eq fs → total - count_of eq v es + n ≤ most → IsPermutation (put eq v n (occurrences es)) (occurrences fs) → IsTallied eq fs (total - count_of eq v es + n) most
   tally_put v n es fs total tally counted fits h =
-      let same = count_occurrences v es tally.counted.distinct in
-      let whole = length_split v (occurrences es) in
-      let alike_count = length-filter (eq v) (occurrences es) in
       let copies = length-replicate n v in
       let parts : length (occurrences fs) ≡ length (others eq v (occurrences es)) + length (replicate n v) = length_permutation _ _ h ∙ length-append (others eq v (occurrences es)) (replicate n v) in
-      let was = tally.sum in
-      record { sum = omega arith; fits = fits; limit = tally.limit; counted = counted }
+      tally_others v n es fs total tally counted fits (omega arith)
 
   -- the same entries in another order
   pub tally_rearranged : {most : ℕ} → (es fs : List (T × ℕ)) (total : ℕ) → IsTallied eq es total most → IsCounted eq fs → IsPermutation es fs → IsTallied eq fs total most
@@ -362,8 +375,4 @@ module _ {T : Type 0} {eq : T → T → Bool} (laws : IsEquivalence eq) where
 
   -- a count is at most the total
   pub count_in_tally : {most : ℕ} → (v : T) (es : List (T × ℕ)) (total : ℕ) → IsTallied eq es total most → count_of eq v es ≤ total
-  count_in_tally v es total tally =
-      let same = count_occurrences v es tally.counted.distinct in
-      let few = count_le v (occurrences es) in
-      let sum = tally.sum in
-      omega arith
+  count_in_tally v es total tally = let split = tally_split v es total tally in omega arith

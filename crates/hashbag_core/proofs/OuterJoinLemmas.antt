@@ -38,11 +38,15 @@ some_is_not_zero k h = grind (arith, nat_tests)
 -- ---- of values by reference
 
 module _ {X Y : Type 0} (f : X → Y) where
+  abbrev seen : X × ℕ → Y × ℕ
+  seen e = (f e.0, e.1)
+
+  abbrev seen_both : X × ℕ × ℕ → Y × ℕ × ℕ
+  seen_both j = (f j.0, j.1, j.2)
+
   pub exceeding-map : (js : List (X × ℕ × ℕ)) → map (λ e. (f e.0, e.1)) (exceeding js) ≡ exceeding (map (λ j. (f j.0, j.1, j.2)) js)
   exceeding-map js =
       let less : X × ℕ × ℕ → X × ℕ = λ j. (j.0, j.1 - j.2) in
-      let seen : X × ℕ → Y × ℕ = λ e. (f e.0, e.1) in
-      let seen_both : X × ℕ × ℕ → Y × ℕ × ℕ = λ j. (f j.0, j.1, j.2) in
       let seen_less : Y × ℕ × ℕ → Y × ℕ = λ j. (j.0, j.1 - j.2) in
       filter_map_same seen (λ e. nat_lt 0 e.1) (λ e. nat_lt 0 e.1) (λ e. refl) (map less js)
       ∙ ap (λ (l : List (Y × ℕ)). filter (λ e. nat_lt 0 e.1) l) (map-map less seen js ∙ sym (map-map seen_both seen_less js))
@@ -50,8 +54,6 @@ module _ {X Y : Type 0} (f : X → Y) where
   pub unmatched-map : (js : List (X × ℕ × ℕ)) → map (λ e. (f e.0, e.1)) (unmatched js) ≡ unmatched (map (λ j. (f j.0, j.1, j.2)) js)
   unmatched-map js =
       let first : X × ℕ × ℕ → X × ℕ = λ j. (j.0, j.1) in
-      let seen : X × ℕ → Y × ℕ = λ e. (f e.0, e.1) in
-      let seen_both : X × ℕ × ℕ → Y × ℕ × ℕ = λ j. (f j.0, j.1, j.2) in
       let seen_first : Y × ℕ × ℕ → Y × ℕ = λ j. (j.0, j.1) in
       map-map first seen (filter (λ j. j.2 == 0) js) ∙ sym (map-map seen_both seen_first (filter (λ j. j.2 == 0) js))
       ∙ ap (λ (l : List (Y × ℕ × ℕ)). map seen_first l) (filter_map_same seen_both (λ j. j.2 == 0) (λ j. j.2 == 0) (λ j. refl) js)
@@ -59,10 +61,9 @@ module _ {X Y : Type 0} (f : X → Y) where
   pub subtracted-map : (js : List (X × ℕ × ℕ)) → map (λ e. (f e.0, e.1)) (subtracted js) ≡ subtracted (map (λ j. (f j.0, j.1, j.2)) js)
   subtracted-map js =
       let less : X × ℕ × ℕ → X × ℤ = λ j. (j.0, saturated (pos j.1 -ℤ pos j.2)) in
-      let seen : X × ℤ → Y × ℤ = λ e. (f e.0, e.1) in
-      let seen_both : X × ℕ × ℕ → Y × ℕ × ℕ = λ j. (f j.0, j.1, j.2) in
+      let shown : X × ℤ → Y × ℤ = λ e. (f e.0, e.1) in
       let seen_less : Y × ℕ × ℕ → Y × ℤ = λ j. (j.0, saturated (pos j.1 -ℤ pos j.2)) in
-      map-map less seen js ∙ sym (map-map seen_both seen_less js)
+      map-map less shown js ∙ sym (map-map seen_both seen_less js)
 
 -- ---- the joins
 

@@ -125,12 +125,14 @@ module _ {T : Type 0} {eq : T → T → Bool} (laws : IsEquivalence eq) where
       }
 
   pub walk_of_bag : {S : Type 0} {most : ℕ} (hasher : S) (tables : Tables T) (es W : List (T × ℕ)) (total : ℕ) → IsTallied eq es total most → IsPermutation es W → IsWalkOf eq (record { items = occurrences es; hasher = hasher; tables = tables; most = most }) (occurrences W)
-  walk_of_bag hasher tables es W total tally p = record {
-    walk = λ X means. walk_from_set_walk X W (set_walk_of_table es W X tally.counted p means);
-    means = IsPermutation-sym _ _ (occurrences_rearranged es W p);
-    len = length_permutation _ _ (occurrences_rearranged es W p);
-    fits = fits_from_tally laws es total tally;
-  }
+  walk_of_bag hasher tables es W total tally p =
+      let set_walk = set_walk_of_bag hasher tables es W total tally p in
+      record {
+        walk = λ X means. walk_from_set_walk X W (set_walk.walk X means);
+        means = set_walk.means;
+        len = length_permutation _ _ (occurrences_rearranged es W p);
+        fits = set_walk.fits;
+      }
 
   -- an `Iter` that begins has all of the bag's occurrences to come
   pub pending_from_tally : {most : ℕ} → (es W : List (T × ℕ)) (total : ℕ) → IsTallied eq es total most → IsPermutation es W → IsPending None W total

@@ -13,7 +13,7 @@ module _ {T : Type 0} where
   abbrev pub drain_rest : Drain T → List (T × ℕ)
   drain_rest s = table.drain_rest s.drained
 
-  -- the name of its loan of the bag
+  -- the name of the drain's loan of the bag
   abbrev pub drain_name : Drain T → GName
   drain_name s = table.drain_name s.drained
 

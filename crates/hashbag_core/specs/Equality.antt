@@ -5,7 +5,7 @@ use Rattle.hashbag_core.specs.Bag.{Bag}
 use Rattle.hashbag_core.specs.Occurrences.{count}
 
 module _ {T : Type 0} (eq : T → T → Bool) where
-  -- whether each value that occurs in X or in Y occurs as often in both: exactly if `SameCounts` holds
+  -- whether each value that occurs in X or in Y occurs as often in both. It is true exactly if `SameCounts` holds
   unfoldable pub same_counts : List T → List T → Bool
   same_counts X Y = list_all (λ x. nat_eq (count eq x X) (count eq x Y)) (X ++ Y)
 

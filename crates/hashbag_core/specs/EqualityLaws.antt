@@ -49,7 +49,7 @@ module _ {T : Type 0} {eq : T → T → Bool} (laws : IsEquivalence eq) where
     some_or_none zero (suc m) f = f (λ e. absurd (omega arith))
     some_or_none (suc n) m f = f (λ e. absurd (omega arith))
 
-  -- of `==`: `same_counts` is true exactly if the lists have the same counts
+  -- `same_counts` is true exactly if the lists have the same counts
   pub same_counts-Decides : (X Y : List T) → Decides (same_counts eq X Y) (SameCounts eq X Y)
   unfolding same_counts
   same_counts-Decides X Y = (

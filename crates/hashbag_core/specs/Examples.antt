@@ -99,7 +99,7 @@ entries_as_occurrences = refl
 
 -- ---- walks
 
--- 2 is at place 0 of the values and at place 1 of the bag, 1 at place 1 and at place 0
+-- 2 is at place 0 of the values and at place 1 of the bag; 1 is at place 1 of the values and at place 0 of the bag
 pub each_value : IsEach same_key bag ((2, 7) ∷ (1, 10) ∷ [])
 unfolding IsDistinct
 each_value =
@@ -125,7 +125,7 @@ walk = record { values = (2, 7) ∷ (1, 10) ∷ []; each = each_value; pieces = 
 
 -- ---- returned numbers, insertions in turn and equality
 
--- 2 keeps all of its 3, 1 has 5 and keeps 4, and 3 goes
+-- the value 2 has the count 3, may keep 9, and keeps 3; the value 1 has 5, may keep 4, and keeps 4; the value 3 may keep 0, so it is removed
 answered : kept_of {T = ℕ} ((2, 3) ∷ (1, 5) ∷ (3, 7) ∷ []) (9 ∷ 4 ∷ 0 ∷ []) ≡ (2, 3) ∷ (1, 4) ∷ []
 answered = refl
 

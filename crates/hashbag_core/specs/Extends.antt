@@ -1,4 +1,4 @@
--- Which pair is inserted for each item, and why an insertion may fail. `Inserts` has what is left.
+-- Which pair is inserted for each item, and why an insertion may fail. `Inserts` says what insertions leave.
 use Rattle.std.specs.Prelude.{◌≡◌, ℕ, ◌+◌, ◌<◌, ◌≤◌, Bool, List, [], ◌∷◌, length, Result, Ok, Err}
 use denote.Ref.{Bor}
 use Rattle.hashbag_core.specs.declared.bag.BagError.{BagError}
@@ -22,8 +22,8 @@ OkOnce (Err e) p = ⊥
 abbrev pub CloneOnce : {T : Type 0} → (T → T → Type 0) → Bor T → T × ℕ → Type 0
 CloneOnce is_clone x p = is_clone x.now p.0 × (p.1 ≡ 1)
 
--- the pair that is inserted for a pair whose value is lent: a clone of that, and the number. If the number is 0, nothing is cloned, and
--- the pair's value doesn't matter
+-- the pair that is inserted for a pair whose value is lent: a clone of the value, and the number. If the number is 0, nothing is cloned, and the
+-- value of the inserted pair doesn't matter
 abbrev pub CloneAsOften : {T : Type 0} → (T → T → Type 0) → Bor T × ℕ → T × ℕ → Type 0
 CloneAsOften is_clone e p = (0 < e.1 → is_clone e.0.now p.0) × (p.1 ≡ e.1)
 

@@ -21,6 +21,6 @@ module _ {T S : Type 0} (eq : T → T → Bool) where
   GrowsInTurn (p ∷ pairs) before after = (middle : Bag T S) × Inserts eq p.0 p.1 before middle × (values before.tables ≡ distinct_count eq before.items)
       × (0 < p.1 → count eq p.0 before.items ≡ 0 → room before.tables ≡ 0 → Grows before middle) × GrowsInTurn pairs middle after
 
--- the law: insertions in turn into a bag whose slots hold its list grow it as `GrowsInTurn` says
+-- the law: the slots of a bag hold its list; if pairs are then inserted in turn, the bag grows as `GrowsInTurn` says
 abbrev pub GrowAsListed : {T : Type 0} → Type 0 → (T → T → Bool) → Type 0
 GrowAsListed {T = T} S eq = (pairs : List (T × ℕ)) (before after : Bag T S) → AreHeld eq before.items before.tables → InTurn eq pairs before after → GrowsInTurn eq pairs before after

@@ -55,7 +55,7 @@ module _ {T S : Type 0} (eq : T → T → Bool) where
   InTurn [] before after = after ≡ before
   InTurn (p ∷ pairs) before after = (middle : Bag T S) × Inserts p.0 p.1 before middle × InTurn pairs middle after
 
-  -- the bag is what these pairs, inserted one after the other, made of an empty bag without slots that has its state and its limit
+  -- the bag is what these pairs left, inserted one after the other into an empty bag without slots, with the state and the limit of this bag
   abbrev pub IsMadeOf : List (T × ℕ) → Bag T S → Type 0
   IsMadeOf pairs bag = InTurn pairs (limited bag.most (empty_bag bag.hasher)) bag
 
@@ -89,7 +89,7 @@ module _ {T S : Type 0} (eq : T → T → Bool) where
   abbrev pub RefusesPair : Bag T S → T × ℕ → BagError → Type 0
   RefusesPair bag p e = IsRefused bag p.0 p.1 e
 
-  -- an extend by results may fail at one with this error: at an error with that, at a value if inserting it once may fail
+  -- an extend by results may stop at this result: at `Err x` with `Item x`, at `Ok v` with an error of inserting v once
   abbrev pub EndsTry : {E : Type 0} → Bag T S → Result T E → TryExtendError E → Type 0
   EndsTry bag (Err x) (Item e) = e ≡ x
   EndsTry bag (Err x) (Insertion e) = ⊥
@@ -110,3 +110,9 @@ module _ {T S : Type 0} (eq : T → T → Bool) where
       -- clones of lent values were inserted in turn, each as often as its count says, up to one that failed
       abbrev pub ClonesManyUpTo : (I → Option (Bor T × ℕ) → I → Type 0) → I → Bag T S → Bag T S → BagError → Type 0
       ClonesManyUpTo steps it before after e = InsertsUpTo steps (CloneAsOften is_clone) (λ bag p e. IsCloneRefused bag p.0.now p.1 e) it before after e
+
+module _ {T : Type 0} (S : Type 0) (eq : T → T → Bool) where
+  -- the items before one that failed were inserted in turn into an empty bag without slots, under some state of the type S. They left a bag, in which
+  -- the next item of the iterator failed with e
+  abbrev pub StopsBuilding : {A I X : Type 0} → (I → Option A → I → Type 0) → (A → T × ℕ → Type 0) → (Bag T S → A → X → Type 0) → I → X → Type 0
+  StopsBuilding steps Goes Why it e = (bag : Bag T S) × InsertsUpTo eq steps Goes Why it (empty_bag bag.hasher) bag e

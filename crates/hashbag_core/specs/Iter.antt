@@ -4,7 +4,7 @@ use Rattle.std.specs.Borrow.{Bor}
 use Rattle.std.specs.Map.{values_of}
 use Rattle.hashbag_core.specs.Bag.{occurrences}
 
--- the occurrences of the value that is being given, and then those of the entries to come
+-- the occurrences of the current value that are left, and then those of the entries after it
 abbrev pub occurrences_left : {T : Type 0} → Option (Bor T × ℕ) → List (T × ℕ) → List T
 occurrences_left None es = occurrences es
 occurrences_left (Some e) es = replicate e.1 e.0.now ++ occurrences es

@@ -1,5 +1,5 @@
--- What the joins of two bags give in all, by the plain lists X and Y of their occurrences. The order of X and of Y means
--- nothing, and the states that hash them don't appear.
+-- What the joins of two bags give altogether, from the plain lists X and Y of their occurrences. The order of X and of Y means nothing, and the
+-- states that hash the values don't appear.
 --
 -- A join names a value by an instance that occurs in X, or, if X has none, in Y. `Contains` compares instances.
 use Rattle.std.specs.Prelude.{◌≡◌, ℕ, ◌-◌, ◌<◌, ◌^◌, ◌==◌, ◌↔◌, ℤ, pos, negsuc, ◌-ℤ◌, Bool, List, ◌++◌, map, filter}
@@ -34,12 +34,12 @@ module _ {T : Type 0} (eq : T → T → Bool) where
     pub of_second : IsEach eq (alone X Y) second
     pub counts : J ≡ map (λ v. (v, count eq v X, count eq v Y)) (first ++ second)
 
-  -- E has no value twice, and has an item v of X with n exactly if X has n more of v than Y, and n isn't 0
+  -- E has no value twice. It has (v, n) exactly if v is an item of X, n is how many more of v X has than Y, and n isn't 0
   pub record IsDifference (X Y : List T) (E : List (T × ℕ)) : Type 0 where
     pub once : IsDistinct eq (keys_of E)
     pub exactly : (v : T) (n : ℕ) → Contains E (v, n) ↔ (Contains X v × (n ≡ count eq v X - count eq v Y) × (0 < n))
 
-  -- M has no value twice, and has an item v of X with n exactly if n is its count in X, isn't 0, and Y has none of v
+  -- M has no value twice. It has (v, n) exactly if v is an item of X, n is its count in X and isn't 0, and Y has none of v
   pub record IsNotIn (X Y : List T) (M : List (T × ℕ)) : Type 0 where
     pub once : IsDistinct eq (keys_of M)
     pub exactly : (v : T) (n : ℕ) → Contains M (v, n) ↔ (Contains X v × (n ≡ count eq v X) × (0 < n) × (count eq v Y ≡ 0))

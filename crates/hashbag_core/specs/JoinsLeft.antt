@@ -1,4 +1,4 @@
--- What a join still gives, by the entries that its walk still gives and the list Y of the bag in which it looks up.
+-- What a join still gives. `es` are the entries that its walk still gives, and Y is the list of the bag in which the join looks values up.
 use Rattle.std.specs.Prelude.{ℕ, ◌-◌, ◌==◌, nat_lt, ℤ, pos, ◌-ℤ◌, Bool, List, map, filter}
 use Rattle.hashbag_core.specs.Occurrences.{count}
 use Rattle.hashbag_core.specs.Joins.{saturated}
@@ -8,7 +8,7 @@ module _ {T : Type 0} (eq : T → T → Bool) (Y : List T) where
   abbrev pub with_second : List (T × ℕ) → List (T × ℕ × ℕ)
   with_second es = map (λ e. (e.0, e.1, count eq e.0 Y)) es
 
-  -- each value of which there are more than in Y, with how many more
+  -- each value with a greater count than in Y, with the excess
   abbrev pub excesses : List (T × ℕ) → List (T × ℕ)
   excesses es = filter (λ e. nat_lt 0 e.1) (map (λ e. (e.0, e.1 - count eq e.0 Y)) es)
 
@@ -20,7 +20,7 @@ module _ {T : Type 0} (eq : T → T → Bool) (Y : List T) where
 abbrev pub with_no_first : {T : Type 0} → List (T × ℕ) → List (T × ℕ × ℕ)
 with_no_first es = map (λ e. (e.0, 0, e.1)) es
 
--- each value with the first count less the second, as near as an isize comes
+-- each value with its first count less its second, saturated to an `isize`
 abbrev pub subtracted : {T : Type 0} → List (T × ℕ × ℕ) → List (T × ℤ)
 subtracted js = map (λ j. (j.0, saturated (pos j.1 -ℤ pos j.2))) js
 

@@ -10,7 +10,7 @@ use Rattle.serde_json.specs.View.{items_of}
 use Rattle.hashbag_core.specs.declared.json.JsonError.{JsonError}
 use Rattle.hashbag_core.specs.declared.json.JsonError.TheVariants.{NotAnArray, NotAPair, BadCount, BadItem, TooMany, BadLimit}
 use Rattle.hashbag_core.specs.Extends.{add_all}
-use Rattle.hashbag_core.specs.JsonFaults.{limit_name, pairs_name, opened, limit_of, fault, MayEnd, first_fault}
+use Rattle.hashbag_core.specs.JsonFaults.{limit_name, pairs_name, opened, limit_of, fault, MayRunOut, first_fault}
 use Rattle.hashbag_core.specs.JsonItems.{u64_of, i64_of}
 use Rattle.hashbag_core.specs.JsonTrees.{IsPair, IsReading, IsTree, written}
 use Rattle.hashbag_core.specs.Occurrences.{greatest_total}
@@ -90,9 +90,9 @@ unfolding first_fault
 just_enough = refl
 
 -- reading may fail with `Memory` at a pair that passes the limit, since its item is allocated first
-may_end : MayEnd 9 has_item (list (pair (tree_of 1) (tree_of 9) ∷ pair (tree_of 2) (tree_of 1) ∷ []))
+may_run_out : MayRunOut 9 has_item (list (pair (tree_of 1) (tree_of 9) ∷ pair (tree_of 2) (tree_of 1) ∷ []))
 unfolding first_fault
-may_end = record {
+may_run_out = record {
   limit = greatest_total;
   trees = pair (tree_of 1) (tree_of 9) ∷ pair (tree_of 2) (tree_of 1) ∷ [];
   inside = refl;
@@ -102,7 +102,7 @@ may_end = record {
     after = [];
     parts = refl;
     good = refl;
-    asks = record { tree = tree_of 2; number = tree_of 1; count = 1; parts = refl; is_count = refl; item = refl };
+    allocates = record { tree = tree_of 2; number = tree_of 1; count = 1; parts = refl; is_count = refl; item = refl };
   };
 }
 

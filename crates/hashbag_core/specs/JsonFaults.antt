@@ -1,5 +1,5 @@
 -- Why a tree isn't read as a bag. Pairs are numbered from 0.
-use Rattle.std.specs.Prelude.{◌≡◌, ℕ, ◌+◌, ◌≤◌, ◌&&◌, ◌||◌, nat_lt, min, if◌then◌else◌, Bool, true, List, [], ◌∷◌, ◌++◌, length, Option, Some, None, option_map, option_and_then, unwrap_or, Result, Ok, Err, codes}
+use Rattle.std.specs.Prelude.{◌≡◌, ◌≢◌, ℕ, ◌+◌, ◌≤◌, ◌&&◌, ◌||◌, nat_lt, min, if◌then◌else◌, Bool, true, List, [], ◌∷◌, ◌++◌, length, Option, Some, None, option_map, option_and_then, unwrap_or, Result, Ok, Err, codes}
 use Rattle.std.specs.Option.{option_or}
 use Rattle.std.specs.Str.{bytes_eq}
 use Rattle.serde_json.specs.Data.{Data, null, boolean, number, string, array, object, Items, no_items, item, Members, no_members, member}
@@ -8,7 +8,7 @@ use Rattle.hashbag_core.specs.Bag.{Bag}
 use Rattle.hashbag_core.specs.JsonItems.{u64_of, u64_item}
 use Rattle.hashbag_core.specs.Occurrences.{greatest_total}
 use Rattle.hashbag_core.specs.declared.json.JsonError.{JsonError}
-use Rattle.hashbag_core.specs.declared.json.JsonError.TheVariants.{NotAnArray, NotAPair, BadCount, BadItem, TooMany, BadLimit}
+use Rattle.hashbag_core.specs.declared.json.JsonError.TheVariants.{NotAnArray, NotAPair, BadCount, BadItem, TooMany, Memory, BadLimit}
 
 -- the trees of the items of an array, as a list
 abbrev pub list_of : Items → List Data
@@ -42,7 +42,7 @@ pairs_in ms = if has_no_other ms then option_and_then array_of (get_member pairs
 abbrev pub limit_in : Members → Option ℕ
 limit_in ms = option_and_then u64_item (get_member limit_name ms)
 
--- the pairs are judged before the limit
+-- what `opened` gives of an object with these pairs and this limit. The pairs are judged before the limit
 abbrev pub opened_object : Option (List Data) → Option ℕ → Result (ℕ × List Data) JsonError
 opened_object None limit = Err NotAnArray
 opened_object (Some ds) None = Err BadLimit
@@ -80,7 +80,7 @@ two_of (d ∷ e ∷ f ∷ more) = None
 abbrev pub pair_of : Data → Option (Data × Data)
 pair_of d = option_and_then two_of (array_of d)
 
--- the count in a pair, none if the tree is no pair or its second part no whole number from 0 to 2 ^ 64 - 1
+-- the count in a pair, none if the tree is no pair, or if its second part is no whole number from 0 to 2 ^ 64 - 1
 abbrev pub pair_count : Data → Option ℕ
 pair_count d = option_and_then (λ p. u64_of p.1) (pair_of d)
 
@@ -93,15 +93,15 @@ pub record IsCountedItem (has_item : Data → Bool) (d : Data) : Type 0 where
   pub is_count : u64_of number ≡ Some count
   pub item : has_item tree ≡ true
 
--- `end` is the limit under which the pairs are read, and `has_item` decides which trees are those of items
-module _ (end : ℕ) (has_item : Data → Bool) where
+-- `limit` is the limit under which the pairs are read, and `has_item` decides which trees are the trees of items
+module _ (limit : ℕ) (has_item : Data → Bool) where
   -- the fault of pair i by its item and its count, if the counts before it sum to `total`: the count is judged before the
   -- item, and the item before the total
   abbrev pub part_fault : ℕ → ℕ → Data → Option ℕ → Option JsonError
   part_fault i total d None = Some (BadCount i)
-  part_fault i total d (Some n) = if has_item d then (if nat_lt end (total + n) then Some (TooMany i) else None) else Some (BadItem i)
+  part_fault i total d (Some n) = if has_item d then (if nat_lt limit (total + n) then Some (TooMany i) else None) else Some (BadItem i)
 
-  -- the fault of pair i, if the counts before it sum to `total`: `NotAPair` if it is no pair, else that of its item and its count
+  -- the fault of pair i, if the counts before it sum to `total`: `NotAPair` if it is no pair, else the fault of its item and its count
   abbrev pub pair_fault : ℕ → ℕ → Option (Data × Data) → Option JsonError
   pair_fault i total None = Some (NotAPair i)
   pair_fault i total (Some p) = part_fault i total p.0 (u64_of p.1)
@@ -113,13 +113,13 @@ module _ (end : ℕ) (has_item : Data → Bool) where
 
   -- reading these pairs may fail with `Memory`: at a pair that has a count and an item, if no pair before it has a fault. That pair's own
   -- count may be too great for the limit
-  pub record MayEndAmong (ds : List Data) : Type 0 where
+  pub record MayRunOutAmong (ds : List Data) : Type 0 where
     pub before : List Data
     pub pair : Data
     pub after : List Data
     pub parts : ds ≡ before ++ pair ∷ after
     pub good : first_fault 0 0 before ≡ None
-    pub asks : IsCountedItem has_item pair
+    pub allocates : IsCountedItem has_item pair
 
 module _ (has_item : Data → Bool) where
   -- the fault of pair i if the pairs before it were read as this bag
@@ -130,9 +130,13 @@ module _ (has_item : Data → Bool) where
   abbrev pub HasNoFaultFrom : ℕ → Data → Type 0
   HasNoFaultFrom k d = (ds : List Data) (n : ℕ) → array_of d ≡ Some ds → k ≤ n → first_fault n has_item 0 0 ds ≡ None
 
+-- the error e is `Memory`, or it is the fault that was found
+abbrev pub IsFault : Option JsonError → JsonError → Type 0
+IsFault found e = e ≢ Memory → found ≡ Some e
+
 -- `most` is the greatest limit that the bag may have: a tree with a greater one is read under `most`
 module _ (most : ℕ) (has_item : Data → Bool) where
-  -- the fault of a tree by what `opened` made of it, under its limit or `most`, whichever is less
+  -- the fault of a tree, from what `opened` gives of the tree. The limit is the tree's or `most`, whichever is less
   abbrev pub opened_fault : Result (ℕ × List Data) JsonError → Option JsonError
   opened_fault (Err e) = Some e
   opened_fault (Ok p) = first_fault (min most p.0) has_item 0 0 p.1
@@ -142,8 +146,8 @@ module _ (most : ℕ) (has_item : Data → Bool) where
   fault d = opened_fault (opened d)
 
   -- reading d may fail with `Memory`
-  pub record MayEnd (d : Data) : Type 0 where
+  pub record MayRunOut (d : Data) : Type 0 where
     pub limit : ℕ
     pub trees : List Data
     pub inside : opened d ≡ Ok (limit, trees)
-    pub among : MayEndAmong (min most limit) has_item trees
+    pub among : MayRunOutAmong (min most limit) has_item trees

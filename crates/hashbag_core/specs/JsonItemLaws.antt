@@ -143,7 +143,7 @@ text_in_level (Value-F.String s) e = (s, tt, refl)
 text_in_level (Value-F.Array v) e = absurd (false≢true e)
 text_in_level (Value-F.Object m) e = absurd (false≢true e)
 
--- the text of a value is that of its own string
+-- a value that has a text is a string, and the text is the text of that string
 pub text_is_read : (v : Value) → is_some (as_str (view v)) ≡ true → IsOfText (view v)
 text_is_read v e =
     subst (λ (d : Data). is_some (as_str d) ≡ true → IsOfText d) (sym (fold_out-Value Data view_step v)) (text_in_level (out-Value v)) e

@@ -12,7 +12,7 @@ abbrev pub IsI64 : ℤ → Type 0
 IsI64 (pos n) = n < 2 ^ 63
 IsI64 (negsuc n) = n < 2 ^ 63
 
--- the number that a tree is, none if it is no whole number, or if it is below 0. A float is no whole number, not even 1.0
+-- the number that a tree is, none if it is no whole number or is below 0. A float is no whole number, not even 1.0
 abbrev pub u64_of : Data → Option ℕ
 u64_of d = option_and_then as_u64 (as_number d)
 
@@ -20,11 +20,11 @@ u64_of d = option_and_then as_u64 (as_number d)
 abbrev pub i64_of : Data → Option ℤ
 i64_of d = option_and_then as_i64 (as_number d)
 
--- the number if a `u64` can be it, else none. No tree of a `Value` holds one out of range
+-- n if it is in the range of a `u64`, else none. The tree of a `Value` has no number out of that range
 abbrev pub u64_within : ℕ → Option ℕ
 u64_within n = if nat_lt n (2 ^ 64) then Some n else None
 
--- the number if an `i64` can be it, else none. No tree of a `Value` holds one out of range
+-- z if it is in the range of an `i64`, else none. The tree of a `Value` has no number out of that range
 abbrev pub i64_within : ℤ → Option ℤ
 i64_within (pos n) = if nat_lt n (2 ^ 63) then Some (pos n) else None
 i64_within (negsuc n) = if nat_lt n (2 ^ 63) then Some (negsuc n) else None

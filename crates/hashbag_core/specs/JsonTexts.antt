@@ -1,4 +1,4 @@
--- Types whose values are written as JSON strings. `text_of` is the text of a value, and `has_text` whether a text is that of one.
+-- Types whose values are written as JSON strings. `text_of` is the text of a value, and `has_text` whether a text is the text of some value.
 use Rattle.std.specs.Prelude.{◌≡◌, ℕ, List, Option, Some, None, Bool, true, false, is_some, String, string_bytes}
 use Rattle.std.proofs.Common.{Global, sym, ◌∙◌, ap, refl}
 use Rattle.std.specs.Bool.{Decides}
@@ -9,7 +9,7 @@ use Rattle.serde_json.specs.View.{view}
 use Rattle.serde_json.specs.declared.value.Value.{Value}
 use Rattle.hashbag_core.specs.JsonItemLaws.{text_is_read}
 
--- whether there is a text, and it is that of a value
+-- whether there is a text, and it is the text of some value
 abbrev pub has_text_in : (List ℕ → Bool) → Option (List ℕ) → Bool
 has_text_in has_text None = false
 has_text_in has_text (Some t) = has_text t
@@ -22,7 +22,7 @@ same_text : (t u : List ℕ) → Some t ≡ Some u → t ≡ u
 same_text t u e = cc
 
 module _ {X : Type 0} (text_of : X → List ℕ) (has_text : List ℕ → Bool) where
-  -- the text of x is that of a value
+  -- the text of x is one that has a value
   abbrev pub IsText : X → Type 0
   IsText x = has_text (text_of x) ≡ true
 

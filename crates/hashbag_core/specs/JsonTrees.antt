@@ -10,6 +10,8 @@ use Rattle.hashbag_core.specs.JsonFaults.{limit_name, pairs_name, opened, pair_o
 use Rattle.hashbag_core.specs.Equality.{same_counts}
 use Rattle.hashbag_core.specs.JsonItems.{u64_of}
 use Rattle.hashbag_core.specs.Extends.{add_all}
+use Rattle.hashbag_core.specs.Bag.{Bag}
+use Rattle.hashbag_core.specs.Inserts.{IsMadeOf}
 use Rattle.hashbag_core.specs.Occurrences.{greatest_total, IsOneInstanceEach, SameCounts}
 use Rattle.hashbag_core.specs.Walks.{IsSetWalk}
 
@@ -35,6 +37,15 @@ module _ {T : Type 0} (eq : T → T → Bool) (reads : Data → T → Type 0) wh
   -- if d can be read as some pairs, these add up to the counts of X
   abbrev pub ReadsBack : List T → Data → Type 0
   ReadsBack X d = (pairs : List (T × ℕ)) → IsReading reads d pairs → SameCounts eq (add_all eq [] pairs) X
+
+module _ {T S : Type 0} (eq : T → T → Bool) (reads : Data → T → Type 0) where
+  -- these trees are read as some pairs, and the bag is what these pairs left, inserted in turn into an empty bag
+  abbrev pub IsMadeOfTrees : List Data → Bag T S → Type 0
+  IsMadeOfTrees trees bag = (pairs : List (T × ℕ)) × AllZip (IsPair reads) trees pairs × IsMadeOf eq pairs bag
+
+  -- the tree d is read as some pairs, and the bag is what these pairs left, inserted in turn into an empty bag
+  abbrev pub IsMadeOfTree : Data → Bag T S → Type 0
+  IsMadeOfTree d bag = (pairs : List (T × ℕ)) × IsReading reads d pairs × IsMadeOf eq pairs bag
 
 -- ---- which tree is written
 

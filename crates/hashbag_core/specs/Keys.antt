@@ -1,14 +1,14 @@
 -- What an insertion by a key leaves of a bag. `names` is a test: a value passes it if the key names it. All values that pass are equal.
-use Rattle.std.specs.Prelude.{◌≡◌, ℕ, ◌+◌, ◌<◌, ◌≤◌, Bool, List, length, IsTrue}
+use Rattle.std.specs.Prelude.{◌≡◌, ℕ, ◌+◌, ◌<◌, ◌≤◌, Bool, List, length, Option, IsTrue}
 use Rattle.hashbag_core.specs.declared.bag.BagError.{BagError}
 use Rattle.hashbag_core.specs.declared.bag.BagError.TheVariants.{Memory, TooMany, BelowTotal}
 use Rattle.hashbag_core.specs.Bag.{Bag}
-use Rattle.hashbag_core.specs.Inserts.{Inserts}
+use Rattle.hashbag_core.specs.Inserts.{Inserts, InsertsUpTo}
 use Rattle.hashbag_core.specs.Occurrences.{count_named}
 
 module _ {T : Type 0} (names : T → Bool) where
-  -- why an insertion of n of what a key names may fail in a bag that means X, whose limit is `most`. `TooMany`: the total would pass the
-  -- limit. `Memory`: it fits, n isn't 0, and no value that the key names is present
+  -- why an insertion of n of the value that a key names may fail, in a bag that means X and has the limit `most`. `TooMany`: the total would pass the
+  -- limit. `Memory`: the total fits, n isn't 0, and no value that the key names is present
   abbrev pub RefusesNamed : ℕ → List T → ℕ → BagError → Type 0
   RefusesNamed most X n TooMany = most < length X + n
   RefusesNamed most X n Memory = (length X + n ≤ most) × (0 < n) × (count_named names X ≡ 0)
@@ -18,9 +18,13 @@ module _ {T : Type 0} (names : T → Bool) where
 abbrev pub NamedOnce : {T Q : Type 0} → (Q → T → Bool) → Q → T × ℕ → Type 0
 NamedOnce names key p = IsTrue (names key p.0) × (p.1 ≡ 1)
 
--- an insertion by a key may fail in a bag
+-- inserting once the value that a key names may fail with e
 abbrev pub RefusesKey : {T S Q : Type 0} → (Q → T → Bool) → Bag T S → Q → BagError → Type 0
 RefusesKey names bag key e = RefusesNamed (names key) bag.most bag.items 1 e
+
+-- values that the keys of an iterator name were inserted in turn, up to a key that failed
+abbrev pub KeysUpTo : {T S Q I : Type 0} → (T → T → Bool) → (Q → T → Bool) → (I → Option Q → I → Type 0) → I → Bag T S → Bag T S → BagError → Type 0
+KeysUpTo eq names steps keys before after e = InsertsUpTo eq steps (NamedOnce names) (RefusesKey names) keys before after e
 
 -- n of some value that the key names were inserted
 abbrev pub InsertsNamed : {T S : Type 0} → (T → T → Bool) → (T → Bool) → ℕ → Bag T S → Bag T S → Type 0

@@ -12,7 +12,8 @@ use Rattle.hashbag_core.specs.Held.{HasFewer}
 use Rattle.hashbag_core.specs.contracts.bag.HashBag.{the_row}
 
 module _ (T S H : RattleType) (key : HashMembers T.Denot) (build : builder.Ghosts S.Denot H.Denot) (hash : hasher.Ghosts H.Denot) where
-  -- `HashBag<T, S>` as a type of the logic, made of its items' type T, its hashers' maker S and its hasher H
+  -- `HashBag<T, S>` as a type of the logic. It is built from the type T of the items, the type S of the hash state, and the type H of the state's
+  -- hasher
   abbrev pub bag_row : RattleType
   bag_row = the_row T S H (record { eq = key.eq }) (record { hash_input = key.hash_input }) build hash
 
@@ -20,6 +21,6 @@ module _ (T S H : RattleType) (key : HashMembers T.Denot) (build : builder.Ghost
   abbrev pub ends_taking : MutBor (Bag T.Denot S.Denot) → (T.Denot → Bool) → Fml
   ends_taking b names = follows_so bag_row bag_row b.ghost_name none (λ _ _. ⊤) (HasFewer key.eq names 1 b.now)
 
-  -- a call that took an entry of the bag behind b gives it back with the loan; if it failed, the bag is as it was
+  -- if the call returns `Ok`, the entry goes on with the loan of b; if `Err`, the bag that b borrows is unchanged when the loan ends
   abbrev pub rests_if_refused : MutBor (Bag T.Denot S.Denot) → Result (Entry T.Denot S.Denot H.Denot) BagError → Fml
   rests_if_refused b r = RestsIfErr bag_row b (λ e. e.bag.ghost_name) r (λ n. n ≡ b.now)

@@ -6,8 +6,8 @@ use Rattle.hashbag_table.specs.Asked.{AnswersInTurn, kept}
 use Rattle.hashbag_core.specs.Bag.{Bag, occurrences, IsBagOf}
 use Rattle.hashbag_core.specs.Walks.{IsSetWalkOf}
 
--- f was called along a set walk of the bag, at each value once with its count, each time as the call before left it. Each
--- value has the lesser of its count and the returned one
+-- f was called with each entry of a set walk of the bag in turn. Each call got the closure that the call before left. Each value has the lesser of
+-- its count and the returned number
 pub record IsRetained {F T S : Type 0} (eq : T → T → Bool) (g : Mut F (Bor T × (ℕ × Unit {0})) ℕ) (f : F) (before after : Bag T S) : Type 0 where
   pub walk : List (T × ℕ)
   pub set_walk : IsSetWalkOf eq before walk

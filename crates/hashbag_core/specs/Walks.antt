@@ -1,5 +1,5 @@
--- What the walks over a bag give in all, by the plain list X of its occurrences. The order of X means nothing, and so does
--- the order in which a walk comes to the values.
+-- What walks over a bag give altogether, from the plain list X of its occurrences. The order of X means nothing, and neither does the order in which
+-- a walk gives the values.
 use Rattle.std.specs.Prelude.{◌≡◌, ℕ, ◌≤◌, Bool, List, length, sum_by, map, flat_map, replicate, All}
 use Rattle.std.specs.Borrow.{Bor}
 use Rattle.std.specs.List.{IsDistinct, Contains}
@@ -11,13 +11,13 @@ abbrev pub seen : {T : Type 0} → Bor T × ℕ → T × ℕ
 seen e = (e.0.now, e.1)
 
 module _ {T : Type 0} (eq : T → T → Bool) where
-  -- ys has each value of X once, by the very instance that occurs in X, and no other
+  -- ys has each value of X once, as an instance that occurs in X, and nothing else
   pub record IsEach (X ys : List T) : Type 0 where
     pub once : IsDistinct eq ys
     pub all : All (λ x. Contains ys x) X
     pub only : All (λ y. Contains X y) ys
 
-  -- W has each value of X once, by the very instance that occurs in X, with its count, and no other
+  -- W has each value of X once, as an instance that occurs in X, with its count, and nothing else
   pub record IsSetWalk (X : List T) (W : List (T × ℕ)) : Type 0 where
     pub values : List T
     pub each : IsEach X values
@@ -36,9 +36,8 @@ module _ {T : Type 0} (eq : T → T → Bool) where
     pub len : length W ≡ length bag.items
     pub fits : length bag.items ≤ greatest_total
 
-  -- W is a set walk of each list that the bag means. With each value repeated as often as its count it is such a
-  -- list itself. So the counts add up to the length of the bag, there are as many entries as distinct values and no more than occurrences, and
-  -- each of these numbers fits a `usize`
+  -- W is a set walk of each list that the bag means. If each value is repeated as often as its count says, W becomes such a list. So the counts add
+  -- up to the length of the bag. There are as many entries as distinct values, and no more than occurrences. Each of these numbers fits a `usize`
   pub record IsSetWalkOf {S : Type 0} (bag : Bag T S) (W : List (T × ℕ)) : Type 0 where
     pub walk : (X : List T) → Means bag X → IsSetWalk X W
     pub means : Means bag (occurrences W)

@@ -1,12 +1,12 @@
 //! `HashBag`: how often each of several values occurs.
 //!
-//! In clauses `self.old` is the bag before a call, `self.new` the bag after it, and `self.now` one that is only read. `OnOk` and `OnErr`
-//! say what holds on success and on failure. `IfOk` and `IfErr` state it of the returned value or error. `×` is "and", `⊎` is "or",
-//! `(x : A) ×` is "there is an x", `(x : A) →` is "for every x". `ensures*` says what
-//! holds once a loan is over: the prover uses it at the end of the loan, and no proof can name it.
-ghost use Rattle.std.specs.Prelude.{◌≡◌, ◌+◌, ◌-◌, ◌<◌, ◌≤◌, ◌↔◌, [], length, IsTrue, IsOk, IfOk, IfErr, OnOk, OnErr};
+//! In clauses `self.old` is the bag before a call, `self.new` the bag after it, and `self.now` a bag that is only read. `OnOk` and `OnErr` say what
+//! holds on success and on failure. `IfOk` and `IfErr` state it of the returned value or error. `×` is "and", `⊎` is "or", `(x : A) ×` is "there is
+//! an x", `(x : A) →` is "for every x". `ensures*` says what holds once a loan is over: the prover uses it at the end of the loan, and no proof can
+//! name it.
+ghost use Rattle.std.specs.Prelude.{◌≡◌, ◌+◌, ◌<◌, ◌≤◌, ◌↔◌, [], length, IsTrue, IsOk, IfOk, IfErr, OnOk, OnErr};
 ghost use Rattle.hashbag_table.specs.Tables.{room};
-ghost use Rattle.hashbag_core.specs.Bag.{limited, Lends};
+ghost use Rattle.hashbag_core.specs.Bag.{limited, total_recounted, Lends};
 ghost use Rattle.hashbag_core.specs.Occurrences.{count_named, stored_named, count, distinct_count, IsBag};
 ghost use Rattle.hashbag_core.specs.Inserts.{Inserts, Replaces, IsRefused};
 ghost use Rattle.hashbag_core.specs.declared.bag.BagError.TheVariants.{Memory};
@@ -235,7 +235,7 @@ impl<T: Eq + Hash + Drop, S: BuildHasher + Drop> HashBag<T, S> {
 
     /// Returns the count of a value, 0 if it is absent.
     ///
-    /// The value is given as itself, lent, or as a key that names it: `bag.contains(&value)`, `words.contains("the")`.
+    /// The value is given as a reference, or as a key that names it: `bag.contains(&value)`, `words.contains("the")`.
     ///
     /// # Complexity
     ///
@@ -314,7 +314,7 @@ impl<T: Eq + Hash + Drop, S: BuildHasher + Drop> HashBag<T, S> {
     pub fn insert(&mut self, value: T) -> Result<usize, BagError>
         ensures before { IfOk result (λ before. before ≡ count T.eq value self.old.items) }
 
-        // The value has one occurrence more, other values as many as before. `Inserts` also says which slots changed.
+        // The value has one occurrence more; other values have as many as before. `Inserts` also says which slots changed.
         ensures inserted { OnOk result (Inserts T.eq value 1 self.old self.new) }
 
         // When it fails, as under `# Errors`.
@@ -359,7 +359,7 @@ impl<T: Eq + Hash + Drop, S: BuildHasher + Drop> HashBag<T, S> {
     pub fn insert_many(&mut self, value: T, n: usize) -> Result<usize, BagError>
         ensures before { IfOk result (λ before. before ≡ count T.eq value self.old.items) }
 
-        // The value has `n` occurrences more, other values as many as before. `Inserts` also says which slots changed.
+        // The value has `n` occurrences more; other values have as many as before. `Inserts` also says which slots changed.
         ensures inserted { OnOk result (Inserts T.eq value n self.old self.new) }
 
         // When it fails, as under `# Errors`.
@@ -416,13 +416,13 @@ impl<T: Eq + Hash + Drop, S: BuildHasher + Drop> HashBag<T, S> {
         ensures replaced { OnOk result (Replaces T.eq value self.old self.new) }
 
         // When it fails, as under `# Errors`.
-        ensures too_many { (result ≡ Err BagError.TooMany) ↔ (self.old.most < length self.old.items - count T.eq value self.old.items + 1) }
+        ensures too_many { (result ≡ Err BagError.TooMany) ↔ (self.old.most < total_recounted T.eq value 1 self.old) }
         ensures refused { IfErr result (IsRefused T.eq self.old value 1) }
         ensures absent { OnErr result (count T.eq value self.old.items ≡ 0) }
         ensures err { OnErr result (self.new ≡ self.old) }
 
         // If the new total fits, it succeeds if there is room.
-        ensures takes { length self.old.items - count T.eq value self.old.items + 1 ≤ self.old.most → 0 < room self.old.tables → IsOk result }
+        ensures takes { total_recounted T.eq value 1 self.old ≤ self.old.most → 0 < room self.old.tables → IsOk result }
     {
         if self.len == self.most && self.contains(&value) == 0 {
             return Err(BagError::TooMany);
@@ -432,7 +432,7 @@ impl<T: Eq + Hash + Drop, S: BuildHasher + Drop> HashBag<T, S> {
         Ok(before)
     }
 
-    // Inserts occurrences of a value, if the total stays within the limit.
+    // Inserts `n` occurrences of a value, if the total stays within the limit.
     pub(crate) fn insert_within(&mut self, value: T, n: usize) -> Result<(), BagError>
         ensures inserted { OnOk result (Inserts T.eq value n self.old self.new) }
         ensures refused { IfErr result (IsRefused T.eq self.old value n) }

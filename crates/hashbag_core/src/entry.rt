@@ -1,10 +1,10 @@
 //! `Entry`: the place of a value in a bag. In clauses `.entry` is the receiver as it was passed: in `HashBag::entry` the bag, else the
-//! `Entry`. `self.exit.0` is the bag that the call leaves.
-ghost use Rattle.std.specs.Prelude.{◌≡◌, ◌+◌, ◌<◌, ◌≤◌, ◌↔◌, ℕ, length, IsOk, IfOk, IfErr, OnErr};
+//! `Entry`. `self.exit.0.now` is the bag after the call (`exit` has the loans that the receiver had; here one).
+ghost use Rattle.std.specs.Prelude.{◌≡◌, ◌<◌, ◌↔◌, ℕ, IsOk, IfOk, IfErr, OnErr};
 ghost use Rattle.hashbag_table.specs.Tables.{room, KeepsRoom};
-ghost use Rattle.hashbag_core.specs.Held.{RecountsAs};
+ghost use Rattle.hashbag_core.specs.Held.{FitsLimit};
 ghost use Rattle.std.specs.Borrow.{sem, MutBor};
-ghost use Rattle.hashbag_core.specs.Inserts.{Inserts, IsRefused};
+ghost use Rattle.hashbag_core.specs.Inserts.{IsRefused};
 ghost use Rattle.hashbag_core.specs.Occurrences.{count, instance_or_itself};
 
 use crate::bag::{BagError, FixedState, HashBag};
@@ -41,7 +41,7 @@ impl<T: Eq + Hash + Drop, S: BuildHasher + Drop> HashBag<T, S> {
     /// Ok(())
     /// ```
     pub fn entry(&mut self, value: T) -> Entry<'_, T, S>
-        // The entry has the loan of this bag, which is unchanged, and the given value.
+        // The entry has the loan of this bag and the given value. The bag is unchanged.
         ensures same_bag { result.bag.ghost_name ≡ self.entry.ghost_name }
         ensures unchanged { result.bag.now ≡ self.old }
         ensures value { result.value ≡ value }
@@ -51,7 +51,7 @@ impl<T: Eq + Hash + Drop, S: BuildHasher + Drop> HashBag<T, S> {
 }
 
 impl<'a, T: Eq + Hash + Drop, S: BuildHasher + Drop> Entry<'a, T, S> {
-    ghost use Rattle.hashbag_core.specs.EntryCalls.{entry_count, IsOccupied, IsVacant, KeepsOthers, ChangesCount, PassesLimit};
+    ghost use Rattle.hashbag_core.specs.EntryCalls.{KeepsOccupied, FillsVacant, IsVacantPast, RecountsOccupied, KeepsOthers, ChangesCount, FailsPastLimit};
     ghost use Rattle.hashbag_core.specs.Lending.{rests_if_refused};
 
     /// Returns the stored instance if the entry is occupied, else the given value.
@@ -77,7 +77,7 @@ impl<'a, T: Eq + Hash + Drop, S: BuildHasher + Drop> Entry<'a, T, S> {
         }
     }
 
-    /// Calls `f` on a copy of the count, and sets the count to the number that it leaves. On a vacant entry `f` isn't called.
+    /// Calls `f` on a copy of the count, and sets the count to the number that `f` leaves there. On a vacant entry `f` isn't called.
     ///
     /// If `f` leaves 0, the value is removed, its stored instance is dropped, and the entry is vacant with the given value.
     ///
@@ -108,16 +108,16 @@ impl<'a, T: Eq + Hash + Drop, S: BuildHasher + Drop> Entry<'a, T, S> {
         ensures same_bag { IfOk result (λ e. e.bag.ghost_name ≡ self.entry.bag.ghost_name) }
         ensures same_value { IfOk result (λ e. e.value ≡ self.entry.value) }
 
-        // A vacant entry is unchanged. An occupied one has the count that `f` left. If the call failed, the total with that count would
-        // pass the limit.
+        // If the entry is vacant, the bag is unchanged. If it is occupied, the value has the count that `f` left. If the call failed, the total with
+        // that count would pass the limit.
         ensures changes { IfOk result (λ e. ChangesCount T.eq F.FnOnce f self.entry.value self.entry.bag.now e.bag.now) }
-        ensures passes { IfErr result (λ e. (e ≡ BagError.TooMany) × PassesLimit T.eq F.FnOnce f self.entry.value self.entry.bag.now) }
+        ensures passes { IfErr result (FailsPastLimit T.eq F.FnOnce f self.entry.value self.entry.bag.now) }
 
-        // The other values have as many occurrences together as before.
+        // The other values together have as many occurrences as before.
         ensures len { IfOk result (λ e. KeepsOthers T.eq self.entry.value self.entry.bag.now e.bag.now) }
 
-        // The slot of an occupied entry alone changed, no table was built, and room isn't lower.
-        ensures slot { IfOk result (λ e. IsOccupied T.eq self.entry → RecountsAs T.eq self.entry.value self.entry.bag.now e.bag.now) }
+        // If the entry is occupied, only the slot of its value changed. No table was built, and room isn't lower.
+        ensures slot { IfOk result (λ e. RecountsOccupied T.eq self.entry e.bag.now) }
         ensures room { IfOk result (λ e. KeepsRoom 0 self.entry.bag.now.tables e.bag.now.tables) }
 
         // If it failed, the bag is unchanged once the loan is over.
@@ -157,16 +157,17 @@ impl<'a, T: Eq + Hash + Drop, S: BuildHasher + Drop> Entry<'a, T, S> {
     /// Ok(())
     /// ```
     pub fn or_insert(self) -> Result<usize, BagError>
-        ensures occupied { IsOccupied T.eq self.entry → (result ≡ Ok (entry_count T.eq self.entry)) × (self.exit.0.now ≡ self.entry.bag.now) }
-        ensures vacant { IsVacant T.eq self.entry → IfOk result (λ after. (after ≡ 1) × Inserts T.eq self.entry.value 1 self.entry.bag.now self.exit.0.now) }
+        // Occupied: the count is returned, and the bag is unchanged. Vacant: on success the value is inserted once, and 1 is returned.
+        ensures occupied { KeepsOccupied T.eq self.entry result self.exit.0.now }
+        ensures vacant { FillsVacant T.eq 1 self.entry result self.exit.0.now }
 
         // When it fails, as under `# Errors`.
-        ensures too_many { (result ≡ Err BagError.TooMany) ↔ (IsVacant T.eq self.entry × (self.entry.bag.now.most < length self.entry.bag.now.items + 1)) }
+        ensures too_many { (result ≡ Err BagError.TooMany) ↔ IsVacantPast T.eq 1 self.entry }
         ensures refused { IfErr result (IsRefused T.eq self.entry.bag.now self.entry.value 1) }
         ensures err { OnErr result (self.exit.0.now ≡ self.entry.bag.now) }
 
         // If the total fits with one more, it succeeds if there is room.
-        ensures takes { length self.entry.bag.now.items + 1 ≤ self.entry.bag.now.most → 0 < room self.entry.bag.now.tables → IsOk result }
+        ensures takes { FitsLimit 1 self.entry.bag.now → 0 < room self.entry.bag.now.tables → IsOk result }
     {
         self.or_insert_many(1)
     }
@@ -196,17 +197,18 @@ impl<'a, T: Eq + Hash + Drop, S: BuildHasher + Drop> Entry<'a, T, S> {
     /// Ok(())
     /// ```
     pub fn or_insert_many(self, quantity: usize) -> Result<usize, BagError>
-        ensures occupied { IsOccupied T.eq self.entry → (result ≡ Ok (entry_count T.eq self.entry)) × (self.exit.0.now ≡ self.entry.bag.now) }
-        ensures vacant { IsVacant T.eq self.entry → IfOk result (λ after. (after ≡ quantity) × Inserts T.eq self.entry.value quantity self.entry.bag.now self.exit.0.now) }
+        // Occupied: the count is returned, and the bag is unchanged. Vacant: on success `quantity` of the value are inserted, and `quantity` is returned.
+        ensures occupied { KeepsOccupied T.eq self.entry result self.exit.0.now }
+        ensures vacant { FillsVacant T.eq quantity self.entry result self.exit.0.now }
         ensures none { quantity ≡ 0 → IsOk result × (self.exit.0.now ≡ self.entry.bag.now) }
 
         // When it fails, as under `# Errors`.
-        ensures too_many { (result ≡ Err BagError.TooMany) ↔ (IsVacant T.eq self.entry × (self.entry.bag.now.most < length self.entry.bag.now.items + quantity)) }
+        ensures too_many { (result ≡ Err BagError.TooMany) ↔ IsVacantPast T.eq quantity self.entry }
         ensures refused { IfErr result (IsRefused T.eq self.entry.bag.now self.entry.value quantity) }
         ensures err { OnErr result (self.exit.0.now ≡ self.entry.bag.now) }
 
         // If the total fits with `quantity` more, it succeeds if there is room.
-        ensures takes { length self.entry.bag.now.items + quantity ≤ self.entry.bag.now.most → 0 < room self.entry.bag.now.tables → IsOk result }
+        ensures takes { FitsLimit quantity self.entry.bag.now → 0 < room self.entry.bag.now.tables → IsOk result }
     {
         let Entry { bag, value } = self;
         let before = bag.contains(&value);

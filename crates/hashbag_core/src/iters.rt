@@ -1,6 +1,9 @@
 //! Walks over a bag: what it holds, one after another.
 //!
 //! A walk gives the values in no particular order. It knows how many items are left, and after the last one it gives `None` for good.
+//!
+//! In clauses `YieldsFirst (λ s. s)` says that a walk is its list of what is left, and `next` gives the first of it. `lower` and `upper` are
+//! the clauses of the trait: the bounds hold of the number of items left.
 ghost use Rattle.std.specs.Prelude.{◌≡◌, length, Some, IfSome, ⊤};
 ghost use Rattle.std.specs.Borrow.{sem};
 ghost use Rattle.std.specs.Iterator.{YieldsFirst, YieldsFirstBy, YieldsFirstRef, item_count, at_most, UpTo};
@@ -21,11 +24,11 @@ use std::marker::Model;
 /// Contracts see it as the list of the occurrences that are left.
 #[derive(Drop)]
 pub struct Iter<'a, T> {
-    // The entries after that of the present value.
+    // The entries after the current one.
     walk: Walk<'a, T>,
-    // The present value, and how many of its occurrences are left.
+    // The current value, and how many of its occurrences are left.
     at: Option<(&'a T, usize)>,
-    // How many occurrences are left, of all values.
+    // How many occurrences of all values are left.
     to_come: usize,
 }
 
@@ -225,8 +228,7 @@ impl<'a, T: Drop> ExactSizeIterator for Drain<'a, T> {
 }
 
 impl<'a, T> Drain<'a, T> {
-    /// Returns a walk over what is left, which lends it, and leaves this walk where it is. It doesn't allocate and hashes nothing, here and
-    /// at each step.
+    /// Returns a walk over references to what is left. This walk doesn't advance. Neither this call nor a step of either walk allocates or hashes.
     ///
     /// # Examples
     ///
@@ -303,8 +305,7 @@ impl<T: Drop> ExactSizeIterator for IntoIter<T> {
 }
 
 impl<T> IntoIter<T> {
-    /// Returns a walk over what is left, which lends it, and leaves this walk where it is. It doesn't allocate and hashes nothing, here and
-    /// at each step.
+    /// Returns a walk over references to what is left. This walk doesn't advance. Neither this call nor a step of either walk allocates or hashes.
     ///
     /// # Examples
     ///
@@ -333,12 +334,12 @@ impl<T: Debug> Debug for IntoIter<T> {
 }
 
 impl<T: Eq + Hash + Drop, S: BuildHasher + Drop> HashBag<T, S> {
-    /// Walks over the occurrences, of which there are `len()`. A value is given once for each of its occurrences, as the stored instance,
-    /// before the next value is.
+    /// Walks over the occurrences, of which there are `len()`. All occurrences of a value are given, each as the stored instance, before the next
+    /// value.
     ///
     /// # Complexity
     ///
-    /// It doesn't allocate and hashes nothing, here and at each step.
+    /// Neither this call nor a step of the walk allocates or hashes.
     ///
     /// # Examples
     ///
@@ -365,7 +366,7 @@ impl<T: Eq + Hash + Drop, S: BuildHasher + Drop> HashBag<T, S> {
     ///
     /// # Complexity
     ///
-    /// It doesn't allocate and hashes nothing, here and at each step.
+    /// Neither this call nor a step of the walk allocates or hashes.
     ///
     /// # Examples
     ///
@@ -390,12 +391,11 @@ impl<T: Eq + Hash + Drop, S: BuildHasher + Drop> HashBag<T, S> {
 
     /// Removes everything, and walks over the distinct values: each stored instance once, by value, with its count.
     ///
-    /// The bag is empty at once, has no slots, and keeps its state, however many values are read. The unread ones are dropped with the
-    /// walk.
+    /// The bag is empty at once, has no slots, and keeps its state, however many values are then read. Unread values are dropped with the walk.
     ///
     /// # Complexity
     ///
-    /// It doesn't allocate and hashes nothing, here and at each step.
+    /// Neither this call nor a step of the walk allocates or hashes.
     ///
     /// # Examples
     ///
@@ -408,7 +408,7 @@ impl<T: Eq + Hash + Drop, S: BuildHasher + Drop> HashBag<T, S> {
     /// Ok(())
     /// ```
     pub fn drain(&mut self) -> Drain<'_, T>
-        // Once the loan is over, the bag has no occurrences and no slots, and the same state and limit.
+        // Once the loan is over, the bag has no occurrences and no slots. It has the same state and limit as before.
         ensures* ends_empty { sem 𝓛 (follows_drain T.row S.row S.Hasher.row T.Hash S.BuildHasher S.Hasher.Hasher self.entry (drain_name result)) }
 
         // The walk gives each value that was in the bag once, with its count.
@@ -460,7 +460,7 @@ impl<T: Eq + Hash + Drop, S: BuildHasher + Drop> IntoIterator for HashBag<T, S> 
     ///
     /// # Complexity
     ///
-    /// It doesn't allocate and hashes nothing, here and at each step.
+    /// Neither this call nor a step of the walk allocates or hashes.
     ///
     /// # Examples
     ///

@@ -1,8 +1,10 @@
-//! Joins of two bags of the same type of values: what each value's counts in the two are, and how they differ.
+//! Joins of two bags of the same type of values: the counts of each value in both bags, and how they differ.
 //!
 //! The states that hash the values of the two bags may be of different types: a join looks a value up in a bag under that bag's own state.
-//! A join gives the values in no particular order, but an outer join gives those of the first bag first. After its end it gives `None` for
+//! A join gives the values in no particular order, but an outer join first gives the values of the first bag. After its end a join gives `None` for
 //! good.
+//!
+//! In clauses `lower` and `upper` are the clauses of the trait: the bounds hold of the number of items left.
 ghost use Rattle.std.specs.Prelude.{◌≡◌, List, pos, ◌-ℤ◌, length, IfSome};
 ghost use Rattle.std.specs.Iterator.{YieldsFirstBy, item_count, at_most, UpTo};
 ghost use Rattle.std.specs.Iterator.SizeHint.{IsWithinCount};
@@ -113,7 +115,7 @@ impl<'a, T: Eq + Hash + Drop, S: BuildHasher + Drop, S2: BuildHasher + Drop> Ite
     }
 }
 
-/// The values of two bags, each with both counts, those of the first bag first: [`HashBag::outer_join`].
+/// The values of two bags, each with both counts, the values of the first bag first: [`HashBag::outer_join`].
 ///
 /// Contracts see it as the list of what is left.
 #[derive(Drop)]
@@ -152,7 +154,7 @@ impl<'a, T: Eq + Hash + Drop, S: BuildHasher + Drop, S2: BuildHasher + Drop> Ite
         Some((value, 0, count))
     }
 
-    /// Returns how many values of the first bag weren't looked up yet, and how many of both bags.
+    /// Returns as the bounds how many values of the first bag weren't looked up yet, and how many values of both bags.
     fn size_hint(&self) -> (usize, Option<usize>)
         ensures lower { IsWithinCount result.0 (at_most (length self.now)) }
         ensures upper { IfSome result.1 (UpTo (at_most (length self.now))) }
@@ -243,7 +245,7 @@ impl<'a, T: Eq + Hash + Drop, S: BuildHasher + Drop, S2: BuildHasher + Drop> Ite
 impl<T: Eq + Hash + Drop, S: BuildHasher + Drop> HashBag<T, S> {
     /// Gives every value that either bag has, once, with its count in this bag and its count in the other.
     ///
-    /// All values of this bag are given first, as this bag's instances; then those that the other bag alone has, as its instances.
+    /// All values of this bag are given first, as this bag's instances; then the values that only the other bag has, as its instances.
     ///
     /// # Complexity
     ///

@@ -1,14 +1,13 @@
 //! Bags as JSON trees: an array of pairs of an item and its count, within an object with the limit if that isn't `usize::MAX`.
-ghost use Rattle.std.specs.Prelude.{◌≡◌, ◌≢◌, ◌↔◌, ℕ, List, map, min, Bool, true, false, None, Some, option_map, IfOk, OnOk, IfErr};
-ghost use Rattle.std.specs.List.{AllZip};
+ghost use Rattle.std.specs.Prelude.{◌≡◌, ◌↔◌, ℕ, map, min, Bool, true, false, None, Some, option_map, IfOk, OnOk, IfErr};
 ghost use Rattle.std.specs.Result.{result_map_both};
 ghost use Rattle.serde_json.specs.Data.{Data};
 ghost use Rattle.serde_json.specs.View.{view, members_view};
 ghost use Rattle.serde_json.specs.declared.value.Value.{Value};
 ghost use Rattle.serde_json.specs.Written.{has_float};
-ghost use Rattle.hashbag_core.specs.Inserts.{Inserts, IsMadeOf};
-ghost use Rattle.hashbag_core.specs.JsonFaults.{has_no_other, opened, limit_of, pair_of, first_fault, fault, fault_after, IsCountedItem, MayEnd, MayEndAmong};
-ghost use Rattle.hashbag_core.specs.JsonTrees.{IsPair, IsReading};
+ghost use Rattle.hashbag_core.specs.Inserts.{Inserts};
+ghost use Rattle.hashbag_core.specs.JsonFaults.{has_no_other, opened, limit_of, pair_of, first_fault, fault, fault_after, IsFault, IsCountedItem, MayRunOut, MayRunOutAmong};
+ghost use Rattle.hashbag_core.specs.JsonTrees.{IsPair, IsMadeOfTree, IsMadeOfTrees};
 ghost use Rattle.hashbag_core.specs.Occurrences.{greatest_total, IsBag};
 
 mod items;
@@ -25,7 +24,7 @@ use thiserror::Error;
 /// Why a tree can't be read as an item.
 #[derive(Clone, Copy, Debug, PartialEq, Eq, Error)]
 pub enum ItemError {
-    /// The tree isn't that of an item.
+    /// The tree isn't the tree of an item.
     #[error("not an item")]
     NotAnItem,
     /// An allocation failed.
@@ -120,10 +119,10 @@ impl JsonError {
 
 /// Values that are written as JSON trees and read back.
 ///
-/// An implementation defines for contracts which values are items, which tree an item has, which trees have an item, and when a tree is
-/// read as an item. It proves that these agree with `==` and with one another. For a type that is written as a string, [`JsonText`] asks for less.
+/// An implementation defines for contracts which values are items, which tree an item has, which trees have an item, and when a tree is read as an
+/// item. It proves that these agree with `==` and with one another. For a type that is written as a string, [`JsonText`] asks for less.
 pub trait JsonItem: Eq + Sized {
-    /// Holds of the values of the type.
+    /// Which values of the logic are values of the type: for `u64`, the numbers below 2^64.
     ghost is_item: { Self → Type 0 };
 
     /// The tree of an item.
@@ -190,7 +189,7 @@ pub trait JsonItem: Eq + Sized {
     /// What the tree of an item is read as equals that item.
     ghost reads_back: { (x y : Self) → is_item x → reads (tree_of x) y → Self.eq x y ≡ true };
 
-    /// Any two items as which one tree is read are equal.
+    /// If one tree is read as two items, these are equal.
     ghost reads_one: { (d : Data) (x y : Self) → is_item x → is_item y → reads d x → reads d y → Self.eq x y ≡ true };
 
     /// No item's tree holds a float.
@@ -210,7 +209,7 @@ fn has_two_names(members: &Map<String, Value>) -> bool
     true
 }
 
-// Returns the limit of a tree and its pairs.
+// Returns the limit of a tree, and the trees of its pairs.
 fn limit_and_pairs(tree: &Value) -> Result<(usize, &Vec<Value>), JsonError>
     ensures { result_map_both (λ p. (p.0, map view p.1.now.items)) (λ e. e) result ≡ opened (view tree.now) }
 {
@@ -243,7 +242,7 @@ fn parts_of(pair: &Value) -> Option<(&Value, &Value)>
     Some((&list[0], &list[1]))
 }
 
-// Reads the pair with this number, and inserts its item as often as its count.
+// Reads the pair with this number, and inserts its item as often as the count of the pair says.
 fn read_pair<T: JsonItem + Hash + Drop, S: BuildHasher + Drop>(
     alloc: Global,
     bag: &mut HashBag<T, S>,
@@ -252,8 +251,8 @@ fn read_pair<T: JsonItem + Hash + Drop, S: BuildHasher + Drop>(
 ) -> Result<(), JsonError>
     ensures no_fault { OnOk result (fault_after T.has_item number bag.old (view pair.now) ≡ None) }
     ensures read { OnOk result ((p : T × ℕ) × IsPair T.reads (view pair.now) p × Inserts T.eq p.0 p.1 bag.old bag.new) }
-    ensures fault { IfErr result (λ e. e ≢ JsonError.Memory → fault_after T.has_item number bag.old (view pair.now) ≡ Some e) }
-    ensures may_end { IfErr result (λ e. e ≡ JsonError.Memory → IsCountedItem T.has_item (view pair.now)) }
+    ensures fault { IfErr result (IsFault (fault_after T.has_item number bag.old (view pair.now))) }
+    ensures may_run_out { IfErr result (λ e. e ≡ JsonError.Memory → IsCountedItem T.has_item (view pair.now)) }
 {
     let Some((tree, count)) = parts_of(pair) else {
         return Err(JsonError::NotAPair(number));
@@ -282,14 +281,14 @@ impl<T: JsonItem + Hash + Drop, S: BuildHasher + Drop> HashBag<T, S> {
         list: &Vec<Value>,
     ) -> Result<HashBag<T, S>, JsonError>
         ensures no_fault { OnOk result (first_fault most T.has_item 0 0 (map view list.now.items) ≡ None) }
-        ensures read { IfOk result (λ bag. (pairs : List (T × ℕ)) × AllZip (IsPair T.reads) (map view list.now.items) pairs × IsMadeOf T.eq pairs bag) }
+        ensures read { IfOk result (IsMadeOfTrees T.eq T.reads (map view list.now.items)) }
         ensures limit { IfOk result (λ bag. bag.most ≡ most) }
         ensures bag { IfOk result (λ bag. IsBag T.eq bag.most bag.items) }
         ensures hasher { IfOk result (λ bag. bag.hasher ≡ state) }
 
-        // An error is the first fault. `Memory` comes only at a pair with a count and an item, with no fault before it.
-        ensures fault { IfErr result (λ e. e ≢ JsonError.Memory → first_fault most T.has_item 0 0 (map view list.now.items) ≡ Some e) }
-        ensures may_end { IfErr result (λ e. e ≡ JsonError.Memory → MayEndAmong most T.has_item (map view list.now.items)) }
+        // An error is the first fault, or `Memory`. `Memory` is returned only at a pair with a count and an item, if no pair before has a fault.
+        ensures fault { IfErr result (IsFault (first_fault most T.has_item 0 0 (map view list.now.items))) }
+        ensures may_run_out { IfErr result (λ e. e ≡ JsonError.Memory → MayRunOutAmong most T.has_item (map view list.now.items)) }
     {
         let mut bag = HashBag::with_limit(alloc, state, most);
         for (number, pair) in list.iter().enumerate() {
@@ -330,18 +329,18 @@ impl<T: JsonItem + Hash + Drop, S: BuildHasher + Drop> HashBag<T, S> {
         most: usize,
         tree: &Value,
     ) -> Result<HashBag<T, S>, JsonError>
-        // On success the tree has no fault, and its pairs, inserted in turn into an empty bag, made this bag.
+        // On success the tree has no fault. Its pairs were inserted in turn into an empty bag, and this bag is what they left.
         ensures no_fault { OnOk result (fault most T.has_item (view tree.now) ≡ None) }
-        ensures read { IfOk result (λ bag. (pairs : List (T × ℕ)) × IsReading T.reads (view tree.now) pairs × IsMadeOf T.eq pairs bag) }
+        ensures read { IfOk result (IsMadeOfTree T.eq T.reads (view tree.now)) }
 
-        // The limit is the lesser one. The total is within it, and equal occurrences are one instance.
+        // The limit is the lesser of the two. The total is within it, and equal occurrences are one instance.
         ensures limit { IfOk result (λ bag. bag.most ≡ min most (limit_of (view tree.now))) }
         ensures bag { IfOk result (λ bag. IsBag T.eq bag.most bag.items) }
         ensures hasher { IfOk result (λ bag. bag.hasher ≡ state) }
 
-        // An error is the first fault. `Memory` comes only at a pair with a count and an item, with no fault before it.
-        ensures fault { IfErr result (λ e. e ≢ JsonError.Memory → fault most T.has_item (view tree.now) ≡ Some e) }
-        ensures may_end { IfErr result (λ e. e ≡ JsonError.Memory → MayEnd most T.has_item (view tree.now)) }
+        // An error is the first fault, or `Memory`. `Memory` is returned only at a pair with a count and an item, if there is no fault before.
+        ensures fault { IfErr result (IsFault (fault most T.has_item (view tree.now))) }
+        ensures may_run_out { IfErr result (λ e. e ≡ JsonError.Memory → MayRunOut most T.has_item (view tree.now)) }
     {
         match limit_and_pairs(tree) {
             Ok((limit, pairs)) => HashBag::from_pairs(alloc, state, most.min(limit), pairs),
@@ -372,12 +371,12 @@ impl<T: JsonItem + Hash + Drop, S: BuildHasher + Drop> HashBag<T, S> {
         S: Default,
         // Same as [`HashBag::from_value_with_hasher`], but the state is the default.
         ensures no_fault { OnOk result (fault most T.has_item (view tree.now) ≡ None) }
-        ensures read { IfOk result (λ bag. (pairs : List (T × ℕ)) × IsReading T.reads (view tree.now) pairs × IsMadeOf T.eq pairs bag) }
+        ensures read { IfOk result (IsMadeOfTree T.eq T.reads (view tree.now)) }
         ensures limit { IfOk result (λ bag. bag.most ≡ min most (limit_of (view tree.now))) }
         ensures bag { IfOk result (λ bag. IsBag T.eq bag.most bag.items) }
         ensures hasher { IfOk result (λ bag. S.is_default bag.hasher) }
-        ensures fault { IfErr result (λ e. e ≢ JsonError.Memory → fault most T.has_item (view tree.now) ≡ Some e) }
-        ensures may_end { IfErr result (λ e. e ≡ JsonError.Memory → MayEnd most T.has_item (view tree.now)) }
+        ensures fault { IfErr result (IsFault (fault most T.has_item (view tree.now))) }
+        ensures may_run_out { IfErr result (λ e. e ≡ JsonError.Memory → MayRunOut most T.has_item (view tree.now)) }
     {
         HashBag::from_value_with_hasher(alloc, S::default(), most, tree)
     }
@@ -402,12 +401,12 @@ impl<T: JsonItem + Hash + Drop, S: BuildHasher + Drop> HashBag<T, S> {
         S: Default,
         // Same as [`HashBag::from_value_with_hasher`], but the state is the default, and the limit is that of the tree.
         ensures no_fault { OnOk result (fault greatest_total T.has_item (view tree.now) ≡ None) }
-        ensures read { IfOk result (λ bag. (pairs : List (T × ℕ)) × IsReading T.reads (view tree.now) pairs × IsMadeOf T.eq pairs bag) }
+        ensures read { IfOk result (IsMadeOfTree T.eq T.reads (view tree.now)) }
         ensures limit { IfOk result (λ bag. bag.most ≡ limit_of (view tree.now)) }
         ensures bag { IfOk result (λ bag. IsBag T.eq bag.most bag.items) }
         ensures hasher { IfOk result (λ bag. S.is_default bag.hasher) }
-        ensures fault { IfErr result (λ e. e ≢ JsonError.Memory → fault greatest_total T.has_item (view tree.now) ≡ Some e) }
-        ensures may_end { IfErr result (λ e. e ≡ JsonError.Memory → MayEnd greatest_total T.has_item (view tree.now)) }
+        ensures fault { IfErr result (IsFault (fault greatest_total T.has_item (view tree.now))) }
+        ensures may_run_out { IfErr result (λ e. e ≡ JsonError.Memory → MayRunOut greatest_total T.has_item (view tree.now)) }
     {
         HashBag::from_value_within(alloc, usize::MAX, tree)
     }

@@ -49,27 +49,26 @@ module _ {T : Type 0} {eq : T → T → Bool} (laws : IsEquivalence eq) (many : 
       let none : m ≡ 0 = omega arith in
       sym (ap (λ (k : ℕ). replicate k v ++ occurrences es) none)
 
+  -- n of x before a list
+  copies_first : (v x : T) (n : ℕ) (X : List T) (b : Bool) → eq v x ≡ b → count eq v (replicate n x ++ X) ≡ cond b n 0 + count eq v X
+  copies_first v x n X b is = count_append laws v (replicate n x) X ∙ ap (λ (k : ℕ). k + count eq v X) (copies v x n b is)
+
   kept_step : (v : T) (e : T × ℕ) (es rest : List (T × ℕ)) (b : Bool) → eq v e.0 ≡ b → count eq e.0 (occurrences es) ≡ 0
       → count eq v (occurrences rest) ≡ min (many v (count eq v (occurrences es))) (count eq v (occurrences es))
       → count eq v (replicate (min (many e.0 e.1) e.1) e.0 ++ occurrences rest) ≡ min (many v (count eq v (replicate e.1 e.0 ++ occurrences es))) (count eq v (replicate e.1 e.0 ++ occurrences es))
   kept_step v e es rest true same absent later =
       let m = min (many e.0 e.1) e.1 in
-      let parts = count_append laws v (replicate m e.0) (occurrences rest) in
-      let kept_copies : count eq v (replicate m e.0) ≡ m = copies v e.0 m true same in
-      let parts_before = count_append laws v (replicate e.1 e.0) (occurrences es) in
-      let copies_before : count eq v (replicate e.1 e.0) ≡ e.1 = copies v e.0 e.1 true same in
+      let now = copies_first v e.0 m (occurrences rest) true same in
+      let before = copies_first v e.0 e.1 (occurrences es) true same in
       let none : count eq v (occurrences es) ≡ 0 = count_congr laws (occurrences es) v e.0 same ∙ absent in
-      let all : count eq v (replicate e.1 e.0 ++ occurrences es) ≡ e.1 = omega arith in
-      let whole : count eq v (replicate m e.0 ++ occurrences rest) ≡ m = omega arith in
+      let all : count eq v (replicate e.1 e.0 ++ occurrences es) ≡ e.1 = omega (arith, before, none) in
+      let whole : count eq v (replicate m e.0 ++ occurrences rest) ≡ m = omega (arith, now, later, none) in
       whole ∙ ap (λ (k : ℕ). min k e.1) (sym (congr v e.0 e.1 same)) ∙ sym (ap (λ (k : ℕ). min (many v k) k) all)
   kept_step v e es rest false other absent later =
-      let m = min (many e.0 e.1) e.1 in
-      let parts = count_append laws v (replicate m e.0) (occurrences rest) in
-      let kept_copies : count eq v (replicate m e.0) ≡ 0 = copies v e.0 m false other in
-      let parts_before = count_append laws v (replicate e.1 e.0) (occurrences es) in
-      let copies_before : count eq v (replicate e.1 e.0) ≡ 0 = copies v e.0 e.1 false other in
-      let all : count eq v (replicate e.1 e.0 ++ occurrences es) ≡ count eq v (occurrences es) = omega arith in
-      let whole : count eq v (replicate m e.0 ++ occurrences rest) ≡ count eq v (occurrences rest) = omega arith in
+      let now = copies_first v e.0 (min (many e.0 e.1) e.1) (occurrences rest) false other in
+      let before = copies_first v e.0 e.1 (occurrences es) false other in
+      let all : count eq v (replicate e.1 e.0 ++ occurrences es) ≡ count eq v (occurrences es) = omega (arith, before) in
+      let whole : count eq v (replicate (min (many e.0 e.1) e.1) e.0 ++ occurrences rest) ≡ count eq v (occurrences rest) = omega (arith, now) in
       whole ∙ later ∙ sym (ap (λ (k : ℕ). min (many v k) k) all)
 
   count_of_kept : (v : T) (W : List (T × ℕ)) → IsDistinct eq (keys_of W) → count eq v (occurrences (kept W (map (λ e. many e.0 e.1) W))) ≡ min (many v (count eq v (occurrences W))) (count eq v (occurrences W))

@@ -1,7 +1,7 @@
 -- The values of one bag that another lacks: however they are listed, they are as many.
 use Rattle.std.proofs.Common.{◌≡◌, ℕ, suc, ◌≤◌, Bool, true, List, [], ◌∷◌, length, refl, ap, subst, arith}
 use Rattle.std.specs.Cmp.{IsEquivalence}
-use Rattle.std.specs.List.{Contains}
+use Rattle.std.specs.List.{IsDistinct, Contains}
 use Rattle.std.specs.Map.{keys_of}
 use Rattle.std.specs.Set.{is_member}
 use Rattle.std.proofs.lemmas.List.{length-map}
@@ -24,15 +24,21 @@ module _ {T : Type 0} {eq : T → T → Bool} (laws : IsEquivalence eq) where
       let at = onto found.1 (found.0, found.2, found.3) in
       list_any-from_Any (eq q) ys (at.0, found.1, at.1, at.2, found.4)
 
+  -- pairs of distinct values that are all in Z are no more than the items of Z
+  few_keys : (M : List (T × ℕ)) (Z : List T) → IsDistinct eq (keys_of M) → ((e : T × ℕ) → Contains M e → Contains Z e.0) → length M ≤ length Z
+  few_keys M Z once in_Z =
+      let onto : (x : T) → Contains (keys_of M) x → Contains Z x = λ x c.
+      let e = Contains-map_back (λ (e : T × ℕ). e.0) x M c in
+      subst (λ (y : T). Contains Z y) e.2 (in_Z e.0 e.1) in
+      let few = length-le_from_is_member laws (keys_of M) Z once (member_of_more (keys_of M) Z onto) in
+      let long = length-map M (λ (e : T × ℕ). e.0) in
+      omega (arith, few, long)
+
   pub no_longer : (X Y : List T) (M N : List (T × ℕ)) → IsNotIn eq X Y M → IsNotIn eq X Y N → length M ≤ length N
   no_longer X Y M N m n =
-      let onto : (x : T) → Contains (keys_of M) x → Contains (keys_of N) x = λ x c.
-      let e = Contains-map_back (λ (e : T × ℕ). e.0) x M c in
-      subst (λ (y : T). Contains (keys_of N) y) e.2 (Contains-map (λ (e : T × ℕ). e.0) e.0 N ((n.exactly e.0.0 e.0.1).1 ((m.exactly e.0.0 e.0.1).0 e.1))) in
-      let few = length-le_from_is_member laws (keys_of M) (keys_of N) m.once (member_of_more (keys_of M) (keys_of N) onto) in
-      let first = length-map M (λ (e : T × ℕ). e.0) in
-      let second = length-map N (λ (e : T × ℕ). e.0) in
-      omega (arith, few, first, second)
+      let few = few_keys M (keys_of N) m.once (λ e c. Contains-map (λ (x : T × ℕ). x.0) e N ((n.exactly e.0 e.1).1 ((m.exactly e.0 e.1).0 c))) in
+      let as_many = length-map N (λ (e : T × ℕ). e.0) in
+      omega (arith, few, as_many)
 
   pub as_long : (X Y : List T) (M N : List (T × ℕ)) → IsNotIn eq X Y M → IsNotIn eq X Y N → length M ≡ length N
   as_long X Y M N m n =
@@ -42,11 +48,4 @@ module _ {T : Type 0} {eq : T → T → Bool} (laws : IsEquivalence eq) where
 
   -- they are no more than the items
   pub no_more : (X Y : List T) (M : List (T × ℕ)) → IsNotIn eq X Y M → length M ≤ length X
-  no_more X Y M m =
-      let onto : (x : T) → Contains (keys_of M) x → Contains X x = λ x c.
-      let e = Contains-map_back (λ (e : T × ℕ). e.0) x M c in
-      let there = (m.exactly e.0.0 e.0.1).0 e.1 in
-      subst (λ (y : T). Contains X y) e.2 there.0 in
-      let few = length-le_from_is_member laws (keys_of M) X m.once (member_of_more (keys_of M) X onto) in
-      let first = length-map M (λ (e : T × ℕ). e.0) in
-      omega (arith, few, first)
+  no_more X Y M m = few_keys M X m.once (λ e c. ((m.exactly e.0 e.1).0 c).0)

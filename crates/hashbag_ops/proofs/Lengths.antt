@@ -16,6 +16,10 @@ module _ {T : Type 0} {eq : T → T → Bool} (laws : IsEquivalence eq) where
   counted : (u x : T) (X : List T) → count eq u (x ∷ X) ≡ one (eq u x) + count eq u X
   counted u x X = sum_by-cons (λ y. one (eq u y)) x X
 
+  -- v doesn't occur once more for an x that it doesn't equal
+  counted_other : (v x : T) (X : List T) → eq v x ≡ false → count eq v (x ∷ X) ≡ count eq v X
+  counted_other v x X other = let here = counted v x X in let none : one (eq v x) ≡ 0 = ap one other in omega (arith, here, none)
+
   one_fewer : (u v x : T) (X : List T) (b : Bool) → eq v x ≡ b → (0 < count eq v X → count eq u X ≡ count eq u (without_one v X) + one (eq u v)) → 0 < count eq v (x ∷ X)
       → count eq u (x ∷ X) ≡ count eq u (cond b X (x ∷ without_one v X)) + one (eq u v)
   one_fewer u v x X true same later some =
@@ -26,9 +30,8 @@ module _ {T : Type 0} {eq : T → T → Bool} (laws : IsEquivalence eq) where
   one_fewer u v x X false other later some =
       let here = counted u x X in
       let there = counted u x (without_one v X) in
-      let own = counted v x X in
-      let none : one (eq v x) ≡ 0 = ap one other in
-      let fewer = later (omega (arith, own, none, some)) in
+      let own = counted_other v x X other in
+      let fewer = later (omega (arith, own, some)) in
       omega (arith, here, there, fewer)
 
   count_without : (u v : T) (X : List T) → 0 < count eq v X → count eq u X ≡ count eq u (without_one v X) + one (eq u v)
@@ -38,9 +41,8 @@ module _ {T : Type 0} {eq : T → T → Bool} (laws : IsEquivalence eq) where
   one_shorter : (v x : T) (X : List T) (b : Bool) → eq v x ≡ b → (0 < count eq v X → length X ≡ suc (length (without_one v X))) → 0 < count eq v (x ∷ X) → suc (length X) ≡ suc (length (cond b X (x ∷ without_one v X)))
   one_shorter v x X true same later some = refl
   one_shorter v x X false other later some =
-      let own = counted v x X in
-      let none : one (eq v x) ≡ 0 = ap one other in
-      ap (λ n. suc n) (later (omega (arith, own, none, some)))
+      let own = counted_other v x X other in
+      ap (λ n. suc n) (later (omega (arith, own, some)))
 
   length_without : (v : T) (X : List T) → 0 < count eq v X → length X ≡ suc (length (without_one v X))
   length_without v [] some = absurd (omega arith)

@@ -1,4 +1,4 @@
--- The words of the lists of pairs that are sorted.
+-- Lists of pairs, sorted by the counts: their order, and the first of them.
 use Rattle.std.specs.Prelude.{◌≡◌, ℕ, ◌<◌, ◌≤◌, Bool, false, List, [], ◌∷◌, ◌++◌, length, map, take}
 use Rattle.std.specs.BinaryHeap.{heap_items}
 use Rattle.std.specs.Borrow.{Bor}
@@ -11,7 +11,7 @@ use Rattle.std.specs.declared.collections.BinaryHeap.{BinaryHeap}
 use Rattle.hashbag_core.specs.Bag.{Bag}
 use Rattle.hashbag_core.specs.Walks.{IsSetWalkOf}
 
--- the order of the most common: what occurs more often comes first, and of what occurs as often the lesser value
+-- the order of the most common: the greater count comes first, and among equal counts the lesser value
 abbrev pub rank : {T : Type 0} → (T → T → Ordering) → T × ℕ → T × ℕ → Ordering
 rank cmp x y = ordering_then (nat_cmp y.1 x.1) (cmp x.0 y.0)
 
@@ -31,18 +31,26 @@ pub record IsFirstOf {X : Type 0} (lt : X → X → Bool) (k : ℕ) (P H : List 
   pub full : length H < k → rest ≡ []
   pub first : AllByRecursion (λ r. AllByRecursion (λ h. lt r h ≡ false) H) rest
 
--- if H are the first k of what came so far, H' are the first k when x comes too
+-- if H are the first k of some pairs, H' are the first k of these pairs and x
 abbrev pub KeepsFirst : {X : Type 0} → (X → X → Bool) → ℕ → List X → X → List X → Type 0
 KeepsFirst {X} lt k H x H' = (P : List X) → IsFirstOf lt k P H → IsFirstOf lt k (P ++ x ∷ []) H'
 
--- the value and the count of a heap's item, which is a reversed count and a lent value. Such items are in the order of `rank`
+-- H are the first k of a set walk of the bag, in this order
+abbrev pub IsFirstOfBag : {T S : Type 0} → (T → T → Bool) → (T × ℕ → T × ℕ → Bool) → ℕ → Bag T S → List (T × ℕ) → Type 0
+IsFirstOfBag {T} eq lt k bag H = (V : List (T × ℕ)) × IsSetWalkOf eq bag V × IsFirstOf lt k V H
+
+-- the value and the count of a heap's item. The item is a reversed count and a lent value
 abbrev pub counted_pair : {T : Type 0} → Reverse ℕ × Bor T → T × ℕ
 counted_pair e = (e.1.now, e.0.0)
 
--- the order of such pairs: the most common first, and values that are equally common in their own order
+-- the order of such items: the most common first, and equally common values in their own order
 abbrev pub counted_cmp : {T : Type 0} → (T → T → Ordering) → Reverse ℕ × Bor T → Reverse ℕ × Bor T → Ordering
 counted_cmp cmp x y = rank cmp (counted_pair x) (counted_pair y)
 
 -- the pairs of a heap
 abbrev pub held : {T A : Type 0} → BinaryHeap (Reverse ℕ × Bor T) A → List (T × ℕ)
 held heap = map counted_pair (heap_items heap)
+
+-- `KeepsFirst` for the pairs of a heap, before and after, and the pair of one more item
+abbrev pub KeepsFirstHeld : {T A : Type 0} → (T × ℕ → T × ℕ → Bool) → ℕ → BinaryHeap (Reverse ℕ × Bor T) A → Reverse ℕ × Bor T → BinaryHeap (Reverse ℕ × Bor T) A → Type 0
+KeepsFirstHeld lt k old e new = KeepsFirst lt k (held old) (counted_pair e) (held new)

@@ -1,7 +1,15 @@
--- The word of the greater of two bags.
-use Rattle.std.specs.Prelude.{◌≡◌, max, Bool, List}
+-- Lists that combine the counts of two bags.
+use Rattle.std.specs.Prelude.{◌≡◌, ◌+◌, max, min, Bool, List}
 use Rattle.hashbag_core.specs.Occurrences.{count}
 
 -- Z is the union of X and Y: of each value it has the greater of both counts
 abbrev pub IsUnion : {T : Type 0} → (T → T → Bool) → List T → List T → List T → Type 0
 IsUnion {T} eq X Y Z = (v : T) → count eq v Z ≡ max (count eq v X) (count eq v Y)
+
+-- Z is the sum of X and Y: of each value it has both counts together
+abbrev pub IsSumOf : {T : Type 0} → (T → T → Bool) → List T → List T → List T → Type 0
+IsSumOf {T} eq X Y Z = (v : T) → count eq v Z ≡ count eq v X + count eq v Y
+
+-- Z is the intersection of X and Y: of each value it has the lesser of both counts
+abbrev pub IsIntersection : {T : Type 0} → (T → T → Bool) → List T → List T → List T → Type 0
+IsIntersection {T} eq X Y Z = (v : T) → count eq v Z ≡ min (count eq v X) (count eq v Y)

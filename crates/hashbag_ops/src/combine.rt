@@ -1,11 +1,11 @@
 //! Sums of two bags, and what one bag keeps of its own by comparison with another.
-ghost use Rattle.std.specs.Prelude.{◌≡◌, ℕ, ◌+◌, ◌-◌, ◌<◌, ◌≤◌, ◌↔◌, min, max, List, length, All, true, false, IfErr, OnOk, OnErr};
+ghost use Rattle.std.specs.Prelude.{◌≡◌, ℕ, ◌+◌, ◌-◌, ◌<◌, ◌≤◌, ◌↔◌, List, length, All, true, false, IfErr, OnOk, OnErr};
 ghost use Rattle.hashbag_core.specs.Joins.{IsNotIn};
 ghost use Rattle.hashbag_core.specs.Occurrences.{count, distinct_count};
 ghost use Rattle.hashbag_table.specs.Tables.{most_used, room};
-ghost use Rattle.hashbag_core.specs.Walks.{IsSetWalkOf};
-ghost use Rattle.hashbag_ops.specs.Lacked.{HasRoomForAll, HasRoomForLacked, HasMoreThanLackedBy};
-ghost use Rattle.hashbag_ops.specs.Unions.{IsUnion};
+ghost use Rattle.hashbag_core.specs.Held.{FitsLimit};
+ghost use Rattle.hashbag_ops.specs.Lacked.{HasRoomForLacked, HasRoomForBag, IfRoomForWalk, LacksMoreThan};
+ghost use Rattle.hashbag_ops.specs.Unions.{IsUnion, IsSumOf, IsIntersection};
 
 use hashbag_core::{BagError, HashBag, Spare};
 use std::hash::{BuildHasher, Hash};
@@ -16,8 +16,8 @@ use std::iter::ExactSizeIterator;
 /// Everything is added, or nothing. If a value is in both bags, the instance stored in `into` stays. The limit of `into` stays, and that of
 /// `from` doesn't matter.
 ///
-/// If `into` has room for the values that it lacks, its slots stay. Else it gets a table of slots that has room for the distinct values of
-/// both, or, if that one can't be allocated, for those that it lacks.
+/// If `into` has room for the values that it lacks, its slots stay. Else it gets a table of slots that has room for the distinct values of both bags.
+/// If that table can't be allocated, `into` gets one with room for the values that it lacks.
 ///
 /// # Errors
 ///
@@ -28,10 +28,12 @@ use std::iter::ExactSizeIterator;
 ///
 /// # Complexity
 ///
-/// Each distinct value of `from` is hashed once, and again if it is inserted when `into` has no room left. Those of `into` are hashed once
-/// if it gets other slots. If `into` isn't empty and might lack room, memory for the distinct values of both is allocated first. It is at
-/// most twice as much as is needed. If it isn't used, nothing is written to it before it is freed. If that allocation fails, each distinct
-/// value of `from` is hashed once more, to count those that `into` lacks.
+/// Each distinct value of `from` is hashed once, and again if it is inserted when `into` has no room left. The values of `into` are hashed once if it
+/// gets other slots.
+///
+/// If `into` isn't empty and might lack room, memory for the distinct values of both bags is allocated first. It is at most twice as much as is
+/// needed. If it isn't used, nothing is written to it before it is freed. If that allocation fails, each distinct value of `from` is hashed once
+/// more, to count the values that `into` lacks.
 ///
 /// # Examples
 ///
@@ -50,21 +52,21 @@ pub fn merge<T: Eq + Hash + Drop, S: BuildHasher + Drop, S2: BuildHasher + Drop>
     into: &mut HashBag<T, S>,
     from: HashBag<T, S2>,
 ) -> Result<(), BagError>
-    ensures counts { OnOk result ((v : T) → count T.eq v into.new.items ≡ count T.eq v into.old.items + count T.eq v from.items) }
+    ensures counts { OnOk result (IsSumOf T.eq into.old.items from.items into.new.items) }
     ensures len { OnOk result (length into.new.items ≡ length into.old.items + length from.items) }
     ensures limit { into.new.most ≡ into.old.most }
     ensures hasher { into.new.hasher ≡ into.old.hasher }
     ensures err { OnErr result (into.new ≡ into.old) }
 
-    // When it fails, as under `# Errors`. `full` says less than `lacks`, in simpler words.
+    // When it fails, as under `# Errors`. `lacks`: `into` lacks more values of `from` than it has room for. `full` says less, in simpler words.
     ensures too_many { (result ≡ Err BagError.TooMany) ↔ (into.old.most < length into.old.items + length from.items) }
-    ensures only_memory { length into.old.items + length from.items ≤ into.old.most → IfErr result (λ e. e ≡ BagError.Memory) }
+    ensures only_memory { FitsLimit (length from.items) into.old → IfErr result (λ e. e ≡ BagError.Memory) }
     ensures full { result ≡ Err BagError.Memory → room into.old.tables < distinct_count T.eq from.items }
-    ensures lacks { result ≡ Err BagError.Memory → HasMoreThanLackedBy T.eq (room into.old.tables) from.items into.old.items }
+    ensures lacks { result ≡ Err BagError.Memory → LacksMoreThan T.eq (room into.old.tables) into.old.items from.items }
 
     // There are no fewer slots. If there was room for the values that `into` lacked, no table was built.
     ensures slots { OnOk result (length into.old.tables.newer ≤ length into.new.tables.newer) }
-    ensures unbuilt { HasRoomForLacked T.eq from into.old.items into.old.tables → OnOk result (into.new.tables.built ≡ into.old.tables.built) }
+    ensures unbuilt { HasRoomForBag T.eq from into.old → OnOk result (into.new.tables.built ≡ into.old.tables.built) }
 {
     if from.len() > into.limit() - into.len() {
         return Err(BagError::TooMany);
@@ -92,7 +94,7 @@ fn has_no_room_for<T: Eq + Hash + Drop, S: BuildHasher + Drop>(
     bag.room() == 0 && bag.contains(value) == 0
 }
 
-// Inserts all of `from`. The spare slots replace those of `into` at the first absent value without room; else they are freed.
+// Inserts all of `from`. If an absent value arrives and there is no room, the spare slots replace the slots of `into`; else they are freed.
 fn insert_beside_spare<T: Eq + Hash + Drop, S: BuildHasher + Drop, S2: BuildHasher + Drop>(
     into: &mut HashBag<T, S>,
     from: HashBag<T, S2>,
@@ -101,12 +103,12 @@ fn insert_beside_spare<T: Eq + Hash + Drop, S: BuildHasher + Drop, S2: BuildHash
     requires fits { length into.old.items + length from.items ≤ into.old.most }
     requires enough { distinct_count T.eq into.old.items + distinct_count T.eq from.items ≤ most_used spare }
     requires larger { length into.old.tables.newer ≤ spare }
-    ensures counts { (v : T) → count T.eq v into.new.items ≡ count T.eq v into.old.items + count T.eq v from.items }
+    ensures counts { IsSumOf T.eq into.old.items from.items into.new.items }
     ensures len { length into.new.items ≡ length into.old.items + length from.items }
     ensures limit { into.new.most ≡ into.old.most }
     ensures hasher { into.new.hasher ≡ into.old.hasher }
     ensures slots { length into.old.tables.newer ≤ length into.new.tables.newer }
-    ensures unbuilt { HasRoomForLacked T.eq from into.old.items into.old.tables → into.new.tables.built ≡ into.old.tables.built }
+    ensures unbuilt { HasRoomForBag T.eq from into.old → into.new.tables.built ≡ into.old.tables.built }
 {
     // Only for the proof: it uses the clause `bag` of `len`.
     let _len = into.len();
@@ -122,7 +124,7 @@ fn insert_beside_spare<T: Eq + Hash + Drop, S: BuildHasher + Drop, S2: BuildHash
     }
 }
 
-// Makes room for the values of `from` that `into` lacks. They are counted only if there isn't room for all values of `from`.
+// Makes room for the values of `from` that `into` lacks. These values are counted only if there isn't room for all values of `from`.
 fn make_room<T: Eq + Hash + Drop, S: BuildHasher + Drop, S2: BuildHasher + Drop>(
     into: &mut HashBag<T, S>,
     from: &HashBag<T, S2>,
@@ -135,9 +137,9 @@ fn make_room<T: Eq + Hash + Drop, S: BuildHasher + Drop, S2: BuildHasher + Drop>
     ensures err { OnErr result (into.new ≡ into.old) }
     ensures memory { IfErr result (λ e. e ≡ BagError.Memory) }
     ensures full { OnErr result (room into.old.tables < distinct_count T.eq from.now.items) }
-    ensures lacks { OnErr result (HasMoreThanLackedBy T.eq (room into.old.tables) from.now.items into.old.items) }
+    ensures lacks { OnErr result (LacksMoreThan T.eq (room into.old.tables) into.old.items from.now.items) }
     ensures slots { length into.old.tables.newer ≤ length into.new.tables.newer }
-    ensures enough { (W : _) → IsSetWalkOf T.eq from.now W → HasRoomForAll T.eq W into.old.items into.old.tables → into.new ≡ into.old }
+    ensures enough { IfRoomForWalk T.eq from.now into.old (into.new ≡ into.old) }
 {
     if from.set_len() <= into.room() {
         return Ok(());
@@ -162,7 +164,7 @@ fn lacked_by<T: Eq + Hash + Drop, S: BuildHasher + Drop, S2: BuildHasher + Drop>
     from.not_in(bag).count()
 }
 
-/// Adds clones of all occurrences of a bag to another, and leaves the first as it is: [`merge`] of a copy.
+/// Adds clones of all occurrences of `from` to `into`, and leaves `from` unchanged: [`merge`] of a copy.
 ///
 /// The caller ensures that clones of the values equal them.
 ///
@@ -175,8 +177,8 @@ fn lacked_by<T: Eq + Hash + Drop, S: BuildHasher + Drop, S2: BuildHasher + Drop>
 ///
 /// # Complexity
 ///
-/// It allocates a copy of `from` while it runs. Each distinct value of `from` is hashed once more than by [`merge`], for that copy; each
-/// of `into` once if it grows.
+/// It allocates a copy of `from` while it runs. Each distinct value of `from` is hashed once more than by [`merge`], for the copy. Each of `into` is
+/// hashed once if `into` grows.
 ///
 /// # Examples
 ///
@@ -196,7 +198,7 @@ pub fn merge_ref<
     S2: BuildHasher + Clone + Drop,
 >(into: &mut HashBag<T, S>, from: &HashBag<T, S2>) -> Result<(), BagError>
     requires equal { All (λ x. (y : _) → T.is_clone x y → T.eq x y ≡ true) from.now.items }
-    ensures counts { OnOk result ((v : T) → count T.eq v into.new.items ≡ count T.eq v into.old.items + count T.eq v from.now.items) }
+    ensures counts { OnOk result (IsSumOf T.eq into.old.items from.now.items into.new.items) }
     ensures len { OnOk result (length into.new.items ≡ length into.old.items + length from.now.items) }
     ensures limit { into.new.most ≡ into.old.most }
     ensures hasher { into.new.hasher ≡ into.old.hasher }
@@ -204,7 +206,7 @@ pub fn merge_ref<
 
     // The total is tested first. Then only an allocation or a clone can fail.
     ensures too_many { (result ≡ Err BagError.TooMany) ↔ (into.old.most < length into.old.items + length from.now.items) }
-    ensures only_memory { length into.old.items + length from.now.items ≤ into.old.most → IfErr result (λ e. e ≡ BagError.Memory) }
+    ensures only_memory { FitsLimit (length from.now.items) into.old → IfErr result (λ e. e ≡ BagError.Memory) }
 {
     if into.limit() - into.len() < from.len() {
         return Err(BagError::TooMany);
@@ -213,8 +215,8 @@ pub fn merge_ref<
     merge(into, copy)
 }
 
-/// Keeps of each value as many as both bags have: the lesser of both counts. A value that `other` lacks is removed, and its instance
-/// dropped.
+/// Lowers each count in `bag` to the count in `other`, if that is less: of each value `bag` keeps as many as both bags have. A value that `other`
+/// lacks is removed, and its stored instance is dropped.
 ///
 /// # Complexity
 ///
@@ -237,7 +239,7 @@ pub fn keep_common<T: Eq + Hash + Drop, S: BuildHasher + Drop, S2: BuildHasher +
     bag: &mut HashBag<T, S>,
     other: &HashBag<T, S2>,
 )
-    ensures counts { (v : T) → count T.eq v bag.new.items ≡ min (count T.eq v bag.old.items) (count T.eq v other.now.items) }
+    ensures counts { IsIntersection T.eq bag.old.items other.now.items bag.new.items }
     ensures len { length bag.new.items ≤ length bag.old.items }
     ensures limit { bag.new.most ≡ bag.old.most }
     ensures hasher { bag.new.hasher ≡ bag.old.hasher }
@@ -253,11 +255,11 @@ pub fn keep_common<T: Eq + Hash + Drop, S: BuildHasher + Drop, S2: BuildHasher +
     );
 }
 
-/// Removes from a bag what another has: of each value as many as there are in `other`, or all if there are fewer.
+/// Lowers each count in `bag` by the count in `other`, to 0 at least. A value whose count becomes 0 is removed, and its stored instance is dropped.
 ///
 /// # Complexity
 ///
-/// It hashes each distinct value of one bag once: of `other` if that has fewer, else of `bag`. It doesn't allocate and can't fail.
+/// It hashes each distinct value of one of the bags once: of `other` if that bag has fewer, else of `bag`. It doesn't allocate and can't fail.
 ///
 /// # Examples
 ///
@@ -330,14 +332,14 @@ pub fn keep_most<T: Eq + Hash + Drop, S: BuildHasher + Drop, S2: BuildHasher + D
     into: &mut HashBag<T, S>,
     mut from: HashBag<T, S2>,
 ) -> Result<(), BagError>
-    ensures counts { OnOk result ((v : T) → count T.eq v into.new.items ≡ max (count T.eq v into.old.items) (count T.eq v from.items)) }
+    ensures counts { OnOk result (IsUnion T.eq into.old.items from.items into.new.items) }
     ensures len { OnOk result (length into.new.items ≤ length into.old.items + length from.items) }
     ensures limit { into.new.most ≡ into.old.most }
     ensures hasher { into.new.hasher ≡ into.old.hasher }
     ensures err { OnErr result (into.new ≡ into.old) }
 
     // If both totals together fit, only an allocation can fail.
-    ensures fits { length into.old.items + length from.items ≤ into.old.most → IfErr result (λ e. e ≡ BagError.Memory) }
+    ensures fits { FitsLimit (length from.items) into.old → IfErr result (λ e. e ≡ BagError.Memory) }
 
     // Z is any list with the greater counts: all of these are equally long.
     ensures too_many { (Z : List T) → IsUnion T.eq into.old.items from.items Z

@@ -5,7 +5,7 @@ ghost use Rattle.hashbag_core.specs.Occurrences.{count};
 use hashbag_core::HashBag;
 use std::hash::{BuildHasher, Hash};
 
-/// Returns whether a bag holds all of another: of each value at least as many as `other` has.
+/// Returns whether a bag has of each value at least as many as `other` has.
 ///
 /// # Complexity
 ///
@@ -35,8 +35,8 @@ pub fn contains_all<T: Eq + Hash + Drop, S: BuildHasher + Drop, S2: BuildHasher 
 ///
 /// # Complexity
 ///
-/// It walks over the bag that has fewer distinct values, hashes each at most once, and stops at the first that the other has too. It
-/// doesn't allocate.
+/// It walks over the bag with fewer distinct values, hashes each of these at most once, and stops at the first that the other bag has too. It doesn't
+/// allocate.
 ///
 /// # Examples
 ///
@@ -53,6 +53,7 @@ pub fn is_disjoint<T: Eq + Hash + Drop, S: BuildHasher + Drop, S2: BuildHasher +
     a: &HashBag<T, S>,
     b: &HashBag<T, S2>,
 ) -> bool
+    // It is true exactly if the lesser of the two counts is 0 for every value.
     ensures { IsTrue result ↔ ((v : T) → min (count T.eq v a.now.items) (count T.eq v b.now.items) ≡ 0) }
 {
     if a.set_len() <= b.set_len() {

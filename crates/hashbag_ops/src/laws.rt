@@ -1,7 +1,7 @@
-//! What follows from the contracts of several calls together: that bags may be merged in any order and in any groups, that what was merged
-//! can be taken away again, and that a list may be counted in parts.
+//! What follows from the contracts of several calls together: bags may be merged in any order and in any groups, what was merged can be taken away
+//! again, and a list may be counted in parts.
 //!
-//! Each is a function that is proved, which callers can copy.
+//! Each law is a function that is proved, which callers can copy.
 ghost use Rattle.std.specs.Prelude.{◌≡◌, ◌++◌, IsTrue, OnOk, IfOk};
 ghost use Rattle.hashbag_core.specs.Occurrences.{count, SameCounts};
 
@@ -10,7 +10,8 @@ use hashbag_core::{BagError, HashBag};
 use std::alloc::Global;
 use std::hash::{BuildHasher, Hash};
 
-/// Merges two bags, and two with the same counts the other way round, and returns whether the sums are equal: they are.
+/// Merges `b` into `a`, and `same_a` into `same_b`, and returns whether the two sums are equal. They are. `same_a` has the counts of `a`, and
+/// `same_b` those of `b`.
 ///
 /// # Errors
 ///
@@ -30,7 +31,8 @@ pub fn merges_commute<T: Eq + Hash + Drop, S: BuildHasher + Drop>(
     Ok(a == same_b)
 }
 
-/// Merges three bags from the left, and three with the same counts from the right, and returns whether the sums are equal: they are.
+/// Merges `b` and then `c` into `a`; and merges `same_c` into `same_b`, and the sum into `same_a`. Returns whether the two results are equal. They
+/// are. `same_a`, `same_b` and `same_c` have the counts of `a`, `b` and `c`.
 ///
 /// # Errors
 ///
@@ -55,7 +57,8 @@ pub fn merges_associate<T: Eq + Hash + Drop, S: BuildHasher + Drop>(
     Ok(a == same_a)
 }
 
-/// Merges a bag into another, and takes one with the same counts away again: each value then occurs as often as before.
+/// Merges `other` into `bag`, and takes `same` away from `bag`. `same` has the counts of `other`, so each value then occurs in `bag` as often as
+/// before.
 ///
 /// # Errors
 ///

@@ -1,5 +1,5 @@
-//! Operations on whole bags: sums, common parts, what is left of one bag after another is taken away, the greater of both, whether one
-//! holds all of another, the counts in the order of their values, and the most common.
+//! Operations on whole bags: sums, common parts, differences, the greater of both counts, whether one bag has all of another, the counts in the order
+//! of their values, and the most common values.
 //!
 //! Each contract is a sentence about counts: how often each value occurs afterwards, from how often it occurred before. What follows from
 //! several calls together is proved in [`laws`].

@@ -1,11 +1,11 @@
 //! The values of a bag with their counts, in the order of the values or by how often they occur.
-ghost use Rattle.std.specs.Prelude.{◌≡◌, ℕ, ◌<◌, ◌≤◌, List, map, IfOk, IfErr, OnOk};
+ghost use Rattle.std.specs.Prelude.{◌≡◌, ◌<◌, ◌≤◌, map, IfOk, IfErr, OnOk};
 ghost use Rattle.std.specs.BinaryHeap.{IsHeap, heap_items};
 ghost use Rattle.std.specs.List.Sorted.{IsStrictlySortedBy};
 ghost use Rattle.std.specs.Map.{keys_of};
 ghost use Rattle.hashbag_core.specs.Occurrences.{count};
 ghost use Rattle.hashbag_core.specs.Walks.{IsSetWalkOf, seen};
-ghost use Rattle.hashbag_ops.specs.Order.{rank, IsMostCommon, comes_first, counted_pair, counted_cmp, held, IsFirstOf, KeepsFirst};
+ghost use Rattle.hashbag_ops.specs.Order.{rank, IsMostCommon, comes_first, counted_cmp, held, IsFirstOfBag, KeepsFirstHeld};
 
 use hashbag_core::{BagError, HashBag};
 use std::alloc::{AllocError, Global};
@@ -36,6 +36,7 @@ pub fn counts<'a, T: Eq + Hash + Drop, S: BuildHasher + Drop>(
     alloc: Global,
     bag: &'a HashBag<T, S>,
 ) -> Result<Vec<(&'a T, usize)>, BagError>
+    // The list has each distinct value once, with its count. `seen` turns a reference to a value into the value.
     ensures walk { IfOk result (λ pairs. IsSetWalkOf T.eq bag.now (map seen pairs.items)) }
     ensures memory { IfErr result (λ e. e ≡ BagError.Memory) }
 {
@@ -48,8 +49,8 @@ pub fn counts<'a, T: Eq + Hash + Drop, S: BuildHasher + Drop>(
     Ok(list)
 }
 
-/// Returns the distinct values of a bag with their counts, values in ascending order. Bags with the same counts give lists with the same counts,
-/// whatever their history and states.
+/// Returns the distinct values of a bag with their counts, values in ascending order. Bags with the same counts give equal lists, whatever
+/// their history and states.
 ///
 /// # Errors
 ///
@@ -74,6 +75,7 @@ pub fn sorted<'a, T: Ord + Hash + Drop, S: BuildHasher + Drop>(
     alloc: Global,
     bag: &'a HashBag<T, S>,
 ) -> Result<Vec<(&'a T, usize)>, BagError>
+    // The list has each distinct value once, with its count, and the values ascend. `seen` turns a reference to a value into the value.
     ensures walk { IfOk result (λ pairs. IsSetWalkOf T.eq bag.now (map seen pairs.items)) }
     ensures rising { IfOk result (λ pairs. IsStrictlySortedBy T.cmp (keys_of (map seen pairs.items))) }
     ensures memory { IfErr result (λ e. e ≡ BagError.Memory) }
@@ -95,9 +97,9 @@ pub fn sorted<'a, T: Ord + Hash + Drop, S: BuildHasher + Drop>(
 /// It hashes nothing. Let there be n distinct values.
 ///
 /// - If `k` is at least n, it allocates a list of all pairs at once, and compares as often as a sort of them does.
-/// - Else it allocates a heap of `k` pairs at once, and then their list; nothing if `k` is 0. It compares each pair once with the last of
-///   the `k` that it has kept so far. If the pair replaces that one, it compares up to `3 * log2(k)` times more. To fill and to sort the
-///   heap it compares up to `3 * k * log2(k)` times.
+/// - Else it allocates a heap of `k` pairs at once, and then a list of these; nothing if `k` is 0. It compares each pair once with the last of the
+///   `k` pairs that it has kept so far. If the pair replaces that last one, it compares up to `3 * log2(k)` times more. To fill and to sort the heap
+///   it compares up to `3 * k * log2(k)` times.
 ///
 /// # Examples
 ///
@@ -116,6 +118,7 @@ pub fn most_common<'a, T: Ord + Hash + Drop, S: BuildHasher + Drop>(
     bag: &'a HashBag<T, S>,
     k: usize,
 ) -> Result<Vec<(&'a T, usize)>, BagError>
+    // The pairs are the first `k` of all in the order above, or all if there are fewer. `seen` turns a reference to a value into the value.
     ensures first { IfOk result (λ pairs. IsMostCommon T.eq T.cmp k bag.now (map seen pairs.items)) }
     ensures memory { IfErr result (λ e. e ≡ BagError.Memory) }
 {
@@ -147,7 +150,7 @@ pub fn most_common<'a, T: Ord + Hash + Drop, S: BuildHasher + Drop>(
 /// Ok(())
 /// ```
 pub fn max_count<T: Eq + Hash + Drop, S: BuildHasher + Drop>(bag: &HashBag<T, S>) -> usize
-    // No value occurs more often, and some value as often, unless the result is 0.
+    // No value occurs more often than the result. Unless the result is 0, some value occurs as often.
     ensures most { (v : T) → count T.eq v bag.now.items ≤ result }
     ensures reached { 0 < result → (v : T) × (count T.eq v bag.now.items ≡ result) }
 {
@@ -177,14 +180,14 @@ fn first_ranked<'a, T: Ord + Hash + Drop, S: BuildHasher + Drop>(
     Ok(pairs)
 }
 
-// Returns a heap of the first `k` by `rank`, the last of them on top. Room for all is allocated at once.
+// Returns a heap of the first `k` by descending count and then by value, the last of them on top. Room for all is allocated at once.
 fn heap_of_first<'a, T: Ord + Hash + Drop, S: BuildHasher + Drop>(
     alloc: Global,
     bag: &'a HashBag<T, S>,
     k: usize,
 ) -> Result<BinaryHeap<(Reverse<usize>, &'a T)>, BagError>
     ensures heap { IfOk result (λ heap. IsHeap (counted_cmp T.cmp) (heap_items heap)) }
-    ensures first { IfOk result (λ heap. (V : List (T × ℕ)) × IsSetWalkOf T.eq bag.now V × IsFirstOf (comes_first T.cmp) k V (held heap)) }
+    ensures first { IfOk result (λ heap. IsFirstOfBag T.eq (comes_first T.cmp) k bag.now (held heap)) }
     ensures memory { IfErr result (λ e. e ≡ BagError.Memory) }
 {
     let mut heap = BinaryHeap::with_capacity(alloc, k)?;
@@ -194,8 +197,8 @@ fn heap_of_first<'a, T: Ord + Hash + Drop, S: BuildHasher + Drop>(
     Ok(heap)
 }
 
-// Offers a pair to a heap of the first `k` by `rank`. If the heap has `k` already, the pair replaces the last of them if it comes before
-// that one.
+// Offers a pair to a heap of the first `k` by descending count and then by value. If the heap has `k` pairs already, and the new pair comes before the
+// last of these, it replaces the last.
 fn offer<'a, T: Ord>(
     heap: &mut BinaryHeap<(Reverse<usize>, &'a T)>,
     k: usize,
@@ -203,7 +206,7 @@ fn offer<'a, T: Ord>(
 ) -> Result<(), AllocError>
     requires { IsHeap (counted_cmp T.cmp) (heap_items heap.old) }
     ensures heap { OnOk result (IsHeap (counted_cmp T.cmp) (heap_items heap.new)) }
-    ensures first { OnOk result (KeepsFirst (comes_first T.cmp) k (held heap.old) (counted_pair pair.entry) (held heap.new)) }
+    ensures first { OnOk result (KeepsFirstHeld (comes_first T.cmp) k heap.old pair.entry heap.new) }
 {
     if heap.len() < k {
         heap.push(pair)?;

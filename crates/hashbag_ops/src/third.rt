@@ -1,12 +1,13 @@
-//! Bags that are made of two others, which stay as they are.
-ghost use Rattle.std.specs.Prelude.{◌≡◌, ◌+◌, ◌<◌, ◌≤◌, ◌↔◌, min, max, length, All, true, IfErr, IfOk};
-ghost use Rattle.hashbag_core.specs.Occurrences.{count};
+//! Bags that are built from two others, which stay unchanged.
+ghost use Rattle.std.specs.Prelude.{◌≡◌, ◌+◌, ◌<◌, ◌≤◌, ◌↔◌, length, All, true, IfErr, IfOk};
+ghost use Rattle.hashbag_core.specs.Held.{FitsLimit};
+ghost use Rattle.hashbag_ops.specs.Unions.{IsUnion, IsSumOf, IsIntersection};
 
 use crate::combine::{keep_common, keep_most, merge_ref};
 use hashbag_core::{BagError, HashBag};
 use std::hash::{BuildHasher, Hash};
 
-/// Returns the sum of two bags: each value as often as in both together. It has the limit of the first.
+/// Returns the sum of two bags: each count is the sum of both. It has the limit of the first.
 ///
 /// The caller ensures that clones of the values equal them.
 ///
@@ -37,11 +38,13 @@ pub fn sum<
 >(a: &HashBag<T, S>, b: &HashBag<T, S2>) -> Result<HashBag<T, S>, BagError>
     requires first { All (λ x. (y : _) → T.is_clone x y → T.eq x y ≡ true) a.now.items }
     requires second { All (λ x. (y : _) → T.is_clone x y → T.eq x y ≡ true) b.now.items }
-    ensures counts { IfOk result (λ bag. (v : T) → count T.eq v bag.items ≡ count T.eq v a.now.items + count T.eq v b.now.items) }
+    ensures counts { IfOk result (λ bag. IsSumOf T.eq a.now.items b.now.items bag.items) }
     ensures len { IfOk result (λ bag. length bag.items ≡ length a.now.items + length b.now.items) }
     ensures limit { IfOk result (λ bag. bag.most ≡ a.now.most) }
     ensures too_many { (result ≡ Err BagError.TooMany) ↔ (a.now.most < length a.now.items + length b.now.items) }
-    ensures only_memory { length a.now.items + length b.now.items ≤ a.now.most → IfErr result (λ e. e ≡ BagError.Memory) }
+
+    // If both totals together are within the limit of `a`, it fails only with `Memory`.
+    ensures only_memory { FitsLimit (length b.now.items) a.now → IfErr result (λ e. e ≡ BagError.Memory) }
 {
     if b.len() > a.limit() - a.len() {
         return Err(BagError::TooMany);
@@ -51,7 +54,7 @@ pub fn sum<
     Ok(bag)
 }
 
-/// Returns the union of two bags: each value as often as in the bag that has it more often. It has the limit of the first.
+/// Returns the union of two bags: each count is the greater of both. It has the limit of the first.
 ///
 /// The caller ensures that clones of the values equal them.
 ///
@@ -82,17 +85,19 @@ pub fn union<
 >(a: &HashBag<T, S>, b: &HashBag<T, S2>) -> Result<HashBag<T, S>, BagError>
     requires first { All (λ x. (y : _) → T.is_clone x y → T.eq x y ≡ true) a.now.items }
     requires second { All (λ x. (y : _) → T.is_clone x y → T.eq x y ≡ true) b.now.items }
-    ensures counts { IfOk result (λ bag. (v : T) → count T.eq v bag.items ≡ max (count T.eq v a.now.items) (count T.eq v b.now.items)) }
+    ensures counts { IfOk result (λ bag. IsUnion T.eq a.now.items b.now.items bag.items) }
     ensures len { IfOk result (λ bag. length bag.items ≤ length a.now.items + length b.now.items) }
     ensures limit { IfOk result (λ bag. bag.most ≡ a.now.most) }
-    ensures only_memory { length a.now.items + length b.now.items ≤ a.now.most → IfErr result (λ e. e ≡ BagError.Memory) }
+
+    // If both totals together are within the limit of `a`, it fails only with `Memory`.
+    ensures only_memory { FitsLimit (length b.now.items) a.now → IfErr result (λ e. e ≡ BagError.Memory) }
 {
     let mut bag = a.clone()?;
     keep_most(&mut bag, b.clone()?)?;
     Ok(bag)
 }
 
-/// Returns what two bags have in common: each value as often as in the bag that has it less often. It has the limit of the first.
+/// Returns what two bags have in common: each count is the lesser of both. It has the limit of the first.
 ///
 /// The caller ensures that clones of the values equal them.
 ///
@@ -121,7 +126,7 @@ pub fn intersection<
     S2: BuildHasher + Drop,
 >(a: &HashBag<T, S>, b: &HashBag<T, S2>) -> Result<HashBag<T, S>, BagError>
     requires first { All (λ x. (y : _) → T.is_clone x y → T.eq x y ≡ true) a.now.items }
-    ensures counts { IfOk result (λ bag. (v : T) → count T.eq v bag.items ≡ min (count T.eq v a.now.items) (count T.eq v b.now.items)) }
+    ensures counts { IfOk result (λ bag. IsIntersection T.eq a.now.items b.now.items bag.items) }
     ensures len { IfOk result (λ bag. length bag.items ≤ length a.now.items) }
     ensures limit { IfOk result (λ bag. bag.most ≡ a.now.most) }
     ensures memory { IfErr result (λ e. e ≡ BagError.Memory) }

@@ -113,23 +113,30 @@ module _ {T : Type 0} {eq : T → T → Bool} (laws : IsEquivalence eq) where
   unfolding arrivals
   arrivals_more most X s rest = refl
 
+  -- they are what the next step brings into a bag with the same items, and the later arrivals
+  arrivals_next : (most m : ℕ) (X B : List T) (done rest : List (Step T)) (s : Step T) → IsPermutation (run eq most X done).0 B → IsPermutation (step eq (limit_left eq most X done) (run eq most X done).0 s).0 (step eq m B s).0
+      → arrivals eq (limit_left eq most X done) (run eq most X done).0 (s ∷ rest)
+      ≡ newcomers eq B (step eq m B s).0 + arrivals eq (limit_after eq (limit_left eq most X done) (run eq most X done).0 s) (step eq (limit_left eq most X done) (run eq most X done).0 s).0 rest
+  arrivals_next most m X B done rest s means left =
+      let more = arrivals_more (limit_left eq most X done) (run eq most X done).0 s rest in
+      let same = newcomers_rearranged (run eq most X done).0 B (step eq (limit_left eq most X done) (run eq most X done).0 s).0 (step eq m B s).0 means left in
+      omega (arith, more, same)
+
   -- what the next step may bring in has room
   pub next_enough : (most m : ℕ) (X B : List T) (done rest : List (Step T)) (s : Step T) (before now : Tables T) → IsStillRoomy eq most X done (s ∷ rest) before now → IsPermutation (run eq most X done).0 B → IsPermutation (step eq (limit_left eq most X done) (run eq most X done).0 s).0 (step eq m B s).0
       → newcomers eq B (step eq m B s).0 ≤ room now
   next_enough most m X B done rest s before now h means left =
-      let more = arrivals_more (limit_left eq most X done) (run eq most X done).0 s rest in
-      let same = newcomers_rearranged (run eq most X done).0 B (step eq (limit_left eq most X done) (run eq most X done).0 s).0 (step eq m B s).0 means left in
+      let next = arrivals_next most m X B done rest s means left in
       let enough = h.enough in
-      omega (arith, more, same, enough)
+      omega (arith, next, enough)
 
   pub roomy_next : (most m : ℕ) (X B : List T) (done rest : List (Step T)) (s : Step T) (before now after : Tables T) → IsStillRoomy eq most X done (s ∷ rest) before now → IsPermutation (run eq most X done).0 B → IsPermutation (step eq (limit_left eq most X done) (run eq most X done).0 s).0 (step eq m B s).0
       → KeepsRoom (newcomers eq B (step eq m B s).0) now after → IsStillRoomy eq most X (done ++ s ∷ []) rest before after
   roomy_next most m X B done rest s before now after h means left kept =
-      let more = arrivals_more (limit_left eq most X done) (run eq most X done).0 s rest in
-      let same = newcomers_rearranged (run eq most X done).0 B (step eq (limit_left eq most X done) (run eq most X done).0 s).0 (step eq m B s).0 means left in
+      let next = arrivals_next most m X B done rest s means left in
       let enough = h.enough in
       let kept_room = kept.room in
       record {
-        enough = rw ((run_more eq most X done s).0, limit_more eq most X done s) (omega (arith, more, same, enough, kept_room));
+        enough = rw ((run_more eq most X done s).0, limit_more eq most X done s) (omega (arith, next, enough, kept_room));
         slots = kept.slots ∙ h.slots;
       }

@@ -90,7 +90,7 @@ whole_run = refl
 one_step : step same_key greatest_total bag (Remove (2, 0)) ≡ ((1, 10) ∷ (1, 10) ∷ [], Count 1)
 one_step = refl
 
--- two values at once at the most
+-- at most two distinct values at any time
 peak_of_run : peak same_key greatest_total [] (Insert (1, 10) ∷ Insert (2, 20) ∷ Remove (1, 0) ∷ Insert (3, 30) ∷ []) ≡ 2
 unfolding peak
 peak_of_run = refl
@@ -117,14 +117,14 @@ room_asked = refl
 no_room_asked : list_any (is_about_room {T = ℕ × ℕ}) (Insert (1, 10) ∷ Remove (1, 0) ∷ Clear ∷ []) ≡ Bool.false
 no_room_asked = refl
 
--- 16 slots, all of them Empty, as the first value finds them: room for 12
+-- 16 slots, all of them Empty, as the first insertion builds them: room for 12
 abbrev sixteen : Tables (ℕ × ℕ)
 sixteen = record { newer = fresh (no_slots 0); waiting = []; older = 0; built = 16 }
 
 room_for_twelve : room sixteen ≡ 12
 room_for_twelve = refl
 
--- a value that comes, goes and comes again arrives twice, for which there is room
+-- a value that is inserted, removed and inserted again arrives twice. There is room for that
 twice_in_reserved_room : IsRoomy same_key greatest_total [] (Insert (1, 10) ∷ Remove (1, 0) ∷ Insert (1, 30) ∷ []) sixteen
 unfolding arrivals
 twice_in_reserved_room = record { calls = refl; enough = omega arith }
@@ -135,7 +135,7 @@ twice_in_reserved_room = record { calls = refl; enough = omega arith }
 abbrev carrying : Tables (ℕ × ℕ)
 carrying = record { newer = replicate 32 Empty; waiting = replicate 17 Empty; older = 32; built = 48 }
 
--- 1 arrived at the first slot. It carried the next 16, so that one waits
+-- 1 arrived in the first slot. Its insertion carried the next 16 slots, so that one waits
 abbrev carried : Tables (ℕ × ℕ)
 carried = record { newer = Live (1, 10) 1 ∷ replicate 31 Empty; waiting = Empty ∷ []; older = 32; built = 48 }
 
@@ -170,7 +170,7 @@ arrival = record {
 never_all_at_once : LeavesTables same_key [] ((1, 10) ∷ []) (Insert (1, 10)) carrying all_carried → ⊥
 never_all_at_once leaves = let waits = ((leaves.arrives refl (omega arith)).with_room (omega arith)).waits in cc
 
--- none more of a value that is present changes nothing
+-- inserting a present value 0 times changes nothing
 none_more : LeavesTables same_key ((1, 10) ∷ []) ((1, 10) ∷ []) (InsertMany (1, 20) 0) carried carried
 none_more = record {
   arrives = λ none some. absurd (omega (arith, none));

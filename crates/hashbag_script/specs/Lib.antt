@@ -1,3 +1,4 @@
+pub mod Collected
 pub mod Examples
 pub mod Pairs
 pub mod Rows

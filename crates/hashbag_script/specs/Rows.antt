@@ -22,7 +22,7 @@ module _ {T : Type 0} (eq : T → T → Bool) where
   abbrev pub remove_row : T → List T → List T × Reply T
   remove_row v X = (less eq v 1 X, Count (count eq v X))
 
-  -- remove_up_to: q fewer of v, or none left; the count after
+  -- remove_up_to: q fewer of v, or none if there were fewer than q; the count after
   abbrev pub remove_up_to_row : T → ℕ → List T → List T × Reply T
   remove_up_to_row v q X = (less eq v q X, Count (count eq v X - min q (count eq v X)))
 
@@ -39,14 +39,14 @@ module _ {T : Type 0} (eq : T → T → Bool) where
       if count eq v X == 0 then (X, Absent)
       else (less eq v (count eq v X) X, Taken (instance_or_itself eq v X) (count eq v X))
 
-  -- the entry's and_modify, if the closure sets n: n of v's instance if v occurs, unless the total would pass the limit `most`
+  -- the entry's and_modify, whose closure sets n: if v occurs, n of v's instance, unless the total would pass the limit `most`
   abbrev pub entry_set_row : ℕ → T → ℕ → List T → List T × Reply T
   entry_set_row most v n X =
       if count eq v X == 0 then (X, Absent)
       else (if nat_lt most (length X - count eq v X + n) then (X, TooMany)
       else (put eq (instance_or_itself eq v X) n X, Done))
 
-  -- the entry's or_insert_many: q of v if v doesn't occur, unless the total would pass the limit `most`; the count after
+  -- the entry's or_insert_many: if v doesn't occur, q of v, unless the total would pass the limit `most`; the count after
   abbrev pub entry_or_row : ℕ → T → ℕ → List T → List T × Reply T
   entry_or_row most v q X =
       if nat_lt 0 (count eq v X) then (X, Count (count eq v X))

@@ -50,6 +50,10 @@ module _ {T : Type 0} where
   is_reserve ShrinkToFit = false
   is_reserve (Limit n) = false
 
+  -- a `ShrinkToFit` makes no larger table
+  abbrev pub ShrinksSlots : {S : Type 0} → Step T → Bag T S → Bag T S → Type 0
+  ShrinksSlots s before after = is_about_room s ≡ true → is_reserve s ≡ false → length after.tables.newer ≤ length before.tables.newer
+
 module _ {T : Type 0} (eq : T → T → Bool) where
   -- the list that a step leaves of X, in a bag with the limit `most`, and its reply
   abbrev pub step : ℕ → List T → Step T → List T × Reply T
@@ -69,7 +73,7 @@ module _ {T : Type 0} (eq : T → T → Bool) where
   step most X ShrinkToFit = shrink_to_fit_row eq X
   step most X (Limit n) = limit_row eq n X
 
-  -- the limit that a step leaves: n if `Limit n` isn't below the total, else as it was
+  -- the limit that a step leaves: n if the step is `Limit n` and n isn't below the total, else the limit before
   abbrev pub limit_after : ℕ → List T → Step T → ℕ
   limit_after most X (Insert v) = most
   limit_after most X (InsertMany v n) = most
@@ -87,7 +91,7 @@ module _ {T : Type 0} (eq : T → T → Bool) where
   limit_after most X ShrinkToFit = most
   limit_after most X (Limit n) = if nat_lt n (length X) then most else n
 
-  -- the list that the steps leave, applied in order to X, in a bag with the limit `most`, and their replies
+  -- what steps leave of the list X, one after the other, in a bag with the limit `most`; and their replies
   unfoldable pub run : ℕ → List T → List (Step T) → List T × List (Reply T)
   run most X [] = (X, [])
   run most X (s ∷ steps) =
@@ -95,12 +99,32 @@ module _ {T : Type 0} (eq : T → T → Bool) where
       let rest = run (limit_after most X s) one.0 steps in
       (rest.0, one.1 ∷ rest.1)
 
-  -- the limit that the steps leave, applied in order to X, in a bag with the limit `most`
+  -- what a step on a bag leaves of its list, and replies
+  abbrev pub step_in : {S : Type 0} → Step T → Bag T S → List T × Reply T
+  step_in s bag = step bag.most bag.items s
+
+  -- what `EntryOr v n` on a bag leaves of its list, and replies
+  abbrev pub entry_or_in : {S : Type 0} → T → ℕ → Bag T S → List T × Reply T
+  entry_or_in v n bag = entry_or_row eq bag.most v n bag.items
+
+  -- the limit that steps on the list X leave, one after the other, in a bag with the limit `most`
   unfoldable pub limit_left : ℕ → List T → List (Step T) → ℕ
   limit_left most X [] = most
   limit_left most X (s ∷ steps) = limit_left (limit_after most X s) (step most X s).0 steps
 
-  -- the list that the steps leave of an empty one, in a bag for which no limit is set
+  -- for each list that the bag meant: the replies that were appended are those of these steps on that list
+  abbrev pub AppendsReplies : {S : Type 0} → Bag T S → List (Step T) → List (Reply T) → List (Reply T) → Type 0
+  AppendsReplies bag steps old new = (X : List T) → Means bag X → new ≡ old ++ (run bag.most X steps).1
+
+  -- for each list that the bag meant before: it now means what these steps leave of that list
+  abbrev pub LeavesRun : {S : Type 0} → Bag T S → List (Step T) → Bag T S → Type 0
+  LeavesRun before steps after = (X : List T) → Means before X → Means after (run before.most X steps).0
+
+  -- for each list that the bag meant before: it now has the limit that these steps on that list leave
+  abbrev pub LeavesLimit : {S : Type 0} → Bag T S → List (Step T) → Bag T S → Type 0
+  LeavesLimit before steps after = (X : List T) → Means before X → after.most ≡ limit_left before.most X steps
+
+  -- the list that the steps leave of an empty list, in a bag for which no limit is set
   abbrev pub left_by : Steps T → List T
   left_by steps = (run greatest_total [] steps).0
 
@@ -129,19 +153,19 @@ module _ {T : Type 0} (eq : T → T → Bool) where
   abbrev pub HasRoomFor : {S : Type 0} → Bag T S → List T → Type 0
   HasRoomFor bag Y = newcomers bag.items Y ≤ room bag.tables
 
-  -- the number of steps of the run that bring in a value which didn't occur before them
+  -- how many steps of the run insert a value that was absent before the step
   unfoldable pub arrivals : ℕ → List T → List (Step T) → ℕ
   arrivals most X [] = 0
   arrivals most X (s ∷ steps) =
       let Y = (step most X s).0 in
       newcomers X Y + arrivals (limit_after most X s) Y steps
 
-  -- no step is about room, and the tables have room for all values that the run brings in
+  -- no step is about room, and the tables have room for all values that arrive in the run
   pub record IsRoomy (most : ℕ) (X : List T) (steps : List (Step T)) (tables : Tables T) : Type 0 where
     pub calls : list_any is_about_room steps ≡ false
     pub enough : arrivals most X steps ≤ room tables
 
-  -- P holds if no step is about room and the bag has room for all values that the run brings in, whichever list the bag means
+  -- P holds if no step is about room and the bag has room for all values that arrive in the run, whichever list the bag means
   abbrev pub IfRoomy : {S : Type 0} → Bag T S → List (Step T) → Type 0 → Type 0
   IfRoomy bag steps P = (X : List T) → Means bag X → IsRoomy bag.most X steps bag.tables → P
 
@@ -183,8 +207,8 @@ module _ {T : Type 0} (eq : T → T → Bool) where
   AsksForMemory most X tables ShrinkToFit = MayShrink X tables
   AsksForMemory most X tables (Limit n) = ⊥
 
-  -- a run that a failed allocation stopped: the steps before it have replies, the bag means what they left, and the next step is one that
-  -- may allocate (`AsksForMemory`), with the tables as it found them. Unless that step is `Reserve` or `ShrinkToFit`, room was 0
+  -- a run that a failed allocation stopped. The steps before have replies, and the bag means what they left. The next step is one that may allocate
+  -- (`AsksForMemory`), with the tables as it found them. Unless that step is `Reserve` or `ShrinkToFit`, room was 0
   pub record IsStopped {S : Type 0} (most : ℕ) (X : List T) (steps : List (Step T)) (before after : List (Reply T)) (bag : Bag T S) : Type 0 where
     pub done : List (Step T)
     pub stopped_at : Step T

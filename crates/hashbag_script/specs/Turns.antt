@@ -16,16 +16,16 @@ abbrev pub answered : {T S : Type 0} → Ran T S → List (Step T)
 answered r = take (length r.replies_after - length r.replies_before) r.steps
 
 module _ {T : Type 0} where
-  -- What a step on one value leaves of the tables, if the value's count was c before and is d after. If it was absent and is present, it
-  -- arrived, which carries the next 16 slots that waited. If it was absent and is so still, the tables are unchanged. If it was present,
-  -- they are as `InPlace` says.
+  -- What a step on one value leaves of the tables, if the value's count was c before and is d after. If the value was absent and is present, it
+  -- arrived: the next 16 waiting slots were carried. If it was absent and is so still, the tables are unchanged. If it was present, they are as
+  -- `InPlace` says.
   pub record LeavesValue (c d : ℕ) (InPlace : Type 0) (old new : Tables T) : Type 0 where
     pub arrives : c ≡ 0 → 0 < d → Arrives old new
     pub absent : c ≡ 0 → d ≡ 0 → new ≡ old
     pub present : 0 < c → InPlace
 
 module _ {T : Type 0} (eq : T → T → Bool) where
-  -- v has the count d, and had c: its slot alone has the new count, or the count and the tables are unchanged
+  -- v had the count c, and has the count d. Only the slot of v changed, and has the new count; or the count and the tables are unchanged
   abbrev pub SetsCount : T → ℕ → ℕ → Tables T → Tables T → Type 0
   SetsCount v c d old new = LeavesValue c d (Recounts eq v d old new ⊎ ((d ≡ c) × (new ≡ old))) old new
 
@@ -38,9 +38,9 @@ module _ {T : Type 0} (eq : T → T → Bool) where
     pub none : X ≡ [] → new ≡ no_slots old.built
     pub shrinks : ShrinksOrStays (distinct_count eq X) old new
 
-  -- What a step leaves of the tables, if it turned the list X into Y. One on a value changes them for that value alone. `Retain` changes
-  -- counts in place, and `Clear` empties the slots. `Reserve n` makes room for n more values if there isn't that room, and `ShrinkToFit`
-  -- builds a smaller table if one is enough. Then nothing waits; else the tables are unchanged. The other steps change none.
+  -- What a step leaves of the tables, if it turned the list X into Y. A step on a value changes the tables for that value alone. `Retain` changes
+  -- counts in place, and `Clear` empties the slots. `Reserve n` makes room for n more values if there isn't that room, and `ShrinkToFit` builds a
+  -- smaller table if one is enough. If one of the two changes the tables, no slot waits then. The other steps change none.
   abbrev pub LeavesTables : List T → List T → Step T → Tables T → Tables T → Type 0
   LeavesTables X Y (Insert v) old new = SetsCount v (count eq v X) (count eq v Y) old new
   LeavesTables X Y (InsertMany v n) old new = SetsCount v (count eq v X) (count eq v Y) old new
@@ -62,15 +62,15 @@ module _ {T : Type 0} (eq : T → T → Bool) where
   abbrev pub LeavesTablesOf : {S : Type 0} → Step T → Bag T S → Bag T S → Type 0
   LeavesTablesOf s before after = LeavesTables before.items after.items s before.tables after.tables
 
-  -- the tables hold the list X, in whichever order: its values with their counts are the Live slots, of which there are as many as X has
-  -- distinct values
+  -- the tables hold the list X, in whichever order: its values with their counts are the Live slots. There are as many Live slots as X has distinct
+  -- values
   pub record Hold (X : List T) (t : Tables T) : Type 0 where
     pub items : List T
     pub means : IsPermutation X items
     pub held : AreHeld eq items t
     pub number : values t ≡ distinct_count eq X
 
-  -- each step finds tables that hold the list that it finds, and leaves what `LeavesTables` says, with which the next one begins
+  -- before each step the tables hold the list of that moment. Each step leaves the tables as `LeavesTables` says, and the next step begins with these
   abbrev pub TablesInTurn : ℕ → List T → List (Step T) → Tables T → Tables T → Type 0
   TablesInTurn most X [] old new = new ≡ old
   TablesInTurn most X (s ∷ steps) old new =
@@ -81,6 +81,6 @@ module _ {T : Type 0} (eq : T → T → Bool) where
   abbrev pub AreTablesInTurn : {S : Type 0} → Ran T S → Type 0
   AreTablesInTurn r = (X : List T) → Means r.before X → TablesInTurn r.before.most X (answered r) r.before.tables r.after.tables
 
-  -- from an empty bag with no slots they leave no more slots than `IsBounded` says
+  -- from an empty bag with no slots a run leaves no more slots than `IsBounded` says
   abbrev pub IsBoundedRun : {S : Type 0} → Ran T S → Type 0
   IsBoundedRun r = r.before.items ≡ [] → r.before.tables.newer ≡ [] → IsBounded eq r.before.most (answered r) r.before.tables r.after.tables

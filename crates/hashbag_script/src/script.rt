@@ -1,10 +1,10 @@
 //! Whole runs of steps on a bag.
-ghost use Rattle.std.specs.Prelude.{◌≡◌, ◌+◌, ◌≤◌, ◌++◌, List, true, false, length, IsOk, IfOk, IfErr, OnOk, OnErr};
+ghost use Rattle.std.specs.Prelude.{◌≡◌, ◌+◌, false, length, IsOk, IfOk, IfErr, OnOk, OnErr};
 ghost use Rattle.hashbag_core.specs.Bag.{Means, IsBagOf, limited};
 ghost use Rattle.hashbag_core.specs.Occurrences.{IsBag};
-ghost use Rattle.hashbag_script.specs.Pairs.{ran, HasNoRoom, IsNotBegun, IsRunCutOff};
-ghost use Rattle.hashbag_script.specs.Rows.{insert_row, replace_row, try_take_row, take_all_row, entry_set_row, entry_or_row, retain_row, limit_row, quota as quota_of};
-ghost use Rattle.hashbag_script.specs.Script.{step as step_of, run as run_of, is_about_room, is_reserve, HasRoomFor, IfRoomy, NeedsMemory, AsksForMemory, limit_after, limit_left};
+ghost use Rattle.hashbag_script.specs.Pairs.{ran, IsUnbegunRun, IsStoppedRun};
+ghost use Rattle.hashbag_script.specs.Rows.{insert_row, replace_row, try_take_row, take_all_row, entry_set_row, retain_row, limit_row, quota as quota_of};
+ghost use Rattle.hashbag_script.specs.Script.{step_in, entry_or_in, is_about_room, ShrinksSlots, AppendsReplies, LeavesRun, LeavesLimit, HasRoomFor, IfRoomy, NeedsMemory, AsksForMemory, limit_after};
 ghost use Rattle.hashbag_script.specs.Turns.{LeavesTablesOf, AreTablesInTurn, IsBoundedRun};
 ghost use Rattle.hashbag_table.specs.Retained.{RetainsTables};
 
@@ -49,7 +49,7 @@ pub enum Step<T> {
     Reserve(usize),
     /// [`HashBag::shrink_to_fit`].
     ShrinkToFit,
-    /// [`HashBag::set_limit`]: `Done`, or `BelowTotal` if that is below the total.
+    /// [`HashBag::set_limit`]: `Done`, or `BelowTotal` if the new limit is below the total.
     Limit(usize),
 }
 
@@ -72,7 +72,7 @@ pub enum Reply<T> {
     BelowTotal,
 }
 
-// Inserts occurrences, if the total can have them.
+// Inserts occurrences, if the total stays within the limit.
 fn insert<T: Eq + Hash + Drop, S: BuildHasher + Drop>(
     bag: &mut HashBag<T, S>,
     value: T,
@@ -96,7 +96,7 @@ fn insert<T: Eq + Hash + Drop, S: BuildHasher + Drop>(
     }
 }
 
-// Replaces a value if the total can have it.
+// Replaces a value, if the total stays within the limit.
 fn replace<T: Eq + Hash + Drop, S: BuildHasher + Drop>(
     bag: &mut HashBag<T, S>,
     value: T,
@@ -135,7 +135,7 @@ fn try_take<T: Eq + Hash + Drop, S: BuildHasher + Drop>(
     }
 }
 
-// Removes all occurrences, and returns the instance with the count.
+// Removes all occurrences, and returns the stored instance with the count before.
 fn take_all<T: Eq + Hash + Drop, S: BuildHasher + Drop>(
     bag: &mut HashBag<T, S>,
     value: &T,
@@ -150,7 +150,7 @@ fn take_all<T: Eq + Hash + Drop, S: BuildHasher + Drop>(
     }
 }
 
-// Sets the count of a present value, if the total can have it.
+// Sets the count of a present value, if the total stays within the limit.
 fn entry_set<T: Eq + Hash + Drop, S: BuildHasher + Drop>(
     bag: &mut HashBag<T, S>,
     value: T,
@@ -177,18 +177,18 @@ fn entry_set<T: Eq + Hash + Drop, S: BuildHasher + Drop>(
     }
 }
 
-// Inserts occurrences of an absent value, if the total can have them.
+// Inserts occurrences of an absent value, if the total stays within the limit.
 fn entry_or<T: Eq + Hash + Drop, S: BuildHasher + Drop>(
     bag: &mut HashBag<T, S>,
     value: T,
     quantity: usize,
 ) -> Result<Reply<T>, BagError>
-    ensures reply { IfOk result (λ reply. reply ≡ (entry_or_row T.eq bag.old.most value quantity bag.old.items).1) }
-    ensures left { OnOk result (IsBagOf T.eq bag.old (entry_or_row T.eq bag.old.most value quantity bag.old.items).0 bag.new) }
+    ensures reply { IfOk result (λ reply. reply ≡ (entry_or_in T.eq value quantity bag.old).1) }
+    ensures left { OnOk result (IsBagOf T.eq bag.old (entry_or_in T.eq value quantity bag.old).0 bag.new) }
     ensures memory { IfErr result (λ e. e ≡ BagError.Memory) }
     ensures asked { OnErr result (NeedsMemory T.eq bag.old.most value quantity bag.old.items) }
     ensures err { OnErr result (bag.new ≡ bag.old) }
-    ensures takes { HasRoomFor T.eq bag.old (entry_or_row T.eq bag.old.most value quantity bag.old.items).0 → IsOk result }
+    ensures takes { HasRoomFor T.eq bag.old (entry_or_in T.eq value quantity bag.old).0 → IsOk result }
     ensures tables { OnOk result (LeavesTablesOf T.eq (Step.EntryOr value quantity) bag.old bag.new) }
 {
     // Only for the proof: it uses the clause `bag` of `len`.
@@ -211,7 +211,7 @@ fn quota<T: Eq>(list: &[(T, usize)], value: &T) -> usize
     }
 }
 
-// Keeps of each value at most as many as the list says.
+// Lowers the count of each value to the number that the list has for it, if that is less.
 fn retain<T: Eq + Hash + Drop, S: BuildHasher + Drop>(bag: &mut HashBag<T, S>, list: &[(T, usize)])
     ensures left { IsBagOf T.eq bag.old (retain_row T.eq list.now bag.old.items).0 bag.new }
     ensures tables { RetainsTables bag.old.tables bag.new.tables }
@@ -246,8 +246,8 @@ fn apply<T: Eq + Hash + Drop, S: BuildHasher + Drop>(
     step: Step<T>,
 ) -> Result<Reply<T>, BagError>
     // The reply, the occurrences and the limit are those of a step on a plain list.
-    ensures reply { IfOk result (λ reply. reply ≡ (step_of T.eq bag.old.most bag.old.items step).1) }
-    ensures left { OnOk result (Means bag.new (step_of T.eq bag.old.most bag.old.items step).0) }
+    ensures reply { IfOk result (λ reply. reply ≡ (step_in T.eq step bag.old).1) }
+    ensures left { OnOk result (Means bag.new (step_in T.eq step bag.old).0) }
     ensures limit { OnOk result (bag.new.most ≡ limit_after T.eq bag.old.most bag.old.items step) }
     ensures hasher { OnOk result (bag.new.hasher ≡ bag.old.hasher) }
     ensures bag { IsBag T.eq bag.old.most bag.old.items }
@@ -257,12 +257,11 @@ fn apply<T: Eq + Hash + Drop, S: BuildHasher + Drop>(
     ensures asked { OnErr result (AsksForMemory T.eq bag.old.most bag.old.items bag.old.tables step) }
     ensures err { OnErr result (bag.new ≡ bag.old) }
 
-    // If there is room for what a step inserts, it can't fail, unless it is `Reserve` or `ShrinkToFit`. `turns`: what it leaves of the
-    // tables. `fewer`: `ShrinkToFit` makes no larger table.
-    ensures takes { is_about_room step ≡ false → HasRoomFor T.eq bag.old (step_of T.eq bag.old.most bag.old.items step).0 → IsOk result }
+    // `takes`: if there is room for what a step inserts, the step can't fail, unless it is `Reserve` or `ShrinkToFit`. `turns`: what a step leaves of
+    // the tables. `fewer`: `ShrinkToFit` makes no larger table.
+    ensures takes { is_about_room step ≡ false → HasRoomFor T.eq bag.old (step_in T.eq step bag.old).0 → IsOk result }
     ensures turns { OnOk result (LeavesTablesOf T.eq step bag.old bag.new) }
-    ensures fewer { OnOk result (is_about_room step ≡ true → is_reserve step ≡ false
-        → length bag.new.tables.newer ≤ length bag.old.tables.newer) }
+    ensures fewer { OnOk result (ShrinksSlots step bag.old bag.new) }
 {
     // Only for the proof: it uses the clause `bag` of `len`.
     let _len = bag.len();
@@ -299,17 +298,17 @@ fn apply<T: Eq + Hash + Drop, S: BuildHasher + Drop>(
 
 /// Does the steps in turn, and appends a reply for each. No value is copied.
 ///
-/// A total that would pass the limit is the reply `TooMany`, and no error.
+/// If the total would pass the limit, the reply is `TooMany`. This isn't an error, and the run goes on.
 ///
 /// # Errors
 ///
-/// `Memory` if an allocation fails. If the first one fails, that of the replies, nothing changes. Else the run stops at the step that
-/// failed: the steps before it are done and have their replies, the bag is as that step found it, and the other steps are dropped. A step
-/// can fail so only if it
+/// `Memory` if an allocation fails. The replies are allocated first: if that fails, nothing changes. Else the run stops at the step that failed. The
+/// steps before it are done and have their replies. The bag is as that step found it. The other steps are dropped. A step can fail with `Memory` only
+/// if it
 ///
 /// - inserts an absent value without room (also `Replace` and `EntryOr`),
-/// - is a `Reserve` of more than the room that there is, or
-/// - is a `ShrinkToFit` of a bag that isn't empty and whose slots are more than its values need.
+/// - is a `Reserve` of more room than there is, or
+/// - is a `ShrinkToFit` of a bag that isn't empty and has more slots than its values need.
 ///
 /// # Complexity
 ///
@@ -332,29 +331,27 @@ pub fn run<T: Eq + Hash + Drop, S: BuildHasher + Drop>(
     steps: Vec<Step<T>>,
     replies: &mut Vec<Reply<T>>,
 ) -> Result<(), BagError>
-    // X is the occurrences of the bag in any order. Each step replies as that list would, and the bag then has what the list has become.
-    ensures replies { OnOk result ((X : List T) → Means bag.old X
-        → replies.new.items ≡ replies.old.items ++ (run_of T.eq bag.old.most X steps.items).1) }
-    ensures means { OnOk result ((X : List T) → Means bag.old X → Means bag.new (run_of T.eq bag.old.most X steps.items).0) }
-    ensures limit { OnOk result ((X : List T) → Means bag.old X → bag.new.most ≡ limit_left T.eq bag.old.most X steps.items) }
+    // Each step replies as a plain list of the bag's occurrences would, whatever the order of the list. The bag then has the occurrences that the
+    // list has become.
+    ensures replies { OnOk result (AppendsReplies T.eq bag.old steps.items replies.old.items replies.new.items) }
+    ensures means { OnOk result (LeavesRun T.eq bag.old steps.items bag.new) }
+    ensures limit { OnOk result (LeavesLimit T.eq bag.old steps.items bag.new) }
     ensures hasher { bag.new.hasher ≡ bag.old.hasher }
 
-    // Only a failed allocation stops a run: that of the replies, before the first step, or one in the step after those with replies.
+    // Only a failed allocation stops a run: the allocation of the replies, before the first step, or one in the first step without a reply.
     ensures memory { IfErr result (λ e. e ≡ BagError.Memory) }
-    ensures stopped { OnErr result (IsRunCutOff T.eq (HasNoRoom replies.old steps)
-        (ran bag.old bag.new steps.items replies.old.items replies.new.items)) }
+    ensures stopped { OnErr result (IsStoppedRun T.eq bag.old bag.new steps replies.old replies.new) }
 
-    // If there is room for all values that arrive, and no step is about room, there are as many slots as before, and only the allocation of
-    // the replies can fail.
+    // If there is room for all values that arrive, and no step is `Reserve` or `ShrinkToFit`, there are as many slots as before. Then only the
+    // allocation of the replies can fail.
     ensures slots { IfRoomy T.eq bag.old steps.items (length bag.new.tables.newer ≡ length bag.old.tables.newer) }
-    ensures roomy { IfRoomy T.eq bag.old steps.items (OnErr result (IsNotBegun (HasNoRoom replies.old steps)
-        (ran bag.old bag.new steps.items replies.old.items replies.new.items))) }
+    ensures roomy { IfRoomy T.eq bag.old steps.items (OnErr result (IsUnbegunRun bag.old bag.new steps replies.old replies.new)) }
 
-    // If the bag was empty and had no slots, as far as the run went: the greatest number of distinct values at any time bounds the slots,
-    // and the values that arrived bound the slots that were built.
+    // `ran` is this run: the bag and the replies, before and after. If the bag was empty and had no slots: the greatest number of distinct values at
+    // any time of the run bounds the slots, and the values that arrived bound the slots that were built.
     ensures bounded { IsBoundedRun T.eq (ran bag.old bag.new steps.items replies.old.items replies.new.items) }
 
-    // The tables follow from those before by the steps with a reply, in turn, each as `LeavesTables` says.
+    // The tables follow from the tables before by the steps that have a reply, in turn, each as `LeavesTables` says.
     ensures tables { AreTablesInTurn T.eq (ran bag.old bag.new steps.items replies.old.items replies.new.items) }
 {
     // Only for the proof: it uses the contracts of `slots` and `waiting`.

@@ -3,7 +3,7 @@ use Rattle.std.proofs.Common.{◌≡◌, ◌≢◌, ℕ, zero, suc, ◌<◌, ◌
 use Rattle.std.proofs.lemmas.Bool.{cases_lt, le-leb, lt-leb}
 use Rattle.hashbag_slots.specs.declared.slots.Slot.TheVariants.{Empty, Removed, Moved, Live}
 use Rattle.hashbag_slots.specs.Slots.{path_slot, slot_at, holds, is_live, is_removed, IsNextLive, IsFirstFree}
-use Rattle.hashbag_slots.specs.Columns.{fingerprint_of, IsNextMark, slot_of, slots_of, columns, Agree, IsReached}
+use Rattle.hashbag_slots.specs.Columns.{fingerprint_of, IsNextLiveTag, slot_of, slots_of, columns, Agree, IsReached}
 use Rattle.hashbag_slots.proofs.Paths.{path_below}
 use Rattle.hashbag_slots.proofs.Probing.{false_by, holder}
 
@@ -99,7 +99,7 @@ module _ {T : Type 0} (ts : List ℕ) (cs : List (Option (T × ℕ))) (agree : A
 
 module _ {T : Type 0} (ts : List ℕ) (cs : List (Option (T × ℕ))) (agree : Agree ts cs) (from : ℕ) where
   -- what the tags say of the next Live slot
-  pub next_slot : (p : ℕ) → IsNextMark ts from p → IsNextLive (slots_of ts cs) from p
+  pub next_slot : (p : ℕ) → IsNextLiveTag ts from p → IsNextLive (slots_of ts cs) from p
   next_slot p h = record {
     after = h.0;
     within = let l = length-slots_of ts cs agree.same_length in let i = h.1 in omega arith;

@@ -41,6 +41,13 @@ module _ {T : Type 0} (test : T → Bool) (hash : T → ℕ) (h : ℕ) (alike : 
         | inr differs ↦ holds_other ts cs agree p test hash h alike reached (λ e. differs (e ∙ sym is))
       ]
 
+  -- the path meets an Empty slot, and no slot before it holds the value
+  pub absent_past : (step : ℕ) → ((k : ℕ) → k < step → holds test (slot_at (slots_of ts cs) (path_slot (length ts) h k)) ≡ false) → tag_at ts (path_slot (length ts) h step) ≡ 0 → IsAbsent test (slots_of ts cs)
+  absent_past step passed empty =
+      let ss = slots_of ts cs in let len : length ss ≡ length ts = length-slots_of ts cs agree.same_length in
+      absent_at_stop test hash h alike ss reached.paths step (λ k lt. ap (λ n. holds test (slot_at ss (path_slot n h k))) len ∙ passed k lt)
+      (ap (λ n. slot_at ss (path_slot n h step)) len ∙ empty_at ts cs agree (path_slot (length ts) h step) empty)
+
   -- an Empty slot is at `first + stop`, and no slot with the fingerprint that comes before it on the path holds the value
   pub absent_near : (fingerprint : ℕ) → fingerprint ≡ fingerprint_of h → (first stop : ℕ) → first ≡ path_slot (length ts) h 0 → first + stop < length ts → tag_at ts (first + stop) ≡ 0
       → ((p : ℕ) → first ≤ p → p < first + stop → tag_at ts p ≡ fingerprint → holds test (slot_at (slots_of ts cs) p) ≡ false) → IsAbsent test (slots_of ts cs)

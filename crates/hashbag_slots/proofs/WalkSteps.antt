@@ -1,5 +1,5 @@
 -- A walk's steps: what it gives, and what is left to it then.
-use Rattle.std.proofs.Common.{◌≡◌, ◌≢◌, ◌⊎◌, ℕ, zero, suc, ◌+◌, ◌-◌, ◌/◌, ◌%◌, ◌<◌, ◌≤◌, Bool, true, false, cond, leb, nat_eq, List, [], ◌∷◌, ◌++◌, length, drop, map, get_or, Option, Some, None, refl, sym, ap, ◌∙◌, inl, inr, arith, slice_set}
+use Rattle.std.proofs.Common.{◌≡◌, ◌≢◌, ◌⊎◌, ℕ, zero, suc, ◌+◌, ◌-◌, ◌/◌, ◌%◌, ◌<◌, ◌≤◌, Bool, true, false, cond, leb, nat_eq, List, [], ◌∷◌, ◌++◌, length, drop, map, get_or, Option, Some, None, refl, sym, ap, subst, ◌∙◌, inl, inr, arith, slice_set}
 use Rattle.std.specs.List.{All, cons_option, filter, filter_map}
 use Rattle.std.proofs.lemmas.Bool.{cases_lt, eqb-true}
 use Rattle.std.proofs.lemmas.Bool.Decides.{eqb_tells}
@@ -12,6 +12,7 @@ use Rattle.hashbag_slots.specs.Group.{from_place_on}
 use Rattle.hashbag_slots.specs.Walks.{pass_of, of_turn, live_places, live_places_from, in_pass, turns, turn_places, places_left, entry_in, entries_left, IsCourse, IsNextOn, IsWalk}
 use Rattle.hashbag_slots.proofs.GroupLemmas.{from_place_on-behind, from_place_on-before, tells_same}
 use Rattle.hashbag_slots.proofs.Walking.{is_fingerprint, filter_out, of_turn-odd, of_turn-even}
+use Rattle.hashbag_slots.proofs.Writing.{Agree-empty}
 
 -- no entries are left where their number is 0
 pub none_left : {X : Type 0} (xs : List X) (left : ℕ) → left ≡ length xs → left ≡ 0 → xs ≡ []
@@ -183,3 +184,38 @@ module _ (turn p : ℕ) (on_pass : pass_of p ≡ turn / 2) (ts us vs ws : List �
         ap (λ n. entries_left turn n vs ws es fs) behind ∙ ap (filter_map (entry_in es fs)) places_same
         ∙ filter_map_same (entry_in es fs) (entry_in cs ds) (places_left turn (p + 1) ts us) (weaken IsOther (λ x. entry_in es fs x ≡ entry_in cs ds x) entry_same (places_left turn (p + 1) ts us) others)
         ∙ sym (ap (λ n. entries_left turn n ts us cs ds) behind)
+
+-- the next slot of a walk became Removed, and its entry was the first of those that were left
+pub record IsTaken {T : Type 0} (ts us : List ℕ) (cs ds : List (Option (T × ℕ))) (c : Course) (left : ℕ) (e : T × ℕ) (before : List (T × ℕ)) : Type 0 where
+  pub walk : IsWalk ts us cs ds c.turn c.next left
+  pub course : IsCourse ts us c
+  pub gives : before ≡ e ∷ entries_left c.turn c.next ts us cs ds
+
+module _ {T : Type 0} (ts us : List ℕ) (cs ds : List (Option (T × ℕ))) (turn next left : ℕ) (walk : IsWalk ts us cs ds turn next left) (p : ℕ) (c : Course) (on : IsNextOn ts us turn next p c) where
+  pub next_cell : (e : T × ℕ) × (cell_at (of_turn c.turn cs ds) p ≡ Some e)
+  next_cell = (agree_in ts us cs ds turn next left walk c.turn).filled p on.live
+
+  module _ (vs ws : List ℕ) (es fs : List (Option (T × ℕ))) (tags : IsEdit c.turn (λ l. slice_set l p 1) ts us vs ws) (cells : IsEdit c.turn (λ l. slice_set l p None) cs ds es fs) where
+    taken : (e : T × ℕ) → cell_at (of_turn c.turn cs ds) p ≡ Some e → Agree vs es → Agree ws fs → length vs % 16 ≡ 0 → length ws % 16 ≡ 0 → IsTaken vs ws es fs c (left - 1) e (entries_left turn next ts us cs ds)
+    taken e cell agree older_agree sixteens older_sixteens =
+        let same = left_same c.turn p on.on_pass ts us vs ws tags cs ds es fs cells c.next on.behind in
+        let count = (walk_goes_on ts us cs ds turn next left walk p c on e cell).count ∙ sym (ap length same) in
+        record {
+          walk = record { agree = agree; older_agree = older_agree; sixteens = sixteens; older_sixteens = older_sixteens; count = count };
+          course = course_goes_on c.turn p on.on_pass ts us vs ws tags c.next c.ahead c.until on.behind on.course;
+          gives = walk_gives ts us cs ds turn next left walk p c on e cell ∙ ap (λ l. e ∷ l) (sym same);
+        }
+
+  pub taken_newer : c.turn % 2 ≡ 1 → (e : T × ℕ) → cell_at cs p ≡ Some e → (es : List (Option (T × ℕ))) → es ≡ slice_set cs p None → IsTaken (slice_set ts p 1) us es ds c (left - 1) e (entries_left turn next ts us cs ds)
+  taken_newer odd e cell es is =
+      let within : p < length ts = subst (λ l. p < length l) (of_turn-odd c.turn ts us odd) on.within in
+      subst (λ l. IsTaken (slice_set ts p 1) us l ds c (left - 1) e (entries_left turn next ts us cs ds)) (sym is)
+      (taken (slice_set ts p 1) us (slice_set cs p None) ds (edit_odd c.turn (λ l. slice_set l p 1) ts us odd) (edit_odd c.turn (λ l. slice_set l p None) cs ds odd) e (ap (λ l. cell_at l p) (of_turn-odd c.turn cs ds odd) ∙ cell)
+      (Agree-empty ts cs walk.agree p within 1 (omega arith)) walk.older_agree (ap (λ n. n % 16) (length-set ts p 1) ∙ walk.sixteens) walk.older_sixteens)
+
+  pub taken_older : c.turn % 2 ≢ 1 → (e : T × ℕ) → cell_at ds p ≡ Some e → (fs : List (Option (T × ℕ))) → fs ≡ slice_set ds p None → IsTaken ts (slice_set us p 1) cs fs c (left - 1) e (entries_left turn next ts us cs ds)
+  taken_older even e cell fs is =
+      let within : p < length us = subst (λ l. p < length l) (of_turn-even c.turn ts us even) on.within in
+      subst (λ l. IsTaken ts (slice_set us p 1) cs l c (left - 1) e (entries_left turn next ts us cs ds)) (sym is)
+      (taken ts (slice_set us p 1) cs (slice_set ds p None) (edit_even c.turn (λ l. slice_set l p 1) ts us even) (edit_even c.turn (λ l. slice_set l p None) cs ds even) e (ap (λ l. cell_at l p) (of_turn-even c.turn cs ds even) ∙ cell)
+      walk.agree (Agree-empty us ds walk.older_agree p within 1 (omega arith)) walk.sixteens (ap (λ n. n % 16) (length-set us p 1) ∙ walk.older_sixteens))

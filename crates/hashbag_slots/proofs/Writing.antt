@@ -37,6 +37,10 @@ set_twice [] p x y = refl
 set_twice (z ∷ xs) zero x y = refl
 set_twice (z ∷ xs) (suc p) x y = ap (λ ys. z ∷ ys) (set_twice xs p x y)
 
+-- an element was replaced, and then replaced again
+pub put_back : {X : Type 0} (xs ys zs : List X) (p : ℕ) (x y : X) → ys ≡ slice_set xs p x → zs ≡ slice_set ys p y → zs ≡ slice_set xs p y
+put_back xs ys zs p x y first then = then ∙ ap (λ l. slice_set l p y) first ∙ set_twice xs p x y
+
 -- a whole list was written anew
 pub whole : (zs ts : List ℕ) (n : ℕ) → length zs ≡ n → length ts ≡ n → take n (zs ++ drop (length zs) ts) ≡ zs
 whole [] [] zero e f = refl

@@ -14,7 +14,7 @@ module _ {T : Type 0} where
   abbrev pub IsBlank : List (Option T) → Type 0
   IsBlank cs = (p : ℕ) → cell_at cs p ≡ None
 
-  -- the cells of a row: each value, or None if its flag is false
+  -- the cells of a row with the values xs and the flags fs: each value, or None if its flag is false
   abbrev pub filled_values : List T → List Bool → List (Option T)
   filled_values [] fs = []
   filled_values (x ∷ xs) [] = []

@@ -1,10 +1,10 @@
--- A table of slots as it is kept: a tag for each slot, which is a byte, and a row of cells. Which slots the two stand for, and what a probe
--- relies on.
-use Rattle.std.specs.Prelude.{◌≡◌, ℕ, ◌+◌, ◌/◌, ◌^◌, ◌<◌, ◌≤◌, Bool, true, List, [], ◌∷◌, length, Option, Some, None, if◌then◌else◌, nat_eq, slice_index_or}
+-- How a table of slots is stored: a tag for each slot, which is a byte, and a row of cells. This file says which slots the tags and the cells stand
+-- for, and what a probe relies on.
+use Rattle.std.specs.Prelude.{◌≡◌, ◌≢◌, ℕ, ◌+◌, ◌/◌, ◌^◌, ◌<◌, ◌≤◌, Bool, true, List, [], ◌∷◌, length, Option, Some, None, if◌then◌else◌, nat_eq, slice_index_or}
 use Rattle.hashbag_slots.specs.declared.slots.Slot.{Slot}
 use Rattle.hashbag_slots.specs.declared.slots.Slot.TheVariants.{Empty, Removed, Moved, Live}
 use Rattle.hashbag_slots.specs.Cells.{cell_at}
-use Rattle.hashbag_slots.specs.Slots.{path_slot, slot_at, live_count, removed_count, entries_in, KeepsPaths, PlacesAll, Carries, AreApart, IsTable}
+use Rattle.hashbag_slots.specs.Slots.{path_slot, slot_at, live_count, removed_count, entries_in, KeepsPaths, PlacesAlong, PlacesAll, Carries, AreApart, IsTable}
 
 -- the tag of a Live slot, its fingerprint: 128 plus the top 7 bits of its value's hash
 abbrev pub fingerprint_of : ℕ → ℕ
@@ -15,20 +15,33 @@ abbrev pub tag_at : List ℕ → ℕ → ℕ
 tag_at ts p = slice_index_or ts p 0
 
 -- the first tag of a Live slot from the place `from` on is at p
-abbrev pub IsNextMark : List ℕ → ℕ → ℕ → Type 0
-IsNextMark ts from p = (from ≤ p) × (p < length ts) × (128 ≤ tag_at ts p) × ((q : ℕ) → from ≤ q → q < p → tag_at ts q < 128)
+abbrev pub IsNextLiveTag : List ℕ → ℕ → ℕ → Type 0
+IsNextLiveTag ts from p = (from ≤ p) × (p < length ts) × (128 ≤ tag_at ts p) × ((q : ℕ) → from ≤ q → q < p → tag_at ts q < 128)
 
--- the tags of the first `many` slots on the path of a hash are those of Live ones
-abbrev pub AreMarked : ℕ → List ℕ → ℕ → Type 0
-AreMarked hash ts many = (step : ℕ) → step < many → 128 ≤ tag_at ts (path_slot (length ts) hash step)
+-- the first `many` slots on the path of a hash are Live, by their tags
+abbrev pub AreLiveTags : ℕ → List ℕ → ℕ → Type 0
+AreLiveTags hash ts many = (step : ℕ) → step < many → 128 ≤ tag_at ts (path_slot (length ts) hash step)
 
--- what contracts see of a table: its slots in order. The tags are for `IsReached` and `IsUndecided`
+-- the place is on the path of a hash, and all slots before it on that path are Live
+abbrev pub IsPastLiveTags : ℕ → List ℕ → ℕ → Type 0
+IsPastLiveTags hash ts p = (step : ℕ) × (step < length ts) × (p ≡ path_slot (length ts) hash step) × AreLiveTags hash ts step
+
+-- an Empty tag is at a place from `from` to before `until`
+abbrev pub HasEmptyIn : List ℕ → ℕ → ℕ → Type 0
+HasEmptyIn ts from until = (p : ℕ) × (from ≤ p) × (p < until) × (tag_at ts p ≡ 0)
+
+-- no Empty tag is at the places from `from` to before `until`
+abbrev pub HasNoEmptyIn : List ℕ → ℕ → ℕ → Type 0
+HasNoEmptyIn ts from until = (p : ℕ) → from ≤ p → p < until → tag_at ts p ≢ 0
+
+-- what contracts see of a table: its slots in the order of places, and their tags. The tags are there for `IsReached` and `IsUndecided`
 pub record Columns (T : Type 0) : Type 0 where
   pub slots : List (Slot T)
   pub tags : List ℕ
 
 module _ {T : Type 0} where
-  -- the slot that a tag and a cell stand for. If the cell is empty, 1 is Removed, 2 is Moved, and any other tag is Empty
+  -- the slot that a tag and a cell stand for. If the cell has a value, the slot is Live. If the cell is empty, the tag 1 is Removed, 2 is Moved, and
+  -- any other is Empty
   abbrev pub slot_of : ℕ → Option (T × ℕ) → Slot T
   slot_of tag None = if nat_eq tag 1 then Removed else if nat_eq tag 2 then Moved else Empty
   slot_of tag (Some e) = Live e.0 e.1
@@ -55,14 +68,22 @@ module _ {T : Type 0} where
     pub filled : (p : ℕ) → from ≤ p → 128 ≤ tag_at ts p → (e : T × ℕ) × (cell_at cs p ≡ Some e)
     pub tagged : (p : ℕ) (e : T × ℕ) → cell_at cs p ≡ Some e → (from ≤ p) × (128 ≤ tag_at ts p)
 
-  -- each Live value of a table is found under this hash: a probe for it meets no Empty slot before its slot, and the
-  -- tag of its slot is the fingerprint of its hash. Each call requires and ensures it
+  -- each Live value of a table is found under this hash. A probe for the value meets no Empty slot before the slot of the value. The tag of that slot
+  -- is the fingerprint of the value's hash. Each call on a table requires and ensures `IsReached`
   pub record IsReached (hash : T → ℕ) (table : Columns T) : Type 0 where
     pub paths : KeepsPaths hash table.slots
     pub fingerprints : (p : ℕ) (v : T) (n : ℕ) → slot_at table.slots p ≡ Live v n → tag_at table.tags p ≡ fingerprint_of (hash v)
 
-  -- `many` slots of an older table, from the place `from` on, are carried into a newer one: each Live value is placed in the newer one in
-  -- turn, in the first slot on its path that was not Live, and its slot in the older one becomes Moved
+  -- `IsReached` for the table that tags and cells stand for
+  abbrev pub AreReached : (T → ℕ) → List ℕ → List (Option (T × ℕ)) → Type 0
+  AreReached hash ts cs = IsReached hash (columns ts cs)
+
+  -- `PlacesAlong` for the slots of two tables and the hash of the value
+  abbrev pub PlacesBy : (T → ℕ) → T → ℕ → Columns T → Columns T → Type 0
+  PlacesBy hash v n old new = PlacesAlong (hash v) v n old.slots new.slots
+
+  -- `many` slots of an older table, from the place `from` on, are carried into a newer one. Each Live value in turn is placed in the newer table, in
+  -- the first slot on its path that was not Live. Its slot in the older table becomes Moved
   pub record CarriesInto (eq : T → T → Bool) (hash : T → ℕ) (from many : ℕ) (newer older newer' older' : Columns T) : Type 0 where
     pub placed : PlacesAll hash (entries_in from many older.slots) newer.slots newer'.slots
     pub left : Carries from many older.slots older'.slots

@@ -7,8 +7,7 @@ use Rattle.hashbag_slots.specs.Cells.{cell_at, filled_values}
 use Rattle.hashbag_slots.specs.Columns.{fingerprint_of, tag_at, slots_of}
 use Rattle.hashbag_slots.specs.Slots.{IsSlotCount, path_slot, is_live, holds, live_count, removed_count, slot_at, HoldsAt, IsNextLive, entry_at, entries, recounted, raised, count_in, Places, PlacesAll, carried, entries_in}
 
--- 16 slots: 31 begins at the last one, which 15 has, and so it lies in slot 0. In slot 1 there was a value, and in slot 2
--- there was one that was carried
+-- 16 slots. The home of 31 is the last slot, which 15 has, so 31 is in slot 0. The value of slot 1 was removed, and the value of slot 2 was carried
 abbrev table : List (Slot ℕ)
 table = Live 31 2 ∷ Removed ∷ Moved ∷ replicate 12 Empty ++ Live 15 7 ∷ []
 
@@ -98,14 +97,14 @@ carried_away = refl
 stays_removed : carried (slot_at table 1) ≡ Removed
 stays_removed = refl
 
--- 47 begins at the last slot too, and goes past 15 and 31 into the Removed slot
+-- the home of 47 is the last slot too. Its path goes past 15 and 31 to the Removed slot, into which it is placed
 abbrev after : List (Slot ℕ)
 after = Live 31 2 ∷ Live 47 1 ∷ Moved ∷ replicate 12 Empty ++ Live 15 7 ∷ []
 
 abbrev placed : Places 47 1 table after
 placed = record { at = 1; within = lit< tt; free = refl; after = refl }
 
--- what 47 goes past
+-- the two slots before that one on the path of 47 are Live
 passed : (step : ℕ) → step < 2 → is_live (slot_at table (path_slot 16 47 step)) ≡ true
 passed zero within = refl
 passed (suc zero) within = refl
@@ -116,11 +115,11 @@ all_placed = (after, record { places = placed; first = record { step = 2; within
 
 -- ---- tags and cells
 
-least_mark : fingerprint_of 31 ≡ 128
-least_mark = refl
+least_fingerprint : fingerprint_of 31 ≡ 128
+least_fingerprint = refl
 
-greatest_mark : fingerprint_of 18446744073709551615 ≡ 255
-greatest_mark = refl
+greatest_fingerprint : fingerprint_of 18446744073709551615 ≡ 255
+greatest_fingerprint = refl
 
 no_tag : tag_at (128 ∷ 1 ∷ []) 2 ≡ 0
 no_tag = refl

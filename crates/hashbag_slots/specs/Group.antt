@@ -17,15 +17,29 @@ IsMaskOf test from until bits = (i : ℕ) → bit_at bits i ≡ (if nat_lt (from
 abbrev pub IsMaskFrom : (ℕ → Bool) → ℕ → ℕ → ℕ → ℕ → Type 0
 IsMaskFrom test from at until bits = IsMaskOf (from_place_on test at) from until bits
 
--- bits show which tags from the place `from` to before `until` are this one
+-- p is the place of the lowest set bit, if bit 0 is of the place `from`. By tests: let the bits be the mask of any test, at the places from any `at`
+-- to before any `until`. Then p is the first of these places that passes the test
+abbrev pub IsLowestOf : ℕ → ℕ → ℕ → Type 0
+IsLowestOf from bits p = (test : ℕ → Bool) (at until : ℕ) → from ≤ at → IsMaskFrom test from at until bits → IsFirstPlace test at until p
+
+-- let the bits be the mask of any test, at the places from any `at` to before any `until`. Then p is before `until`
+abbrev pub IsWithinMask : ℕ → ℕ → ℕ → Type 0
+IsWithinMask from bits p = (test : ℕ → Bool) (at until : ℕ) → IsMaskFrom test from at until bits → p < until
+
+-- `rest` are the bits without the bit of the place p. By tests: let the bits be the mask of any test. Then `rest` is the mask of the same test at the
+-- places after p
+abbrev pub IsRestAfter : ℕ → ℕ → ℕ → ℕ → Type 0
+IsRestAfter from bits p rest = (test : ℕ → Bool) (at until : ℕ) → IsMaskFrom test from at until bits → IsMaskFrom test from (p + 1) until rest
+
+-- the bits are the mask of the tags that are `tag`, at the places from `from` to before `until`
 abbrev pub IsTagMask : List ℕ → ℕ → ℕ → ℕ → ℕ → Type 0
 IsTagMask ts tag from until bits = IsMaskOf (λ p. tag_at ts p == tag) from until bits
 
--- of the 16 tags from the place `from` on: bit i is 1 if the tag at from + i is this one and none up to it is Empty. `ends`: one of the 16
--- is Empty
+-- the bits and `ends` are read of the 16 tags from the place `from` on. Bit i is 1 if the tag at from + i is `tag`, and no tag from `from` to there
+-- is Empty. `ends` is true if one of the 16 is Empty
 abbrev pub IsTagMaskBeforeEmpty : List ℕ → ℕ → ℕ → ℕ → Bool → Type 0
 IsTagMaskBeforeEmpty ts tag from bits ends = (stop : ℕ) × IsFirstPlace (λ p. tag_at ts p == 0) from (from + 16) stop × IsTagMask ts tag from stop bits × (ends ≡ nat_lt stop (from + 16))
 
--- of the slots from the place `from` on that the bits fingerprint as having this tag, none holds a value that passes the test
+-- the bits are the mask of the tags that are `tag`, from the place `from` on. No slot that they mark holds a value that passes the test
 abbrev pub IsAbsentAmong : {T : Type 0} → (T → Bool) → Columns T → ℕ → ℕ → ℕ → Type 0
 IsAbsentAmong test table tag from bits = (until : ℕ) → IsTagMask table.tags tag from until bits → (p : ℕ) → from ≤ p → p < until → tag_at table.tags p ≡ tag → holds test (slot_at table.slots p) ≡ false

@@ -2,6 +2,7 @@
 -- index of a slot.
 use Rattle.std.specs.Prelude.{◌≡◌, ◌≢◌, ℕ, ◌+◌, ◌%◌, ◌^◌, ◌<◌, ◌≤◌, ◌⊎◌, Bool, true, false, List, [], ◌∷◌, take, drop, length, Option, Some, None, slice_index_or, slice_set, count_by}
 use Rattle.std.specs.List.{filter_map}
+use Rattle.std.specs.Map.{lookup_entry}
 use Rattle.hashbag_slots.specs.declared.slots.Slot.{Slot}
 use Rattle.hashbag_slots.specs.declared.slots.Slot.TheVariants.{Empty, Removed, Moved, Live}
 
@@ -21,7 +22,7 @@ module _ {T : Type 0} where
   is_live Moved = false
   is_live (Live v n) = true
 
-  -- the slot held a value that was taken out
+  -- the slot held a value that was removed
   abbrev pub is_removed : Slot T → Bool
   is_removed Empty = false
   is_removed Removed = true
@@ -86,6 +87,10 @@ module _ {T : Type 0} where
   entry_at ss None = None
   entry_at ss (Some p) = slot_entry (slot_at ss p)
 
+  -- the entry at `place` and the first entry whose value passes the test are the same, or there is neither
+  abbrev pub IsPlaceOf : (T → Bool) → List (Slot T) → Option ℕ → Type 0
+  IsPlaceOf test ss place = entry_at ss place ≡ lookup_entry test (entries ss)
+
   -- a probe for a Live value among n slots meets no Empty slot before that value's slot
   pub record IsPathRule (n : ℕ) (hash : T → ℕ) (ss : List (Slot T)) : Type 0 where
     pub path : (v : T) (count step : ℕ) → step < n → slot_at ss (path_slot n (hash v) step) ≡ Live v count
@@ -128,6 +133,10 @@ module _ {T : Type 0} where
   count_in Moved = 0
   count_in (Live v n) = n
 
+  -- a Live slot with this value and the count of the slot
+  abbrev pub with_value : T → Slot T → Slot T
+  with_value v s = Live v (count_in s)
+
   -- one slot that was not Live now holds the value and the count, and all others are as they were
   pub record Places (v : T) (n : ℕ) (old new : List (Slot T)) : Type 0 where
     pub at : ℕ
@@ -135,11 +144,11 @@ module _ {T : Type 0} where
     pub free : is_live (slot_at old at) ≡ false
     pub after : new ≡ slice_set old at (Live v n)
 
-  -- the value and the count are in the first slot on the path of a hash that was not Live, and all others are as they were
+  -- the first slot that was not Live on the path of a hash now holds the value and the count, and all other slots are as they were
   abbrev pub PlacesAlong : ℕ → T → ℕ → List (Slot T) → List (Slot T) → Type 0
   PlacesAlong hash v n old new = (p : ℕ) × IsFirstFree hash old p × (new ≡ slice_set old p (Live v n))
 
-  -- `Places`, and the slot is the first on the path of the value's hash that was not Live
+  -- `Places`, and the slot was the first on the path of the value's hash that was not Live
   pub record PlacesFirst (hash : T → ℕ) (v : T) (n : ℕ) (old new : List (Slot T)) : Type 0 where
     pub places : Places v n old new
     pub first : IsFirstFree (hash v) old places.at

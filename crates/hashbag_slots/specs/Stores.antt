@@ -11,7 +11,8 @@ module _ {T : Type 0} where
   cells_of (Unwritten block deed) = replicate block.len None
   cells_of (Written row) = row
 
-  -- a block's deed is the right to free that block, at that allocator. A row keeps its own deed, and its invariant says this
+  -- the memory of a store can be freed at this allocator. A block needs its deed, which is the right to free that block there. A row has its deed
+  -- within, as the row's own invariant says
   abbrev pub IsStore : Global → Store T → Type 0
   IsStore alloc Nothing = ⊤
   IsStore alloc (Unwritten block deed) = (deed.at ≡ block.ptr) × (deed.len ≡ block.len) × (deed.alloc ≡ alloc)

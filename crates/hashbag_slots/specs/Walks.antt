@@ -7,11 +7,11 @@ use Rattle.hashbag_slots.specs.Cells.{cell_at}
 use Rattle.hashbag_slots.specs.Columns.{Agree, tag_at}
 use Rattle.hashbag_slots.specs.Group.{IsMaskOf, IsMaskFrom}
 
--- the pass in which a walk comes to a place: every third block of 256 slots is of one pass
+-- the pass in which a walk comes to a place. A pass has every third block of 256 slots
 abbrev pub pass_of : ℕ → ℕ
 pass_of p = p / 256 % 3
 
--- `newer` in odd turns, `older` in even ones
+-- `newer` in odd turns, `older` in even ones. A turn is one pass over one table: a walk has six, numbered 5 to 0
 abbrev pub of_turn : {X : Type 0} → ℕ → X → X → X
 of_turn turn newer older = if nat_eq (turn % 2) 1 then newer else older
 
@@ -24,11 +24,11 @@ live_places p (t ∷ ts) = if nat_le 128 t then p ∷ live_places (suc p) ts els
 abbrev pub live_places_from : ℕ → List ℕ → List ℕ
 live_places_from from ts = live_places from (drop from ts)
 
--- of these places, those of a pass
+-- the places of this list that are of the pass
 abbrev pub in_pass : ℕ → List ℕ → List ℕ
 in_pass pass ps = filter (λ p. nat_eq (pass_of p) pass) ps
 
--- the Live places of a turn from the place `from` on, each with its turn: those of the pass turn / 2
+-- the Live places from the place `from` on that a turn gives, each with the turn. The pass of a turn is turn / 2
 abbrev pub turn_places : ℕ → ℕ → List ℕ → List ℕ → List (ℕ × ℕ)
 turn_places turn from newer older = map (λ p. (turn, p)) (in_pass (turn / 2) (live_places_from from (of_turn turn newer older)))
 
@@ -37,7 +37,7 @@ abbrev pub turns : ℕ → List ℕ → List ℕ → List (ℕ × ℕ)
 turns zero newer older = []
 turns (suc turn) newer older = turn_places turn 0 newer older ++ turns turn newer older
 
--- the Live places, each with its turn, that are left to a walk which in this turn looks next at the place `next`
+-- the Live places that a walk still gives, each with its turn: in this turn those from the place `next` on, and then those of the later turns
 abbrev pub places_left : ℕ → ℕ → List ℕ → List ℕ → List (ℕ × ℕ)
 places_left turn next newer older = turn_places turn next newer older ++ turns turn newer older
 
@@ -45,7 +45,8 @@ places_left turn next newer older = turn_places turn next newer older ++ turns t
 abbrev pub NoneLive : List ℕ → ℕ → ℕ → Type 0
 NoneLive ts pass from = (p : ℕ) → from ≤ p → pass_of p ≡ pass → tag_at ts p < 128
 
--- the next 16 slots of the pass, from the place `from` on, that have a Live one, and a bit for each
+-- group.0 is the first place of the next 16 slots of the pass, from the place `from` on, of which one or more are Live. group.1 has a bit for each
+-- of the 16: whether the slot is Live
 pub record IsNextGroup (ts : List ℕ) (pass from : ℕ) (group : ℕ × ℕ) : Type 0 where
   pub after : from ≤ group.0
   pub sixteen : group.0 % 16 ≡ 0
@@ -67,7 +68,7 @@ pub record IsCourse (newer older : List ℕ) (c : Course) : Type 0 where
   pub sixteen : c.until % 16 ≡ 0
   pub on_pass : (p : ℕ) → c.next ≤ p → p < c.until → pass_of p ≡ c.turn / 2
 
--- a walk that is at `next` in this turn gives `place` next, and goes on with the course c
+-- a walk has come to the place `next` of this turn. The first place that it still gives is `place`, and after that place its course is c
 pub record IsNextOn (newer older : List ℕ) (turn next place : ℕ) (c : Course) : Type 0 where
   pub within : place < length (of_turn c.turn newer older)
   pub live : 128 ≤ tag_at (of_turn c.turn newer older) place

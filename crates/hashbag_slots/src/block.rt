@@ -1,11 +1,11 @@
 //! A block of memory for values that are stored later: how it is allocated, used, and freed.
 //!
-//! `core::slots::Slots` needs a value of `T` to begin with. A `Block` is the memory before that, as an allocator returns it. It becomes a
-//! row with the first value. A row that holds nothing becomes a block again, to be freed.
-ghost use Rattle.core.specs.Prelude.{◌≡◌, ℕ, ◌*◌, ◌^◌, ◌<◌, false, replicate, IfOk, slice_index_or};
+//! `core::slots::Slots`, here `Memory`, can't be built without a value of `T`. Before the first value there is a `Block`: the memory as an allocator
+//! returns it. The first value turns the block into `Memory`. `Memory` that holds nothing becomes a block again, to be freed.
+ghost use Rattle.core.specs.Prelude.{◌≡◌, ℕ, ◌*◌, ◌^◌, ◌<◌, false, IfOk, slice_index_or};
 ghost use Rattle.core.specs.Mem.Slots.{slots_ptr, slots_len, slots_filled};
 ghost use denote.RawPtr.{Ptr};
-ghost use Rattle.hashbag_slots.specs.Owning.{block_owns, deed_owns, FitsBlock};
+ghost use Rattle.hashbag_slots.specs.Owning.{block_owns, deed_owns, FitsBlock, IsUnfilled};
 
 use core::slots::Slots as Memory;
 use std::alloc::{AllocError, Allocator};
@@ -44,6 +44,8 @@ pub fn allocate<T, A: Allocator>(
     len: usize,
 ) -> Result<(Block<T>, Deed<T, A>), AllocError>
     requires { FitsBlock T.row len }
+
+    // The block has `len` places. The deed is the right to free this block by this allocator.
     ensures { IfOk result (λ p. (p.0.len ≡ len) × (p.1.at ≡ p.0.ptr) × (p.1.len ≡ len) × (p.1.alloc ≡ alloc.now)) }
 {
     match alloc.allocate(len * size_of::<T>(), align_of::<T>()) {
@@ -68,17 +70,21 @@ pub fn release<T, A: Allocator>(alloc: &A, block: Block<T>, deed: Deed<T, A>)
 }
 
 impl<T> Block<T> {
-    /// Returns the block as a row of empty places. `_like` isn't read: in contracts each empty place has this value.
-    pub fn into_row(self, _like: &T) -> Memory<T>
-        ensures { (slots_ptr result ≡ self.ptr) × (slots_len result ≡ self.len) × (slots_filled result ≡ replicate self.len false) }
+    /// Turns the block into `Memory` whose places are all empty. `_like` isn't read: in contracts each empty place has some value, and here that is
+    /// `_like`.
+    pub fn into_memory(self, _like: &T) -> Memory<T>
+        // The memory is the block's: at the same address, with as many places. None of them holds a value.
+        ensures { IsUnfilled self.ptr self.len result }
     {
         let Block { ptr, len } = self;
         unsafe { Memory::from_raw_parts(ptr, len) }
     }
 
-    /// Returns the block of a row that holds nothing.
-    pub fn from_row(row: Memory<T>) -> Block<T>
+    /// Turns `Memory` that holds nothing into a block.
+    pub fn from_memory(row: Memory<T>) -> Block<T>
         requires { (k : ℕ) → k < slots_len row → slice_index_or (slots_filled row) k false ≡ false }
+
+        // The block is at the address of the memory, and has as many places.
         ensures { (result.ptr ≡ slots_ptr row) × (result.len ≡ slots_len row) }
     {
         let (ptr, len) = unsafe { row.into_raw_parts() };

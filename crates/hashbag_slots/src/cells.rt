@@ -1,6 +1,6 @@
 //! A row of cells, each empty or with a value. A cell is first written when a value is put into it.
 //!
-//! So cells for many values cost no more than their allocation, however many there are: their memory is first touched where values are put.
+//! So a row costs no more than its allocation, however many cells it has: memory is first touched where a value is put.
 ghost use Rattle.std.specs.Prelude.{◌≡◌, ℕ, ◌<◌, length, replicate, slice_set, [], Some, None, IfOk, IsOk};
 ghost use Rattle.std.specs.declared.alloc.Global.{Global as Heap};
 ghost use Rattle.hashbag_slots.specs.Cells.{cell_at, IsFilled, IsBlank};
@@ -13,8 +13,8 @@ use std::alloc::{AllocError, Global};
 use std::marker::Model;
 use std_alloc::room::may_hold;
 
-/// Where cells are: nowhere, in a block that wasn't written yet, with the right to free it (its deed), or in a `Row`. The block becomes a row
-/// with the first value.
+/// Where the cells are: nowhere, if there are none; in a block, with its deed, which is the right to free the block; or in a `Row`. Nothing was
+/// written to a block. It becomes a row with the first value.
 pub enum Store<T> {
     Nothing,
     Unwritten(Block<T>, Deed<T, Global>),
@@ -46,11 +46,13 @@ fn put_into<T>(store: Store<T>, cell: (usize, T, Global)) -> (Store<T>, ())
     requires empty { cell_at (cells_of store) cell.0 ≡ None }
     requires store { IsStore cell.2 store }
     ensures cells { cells_of result.0 ≡ slice_set (cells_of store) cell.0 (Some cell.1) }
+
+    // The result is a Row, of which `IsStore` holds at any allocator.
     ensures store { (alloc : Heap) → IsStore alloc result.0 }
 {
     let (place, value, alloc) = cell;
     let mut row = match store {
-        Store::Unwritten(block, deed) => Row::new(block.into_row(&value), deed, alloc),
+        Store::Unwritten(block, deed) => Row::new(block.into_memory(&value), deed, alloc),
         Store::Written(row) => row,
         Store::Nothing => unreachable!(),
     };
@@ -124,7 +126,7 @@ impl<T> Cells<T> {
         }
     }
 
-    /// Frees the memory of cells that are all empty: no value is dropped here, and none is forgotten.
+    /// Frees the memory of the cells. All cells must be empty, so no value is lost without a drop.
     pub fn free(self)
         requires { IsBlank self }
     {

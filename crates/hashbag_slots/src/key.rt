@@ -9,11 +9,11 @@ ghost use Rattle.std.specs.String.{string_bytes};
 
 use std::hash::Hash;
 
-/// A key, by which values are looked up and removed: a lent value, `&T`, or what names one. A `&str` names a `String`, a `&[U]` a `Vec<U>`,
-/// and a `&U` a `Box<U>`.
+/// A key, by which values are looked up and removed: a reference to a value, `&T`, or something that names a value. A `&str` names a `String`, a
+/// `&[U]` a `Vec<U>`, and a `&U` a `Box<U>`.
 ///
-/// A key is hashed as the values that it names, so their slots are on its path. All values that a key names are equal. It names every value
-/// equal to them.
+/// A key has the same hash as the values that it names, so a probe for the key finds them. All values that a key names are equal. A key names every
+/// value that is equal to one that it names.
 pub trait Key<T: Eq + Hash>: Copy + Hash {
     // What `names` returns.
     ghost names: { Self → T → Bool };
@@ -22,10 +22,10 @@ pub trait Key<T: Eq + Hash>: Copy + Hash {
     fn names(&self, value: &T) -> bool
         ensures { result ≡ names self.now value.now };
 
-    // A value is hashed as the keys that name it.
+    // A key and a value that it names write the same to a hasher.
     ghost hashed_alike: { (key : Self) (v : T) → IsTrue (names key v) → T.hash_input v ≡ Self.hash_input key };
 
-    // If a key names a value, it names all that are equal to it, and nothing else.
+    // If a key names a value, the key names exactly the values that are equal to that value.
     ghost names_one: { (key : Self) (v w : T) → IsTrue (names key v) → names key w ≡ T.eq w v };
 }
 

@@ -1,17 +1,18 @@
-//! The Live slots of a table: the next one, the next one of a walk over two tables, and dropping the values of all. In clauses `places_left`
-//! are the places of Live slots that a walk has still to come to.
+//! The Live slots of a table: how the next one is found, also in a walk over two tables, and how the values of all are dropped. In clauses
+//! `places_left` are the places of the Live slots that a walk hasn't given yet.
 ghost use Rattle.std.specs.Prelude.{◌≡◌, ℕ, ◌+◌, ◌%◌, ◌<◌, ◌≤◌, [], length, IfSome, IfNone, replicate, None};
 ghost use Rattle.hashbag_slots.specs.Walks.{of_turn, first_course, places_left, IsNextGroup, NoneLive, IsNextOn, IsCourse};
-ghost use Rattle.hashbag_slots.specs.Columns.{tag_at, IsNextMark, Agree, AgreeFrom};
+ghost use Rattle.hashbag_slots.specs.Columns.{tag_at, IsNextLiveTag, Agree, AgreeFrom};
 
 use crate::cells::Cells;
 use crate::group::{GROUP_WIDTH, first_live, match_live, take_lowest};
-use crate::tags::LEAST_MARK;
+use crate::tags::LEAST_LIVE;
 
 /// Returns the first place from `from` on whose slot is Live, or `None` if there is none.
 #[inline(always)]
 pub fn next_live(tags: &[u8], from: usize) -> Option<usize>
-    ensures some { IfSome result (IsNextMark tags.now from) }
+    // A slot is Live if its tag is 128 or more.
+    ensures some { IfSome result (IsNextLiveTag tags.now from) }
     ensures none { IfNone result ((q : ℕ) → from ≤ q → tag_at tags.now q < 128) }
 {
     let count = tags.len();
@@ -24,7 +25,7 @@ pub fn next_live(tags: &[u8], from: usize) -> Option<usize>
             }
             at += GROUP_WIDTH;
         } else {
-            if tags[at] >= LEAST_MARK {
+            if tags[at] >= LEAST_LIVE {
                 return Some(at);
             }
             at += 1;
@@ -33,10 +34,11 @@ pub fn next_live(tags: &[u8], from: usize) -> Option<usize>
     None
 }
 
-/// How many passes a walk makes over each of its tables. Each pass takes every third block of slots.
+/// How many passes a walk makes over each of its tables. Each pass takes every third block of slots. A turn is one pass over one table: a
+/// walk has six, numbered 5 to 0.
 const PASSES: usize = 3;
 
-/// The slots of a block. Their cells are some kilobytes, so that a pass brings only cells of its own blocks into the cache.
+/// How many slots a block has. Their cells are some kilobytes, so that a pass brings only cells of its own blocks into the cache.
 const BLOCK: usize = 256;
 
 /// How far a walk over two tables is.
@@ -44,9 +46,9 @@ const BLOCK: usize = 256;
 pub struct Course {
     /// How many turns come after this one. Odd numbers are turns of the newer table. The turn's pass is half of the number.
     pub turn: usize,
-    /// The place from which on the turn's slots weren't given yet.
+    /// The first place that the walk hasn't come to in this turn.
     pub next: usize,
-    /// A bit for each of the 16 slots below `until`: whether it is Live and not before `next`.
+    /// A bit for each of the 16 slots before `until`: whether the slot is Live and not before `next`.
     pub ahead: u64,
     /// The place that ends the 16 slots of `ahead`.
     pub until: usize,
@@ -55,6 +57,7 @@ pub struct Course {
 impl Course {
     /// Returns the course of a walk that begins.
     pub fn first() -> Course
+        // It is at the first place of turn 5, the first of six turns.
         ensures { result ≡ first_course }
     {
         Course {
@@ -66,7 +69,7 @@ impl Course {
     }
 }
 
-// Returns the next group of a pass, from the place `from` on, that has a Live slot: where it begins, and a bit for each of its 16 slots.
+// Returns the next group of a pass, from the place `from` on, that has a Live slot: the first place of the group, and a bit for each of its 16 slots.
 // Only groups of the pass are read.
 #[inline(always)]
 fn live_group(tags: &[u8], pass: usize, from: usize) -> Option<(usize, u64)>
@@ -81,7 +84,7 @@ fn live_group(tags: &[u8], pass: usize, from: usize) -> Option<(usize, u64)>
     }
     let count = tags.len();
     let block = from / BLOCK;
-    // Computed modulo `PASSES`: `pass - block`, how many blocks come before the next one of this pass.
+    // `pass - block` modulo `PASSES`, without going below 0: the number of blocks to skip.
     let skipped = (pass + (PASSES - 1) * block) % PASSES;
     let mut at = if skipped == 0 {
         from
@@ -101,7 +104,8 @@ fn live_group(tags: &[u8], pass: usize, from: usize) -> Option<(usize, u64)>
     None
 }
 
-// Finds the next Live slot from `from` in `turn` on, as `next_on_course` does if its course has no bit left.
+// Returns the first Live slot at or after `from` in this turn, or in a later turn, and the course after it. `next_on_course` calls it if its
+// course has no bit left.
 #[inline(always)]
 fn seek(newer: &[u8], older: &[u8], turn: usize, from: usize) -> Option<(usize, Course)>
     requires newer { length newer.now % 16 ≡ 0 }
@@ -133,15 +137,15 @@ fn seek(newer: &[u8], older: &[u8], turn: usize, from: usize) -> Option<(usize, 
     }
 }
 
-/// Returns the place of the next Live slot of a walk, and how far the walk is then. The turn of the returned course shows which table the
-/// place is in.
+/// Returns the place of the next Live slot of a walk, and the course after that place. The turn of the returned course shows which table the place is
+/// in.
 #[inline(always)]
 pub fn next_on_course(newer: &[u8], older: &[u8], course: Course) -> Option<(usize, Course)>
     requires newer { length newer.now % 16 ≡ 0 }
     requires older { length older.now % 16 ≡ 0 }
     requires course { IsCourse newer.now older.now course }
 
-    // It is the first of the places that are left, and leaves those after it. `None`: no place is left.
+    // The place is the first of those that are left, and the returned course has left the places after it. `None`: no place is left.
     ensures some { IfSome result (λ r. IsNextOn newer.now older.now course.turn course.next r.0 r.1) }
     ensures none { IfNone result (places_left course.turn course.next newer.now older.now ≡ []) }
 {
@@ -164,7 +168,7 @@ pub fn next_on_course(newer: &[u8], older: &[u8], course: Course) -> Option<(usi
     seek(newer, older, turn, until)
 }
 
-// Drops the values of the Live ones of 16 slots.
+// Drops the value of each Live slot among the 16 from the place `from` on, and empties its cell.
 #[inline(always)]
 fn drop_group<T: Drop>(tags: &[u8], cells: &mut Cells<(T, usize)>, from: usize)
     requires within { from + 16 ≤ length tags.now }
@@ -172,14 +176,14 @@ fn drop_group<T: Drop>(tags: &[u8], cells: &mut Cells<(T, usize)>, from: usize)
     ensures { AgreeFrom (from + 16) tags.now cells.new }
 {
     let mut ahead = match_live(tags, from);
-    'fingerprints: while ahead != 0 {
+    'live: while ahead != 0 {
         let (place, rest) = take_lowest(ahead, from);
         drop(cells.take(place));
         ahead = rest;
     }
 }
 
-/// Drops the value of each Live slot, and empties its cell. The tags stay as they are.
+/// Drops the value of each Live slot, and empties its cell. The tags are unchanged.
 ///
 /// Live slots are found sixteen at once.
 pub fn drop_live<T: Drop>(tags: &[u8], cells: &mut Cells<(T, usize)>)

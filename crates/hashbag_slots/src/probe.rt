@@ -1,18 +1,20 @@
 //! Probes along the path of a hash: where a value is, and the first slot that is free for one.
 //!
-//! A path begins at the hash modulo the number of slots, has the slots in turn, and has slot 0 after the last one. A probe reads tags,
-//! sixteen at once, and a cell only if its tag is the fingerprint of that hash. If hashes are spread evenly, one in 128 of the other values on
+//! A path begins at the hash modulo the number of slots, goes from slot to slot, and goes on at slot 0 after the last one. A probe reads tags,
+//! sixteen at once. It reads a cell only if the tag is the fingerprint of the hash. If hashes are spread evenly, one in 128 of the other values on
 //! the path has the same fingerprint.
 //!
-//! In clauses `hash_under ..` is the hash under the state, `HoldsAt` says that a place has the value that the key names, and `IsAbsent` that
-//! none has. `Agree`: the cells of Live slots have a value, and no others. `IsFirstFree`: it is the first slot on the path that isn't Live.
-ghost use Rattle.std.specs.Prelude.{◌≡◌, ◌≢◌, ℕ, ◌+◌, ◌<◌, ◌≤◌, length, true, false, IfSome, IfNone, Some};
+//! In clauses `hash_under ..` is the hash under the state. `HoldsAt` says that the slot at a place has the value that the key names, and `IsAbsent`
+//! that no slot has it. `Agree`: the cells of Live slots have a value, and no others. `IsFirstFree`: the place is the first on the path whose slot
+//! isn't Live. `AreReached`: a probe finds each value by its hash. `slots_of`: the slots that the tags and the cells stand for. `IsSlotCount`: 0, or a
+//! power of two from 16 to 2^59.
+ghost use Rattle.std.specs.Prelude.{◌≡◌, ℕ, ◌+◌, ◌<◌, ◌≤◌, length, true, false, IfSome, IfNone, Some};
 ghost use Rattle.hashbag_slots.specs.Cells.{cell_at, IsFilled};
 ghost use Rattle.hashbag_slots.specs.Hashing.{hash_under};
 ghost use Rattle.hashbag_slots.specs.FirstGroup.{IfFound, IfAbsent, IfOpen, IsUndecided};
 ghost use Rattle.hashbag_slots.specs.Group.{IsTagMask, IsAbsentAmong};
 ghost use Rattle.hashbag_slots.specs.Slots.{IsSlotCount, path_slot, HoldsAt, IsAbsent, IsFirstFree};
-ghost use Rattle.hashbag_slots.specs.Columns.{tag_at, AreMarked, Agree, columns, slots_of, IsReached};
+ghost use Rattle.hashbag_slots.specs.Columns.{tag_at, AreLiveTags, IsPastLiveTags, HasEmptyIn, HasNoEmptyIn, Agree, columns, slots_of, AreReached};
 
 use crate::cells::Cells;
 use crate::group::{
@@ -20,10 +22,10 @@ use crate::group::{
     take_lowest,
 };
 use crate::key::Key;
-use crate::tags::{EMPTY, LEAST_MARK, fingerprint_of};
+use crate::tags::{EMPTY, LEAST_LIVE, fingerprint_of};
 use std::hash::{BuildHasher, Hash};
 
-// A table with more slots than this is looked up at its home slot first: its cells are seldom in the processor's cache.
+// In a table with more slots than this, a look-up reads the home slot of the value first: the cells are seldom in the processor's cache.
 const MOST_CACHED: usize = 1 << 16;
 
 /// What the first 16 slots of a path show of a value.
@@ -31,14 +33,14 @@ const MOST_CACHED: usize = 1 << 16;
 pub enum FirstGroup {
     /// The value is in the slot at this place.
     Found(usize),
-    /// The value is in no slot of the table. This is the first place on its path whose slot is not Live, so it is put there.
+    /// The value is in no slot of the table. This is the first place on its path whose slot is not Live: an insertion puts the value there.
     Absent(usize),
-    /// They don't decide: the path goes on.
+    /// The 16 slots don't decide: the value may be further along its path.
     Open,
 }
 
-// Returns the place of the slot that a probe for a hash reads after `step` steps, among `count` slots. The path begins at the hash modulo
-// `count`, and has slot 0 after the last slot.
+// Returns the place of the slot that a probe for a hash reads after `step` steps, among `count` slots. The path begins at the hash modulo `count`,
+// and goes on at slot 0 after the last slot.
 #[inline(always)]
 fn path_slot(hash: u64, step: usize, count: usize) -> usize
     requires count { IsSlotCount count }
@@ -72,7 +74,7 @@ fn find_probing<T: Eq + Hash, S: BuildHasher, Q: Key<T>>(
     requires hashed { hash ≡ hash_under Q.hash_input S.BuildHasher S.Hasher.Hasher state.now key }
     requires count { IsSlotCount (length tags.now) }
     requires agree { Agree tags.now cells.now }
-    requires reached { IsReached (hash_under T.hash_input S.BuildHasher S.Hasher.Hasher state.now) (columns tags.now cells.now) }
+    requires reached { AreReached (hash_under T.hash_input S.BuildHasher S.Hasher.Hasher state.now) tags.now cells.now }
     ensures found { IfSome result (HoldsAt (Q.names key) (slots_of tags.now cells.now)) }
     ensures absent { IfNone result (IsAbsent (Q.names key) (slots_of tags.now cells.now)) }
 {
@@ -108,7 +110,8 @@ fn find_probing<T: Eq + Hash, S: BuildHasher, Q: Key<T>>(
     None
 }
 
-// Returns the place of an equal value among at most 16 slots from `from` on. Bit i of `bits` says whether the tag at `from + i` is the fingerprint.
+// Returns the place of the value that the key names, if `bits` marks its slot. Up to some place, bit i is 1 exactly if the tag at `from + i` is the
+// fingerprint; bits behind that place are 0.
 #[inline(always)]
 fn find_tagged<T: Eq + Hash, Q: Key<T>>(
     tags: &[u8],
@@ -138,15 +141,17 @@ fn find_tagged<T: Eq + Hash, Q: Key<T>>(
     None
 }
 
-/// Returns whether it found an Empty slot, which ends a probe, between the first slot of a hash's path and a later place.
+/// Returns whether it found an Empty slot between the first slot of a hash's path and a later place. A probe ends at an Empty slot.
 ///
 /// It reads sixteen tags at once, from the place backwards, and may miss an Empty slot that is less than sixteen after the first slot.
 #[inline(always)]
 pub fn is_empty_before(tags: &[u8], hash: u64, place: usize) -> bool
     requires count { IsSlotCount (length tags.now) }
     requires within { place ≤ length tags.now }
-    ensures met { result ≡ true → (p : ℕ) × (path_slot (length tags.now) hash 0 ≤ p) × (p < place) × (tag_at tags.now p ≡ 0) }
-    ensures none { result ≡ false → (p : ℕ) → path_slot (length tags.now) hash 0 + 16 ≤ p → p < place → tag_at tags.now p ≢ 0 }
+
+    // With `first` the first slot of the path. `true`: an Empty slot is in `first..place`. `false`: none is in `first + 16..place`.
+    ensures met { result ≡ true → HasEmptyIn tags.now (path_slot (length tags.now) hash 0) place }
+    ensures none { result ≡ false → HasNoEmptyIn tags.now (path_slot (length tags.now) hash 0 + 16) place }
 {
     let count = tags.len();
     if count == 0 {
@@ -175,10 +180,12 @@ pub fn probe_first_group<T: Eq + Hash, S: BuildHasher, Q: Key<T>>(
     requires hashed { hash ≡ hash_under Q.hash_input S.BuildHasher S.Hasher.Hasher state.now key }
     requires count { IsSlotCount (length tags.now) }
     requires agree { Agree tags.now cells.now }
-    requires reached { IsReached (hash_under T.hash_input S.BuildHasher S.Hasher.Hasher state.now) (columns tags.now cells.now) }
+    requires reached { AreReached (hash_under T.hash_input S.BuildHasher S.Hasher.Hasher state.now) tags.now cells.now }
     ensures found { IfFound result (HoldsAt (Q.names key) (slots_of tags.now cells.now)) }
     ensures absent { IfAbsent result (λ _. IsAbsent (Q.names key) (slots_of tags.now cells.now)) }
     ensures free { IfAbsent result (IsFirstFree hash (slots_of tags.now cells.now)) }
+
+    // No slot among the 16 is Empty, and none has the value; or the table ends before the sixteenth.
     ensures open { IfOpen result (IsUndecided (Q.names key) hash (columns tags.now cells.now)) }
 {
     let count = tags.len();
@@ -200,8 +207,7 @@ pub fn probe_first_group<T: Eq + Hash, S: BuildHasher, Q: Key<T>>(
     FirstGroup::Open
 }
 
-// Returns the place of the Live slot with an equal value if that slot is the first on the path of a hash. `None` doesn't mean
-// that the value is absent.
+// Returns the first place on the path of a hash, if its slot has the value that the key names. `None` doesn't mean that the value is absent.
 #[inline(always)]
 fn find_at_home<T: Eq + Hash, Q: Key<T>>(
     tags: &[u8],
@@ -224,13 +230,13 @@ fn find_at_home<T: Eq + Hash, Q: Key<T>>(
     None
 }
 
-/// Returns the place of the Live slot with an equal value, if there is one, from the value's hash. It probes until it finds the value or an
-/// Empty slot, or has read all slots, past Removed and Moved ones.
+/// Returns the place of the Live slot whose value the key names, or `None` if there is none. It probes from the key's hash until it finds the value
+/// or an Empty slot, or has read all slots. It passes Removed and Moved slots.
 ///
-/// Most values are in their home slot, the first one of their path. In a large table, whose cells aren't in the cache, the home slot is
-/// tried first. Its cell then loads without waiting for the other tags. In a small table a wrong guess costs more than it saves.
+/// Most values are in their home slot, the first one of their path. In a large table, whose cells aren't in the cache, the home slot is tried first.
+/// Its cell then loads without waiting for the other tags. In a small table a wrong guess costs more than it saves.
 ///
-/// Of the first 16 slots only those before the first Empty one are read. No slot after that holds the value, so a cell there with the same
+/// Of the first 16 slots only those before the first Empty one are read. The value can't be after the Empty slot, so a cell there with the same
 /// fingerprint would be read for nothing.
 #[inline(always)]
 pub fn find_place<T: Eq + Hash, S: BuildHasher, Q: Key<T>>(
@@ -243,7 +249,7 @@ pub fn find_place<T: Eq + Hash, S: BuildHasher, Q: Key<T>>(
     requires hashed { hash ≡ hash_under Q.hash_input S.BuildHasher S.Hasher.Hasher state.now key }
     requires count { IsSlotCount (length tags.now) }
     requires agree { Agree tags.now cells.now }
-    requires reached { IsReached (hash_under T.hash_input S.BuildHasher S.Hasher.Hasher state.now) (columns tags.now cells.now) }
+    requires reached { AreReached (hash_under T.hash_input S.BuildHasher S.Hasher.Hasher state.now) tags.now cells.now }
     ensures found { IfSome result (HoldsAt (Q.names key) (slots_of tags.now cells.now)) }
     ensures absent { IfNone result (IsAbsent (Q.names key) (slots_of tags.now cells.now)) }
 {
@@ -273,13 +279,15 @@ pub fn find_place<T: Eq + Hash, S: BuildHasher, Q: Key<T>>(
 
 /// Returns the first place on the path of a hash whose slot is not Live.
 ///
-/// It reads the first 16 slots one by one, since most values find room at once. A 16-byte load would also wait for a store just made to one
-/// of its bytes, as when a neighbour was placed. After them it reads sixteen at once.
+/// It reads the first 16 slots one by one, since most values find a free slot among the first few. A load of 16 bytes would also wait for a recent
+/// store to one of these bytes, as when a neighbour was just placed. After the first 16 slots it reads sixteen at once.
 #[inline(always)]
 pub fn first_free(tags: &[u8], hash: u64) -> usize
     requires count { IsSlotCount (length tags.now) }
     requires room { (p : ℕ) × (p < length tags.now) × (tag_at tags.now p < 128) }
-    ensures path { (step : ℕ) × (step < length tags.now) × (result ≡ path_slot (length tags.now) hash step) × AreMarked hash tags.now step }
+
+    // The place is on the path of the hash, and all slots before it on that path are Live: their tags are 128 or more.
+    ensures path { IsPastLiveTags hash tags.now result }
     ensures bound { result < length tags.now }
     ensures free { tag_at tags.now result < 128 }
 {
@@ -287,7 +295,7 @@ pub fn first_free(tags: &[u8], hash: u64) -> usize
     let mut step = 0;
     'near: while step < GROUP_WIDTH {
         let place = path_slot(hash, step, count);
-        if tags[place] < LEAST_MARK {
+        if tags[place] < LEAST_LIVE {
             return place;
         }
         step += 1;
@@ -295,13 +303,13 @@ pub fn first_free(tags: &[u8], hash: u64) -> usize
     first_free_from(tags, hash, step)
 }
 
-// Returns the same as `first_free`. The first `passed` slots of the path must be Live, and are passed over.
+// Returns the same as `first_free`. The first `passed` slots of the path must be Live, and aren't read.
 #[inline(never)]
 fn first_free_from(tags: &[u8], hash: u64, passed: usize) -> usize
     requires count { IsSlotCount (length tags.now) }
     requires room { (p : ℕ) × (p < length tags.now) × (tag_at tags.now p < 128) }
-    requires passed { AreMarked hash tags.now passed }
-    ensures path { (step : ℕ) × (step < length tags.now) × (result ≡ path_slot (length tags.now) hash step) × AreMarked hash tags.now step }
+    requires passed { AreLiveTags hash tags.now passed }
+    ensures path { IsPastLiveTags hash tags.now result }
     ensures bound { result < length tags.now }
     ensures free { tag_at tags.now result < 128 }
 {
@@ -316,7 +324,7 @@ fn first_free_from(tags: &[u8], hash: u64, passed: usize) -> usize
             }
             step += GROUP_WIDTH;
         } else {
-            if tags[place] < LEAST_MARK {
+            if tags[place] < LEAST_LIVE {
                 return place;
             }
             step += 1;

@@ -30,9 +30,11 @@ impl<T> Model for Row<T> {
 }
 
 impl<T> Row<T> {
-    /// Builds a row from `Memory`, core's memory of optional values, which is freed by the deed.
+    /// Builds a row from `Memory`, core's memory of optional values, and the deed by which that is freed.
     pub fn new(row: Memory<T>, deed: Deed<T, Global>, alloc: Global) -> Row<T>
         requires { (deed.at ≡ slots_ptr row) × (deed.len ≡ slots_len row) × (deed.alloc ≡ alloc) }
+
+        // Each cell has the value at its place in `row`, and is empty if nothing is stored there.
         ensures { result ≡ filled_values (slots_items row) (slots_filled row) }
     {
         Row { row, deed, alloc }
@@ -67,11 +69,11 @@ impl<T> Row<T> {
         self.row.take(place)
     }
 
-    /// Frees the memory of cells that are all empty: no value is dropped here, and none is forgotten.
+    /// Frees the memory of the cells. All cells must be empty, so no value is lost without a drop.
     pub fn free(self)
         requires { IsBlank self }
     {
         let Row { row, deed, alloc } = self;
-        release(&alloc, Block::from_row(row), deed);
+        release(&alloc, Block::from_memory(row), deed);
     }
 }

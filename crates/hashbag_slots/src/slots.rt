@@ -1,23 +1,24 @@
 //! `Slots`: one table of slots with open addressing, which holds distinct values, each with a count.
 //!
-//! A table has no slots, or a power of two from 16 to 2^59 of them. A place is the index of a slot. A probe for a value begins at its
-//! 64-bit hash modulo the number of slots, reads slot after slot, slot 0 after the last one, and ends at an Empty slot or at a Live one
-//! with an equal value. So a value is found if no Empty slot is before its own on that path. Every call keeps this, and says so by
-//! `IsReached`. In clauses `hash_under ..` is the hash under a state, and `Places` says that the value is now Live in a slot that wasn't Live, and
-//! no other slot changed.
+//! A table has no slots, or a power of two from 16 to 2^59 of them. A place is the index of a slot. A probe for a value begins at the value's 64-bit
+//! hash modulo the number of slots. It reads slot after slot, slot 0 after the last one. It ends at an Empty slot, or at a Live one with an equal
+//! value. So a value is found if no Empty slot is before the value's own on that path. Every call keeps this, and says so by `IsReached`.
+//!
+//! In clauses `hash_under ..` is the hash under a state. `Places` says that the value is now Live in a slot that wasn't Live, and no other slot
+//! changed.
 //!
 //! Costs are counted in hashes and in probes; a probe reads a value's path, sixteen slots at once. A call hashes nothing and doesn't
 //! allocate unless its comment says so.
 //!
-//! Contracts here also say in which slot a value is. Those of public calls above this crate don't.
+//! Contracts here also say in which slot a value is. Contracts of public calls in the crates above don't.
 ghost use Rattle.std.specs.Prelude.{◌≡◌, ℕ, ◌+◌, ◌<◌, ◌≤◌, ◌^◌, length, true, false, IfSome, IfNone, IfOk, IfErr, IsOk, OnErr, replicate, slice_set, ◌∷◌, ◌++◌, [], None, Some};
 ghost use Rattle.std.specs.List.Sorted.{IsPermutation};
 ghost use Rattle.std.specs.Map.{lookup_entry};
 ghost use Rattle.std.specs.Option.{option_map};
 ghost use Rattle.hashbag_slots.specs.FirstGroup.{IfFound, IfAbsent};
 ghost use Rattle.hashbag_slots.specs.Hashing.{hash_under};
-ghost use Rattle.hashbag_slots.specs.Slots.{IsSlotCount, is_live, holds, live_count, removed_count, slot_at, HoldsAt, IsAbsent, IsNextLive, IsFirstFree, IsSet, slot_entry, entry_at, entries, recounted, raised, count_in, Places, PlacesAlong};
-ghost use Rattle.hashbag_slots.specs.Columns.{slot_of, IsReached, IsAlike};
+ghost use Rattle.hashbag_slots.specs.Slots.{IsSlotCount, is_live, holds, live_count, removed_count, slot_at, HoldsAt, IsAbsent, IsNextLive, IsFirstFree, IsSet, slot_entry, entry_at, entries, recounted, raised, count_in, with_value, Places, PlacesAlong};
+ghost use Rattle.hashbag_slots.specs.Columns.{slot_of, IsReached, PlacesBy, IsAlike};
 
 pub mod blank;
 mod carry;
@@ -27,7 +28,7 @@ use crate::cells::Cells;
 use crate::live::{Course, drop_if_live, next_live};
 pub use crate::probe::FirstGroup;
 use crate::probe::first_free;
-use crate::tags::{LEAST_MARK, REMOVED, empty, empty_tags, fingerprint_of};
+use crate::tags::{LEAST_LIVE, REMOVED, empty, empty_tags, fingerprint_of};
 use crate::walk::{IntoWalk, Walk};
 use std::alloc::{AllocError, Global};
 use std::hash::{BuildHasher, Hash};
@@ -56,8 +57,8 @@ pub fn hash_of<Q: Hash + Copy, S: BuildHasher>(state: &S, key: Q) -> u64
 
 /// A table of slots. No two Live slots have equal values.
 ///
-/// Contracts see its slots in the order of their places, and their tags. `IsReached`, which says that values are found under a hash,
-/// depends on the tags. Each call requires and ensures it. A table that is dropped drops each of its values once.
+/// Contracts see its slots in the order of their places, and their tags. `IsReached`, which says that values are found under a hash, depends on the
+/// tags. Each call requires and ensures `IsReached`. A table that is dropped drops each of its values once.
 pub struct Slots<T: Eq> {
     tags: Vec<u8>,
     cells: Cells<(T, usize)>,
@@ -101,8 +102,11 @@ impl<T: Eq> Slots<T> {
     ///
     /// It allocates a byte and a cell for each slot, nothing with `n` 0.
     pub fn with_slots(alloc: Global, n: usize) -> Result<Slots<T>, AllocError>
+        // `n` is 0, or a power of two from 16 to 2^59.
         requires { IsSlotCount n }
         ensures slots { IfOk result (λ s. s.slots ≡ replicate n Slot.Empty) }
+
+        // There is no value yet, so a probe finds each value under any hash.
         ensures reached { IfOk result (λ s. (hash : T → ℕ) → IsReached hash s) }
         ensures none { n ≡ 0 → IsOk result }
     {
@@ -120,8 +124,12 @@ impl<T: Eq> Slots<T> {
     #[inline]
     pub fn slots(&self) -> usize
         ensures value { result ≡ length self.now.slots }
+
+        // It is 0, or a power of two from 16 to 2^59.
         ensures count { IsSlotCount result }
         ensures bound { result ≤ 2 ^ 59 }
+
+        // No two Live slots have equal values, and each count is at least 1.
         ensures distinct { IsSet T.eq self.now.slots }
     {
         self.tags.len()
@@ -141,20 +149,20 @@ impl<T: Eq> Slots<T> {
         self.removed
     }
 
-    /// Lends the value at a place with its count, or returns `None` if the slot is not Live.
+    /// Returns a reference to the value at a place, with its count, or `None` if the slot is not Live.
     #[inline(always)]
     pub fn at(&self, place: usize) -> Option<(&T, usize)>
         requires { place < length self.now.slots }
         ensures { option_map (λ e. (e.0.now, e.1)) result ≡ slot_entry (slot_at self.now.slots place) }
     {
-        if self.tags[place] < LEAST_MARK {
+        if self.tags[place] < LEAST_LIVE {
             return None;
         }
         let entry = self.cells.get(place);
         Some((&entry.0, entry.1))
     }
 
-    /// Lends the value at a place with its count. The slot must be Live; its tag isn't read.
+    /// Returns a reference to the value at a place, with its count. The slot must be Live; its tag isn't read.
     #[inline(always)]
     pub fn live_at(&self, place: usize) -> (&T, usize)
         requires { is_live (slot_at self.now.slots place) ≡ true }
@@ -180,18 +188,22 @@ impl<T: Eq> Slots<T> {
         requires live { is_live (slot_at self.old.slots place) ≡ true }
         requires positive { 0 < n }
         ensures after { self.new.slots ≡ slice_set self.old.slots place (recounted n (slot_at self.old.slots place)) }
+
+        // If a probe found each value by its `hash` before, it still does.
         ensures reached { (hash : T → ℕ) → IsReached hash self.old → IsReached hash self.new }
     {
         let (value, _) = self.cells.take(place);
         self.cells.put(place, (value, n));
     }
 
-    /// Adds `n` to the count of the value at a place. The slot must be Live, and the sum must fit. In this repository only tests call it.
+    /// Adds `n` to the count of the value at a place. The slot must be Live, and the sum must fit a `usize`. In this repository only tests call it.
     #[inline(always)]
     pub fn add_at(&mut self, place: usize, n: usize)
         requires live { is_live (slot_at self.old.slots place) ≡ true }
         requires fits { count_in (slot_at self.old.slots place) + n < 2 ^ 64 }
         ensures after { self.new.slots ≡ slice_set self.old.slots place (raised n (slot_at self.old.slots place)) }
+
+        // If a probe found each value by its `hash` before, it still does.
         ensures reached { (hash : T → ℕ) → IsReached hash self.old → IsReached hash self.new }
     {
         let (value, count) = self.cells.take(place);
@@ -203,7 +215,9 @@ impl<T: Eq> Slots<T> {
     pub fn put_at(&mut self, place: usize, value: T) -> T
         requires equal { holds (T.eq value) (slot_at self.old.slots place) ≡ true }
         ensures former { slot_at self.old.slots place ≡ Slot.Live result (count_in (slot_at self.old.slots place)) }
-        ensures after { self.new.slots ≡ slice_set self.old.slots place (Slot.Live value (count_in (slot_at self.old.slots place))) }
+        ensures after { self.new.slots ≡ slice_set self.old.slots place (with_value value (slot_at self.old.slots place)) }
+
+        // Let equal values have one `hash` (`IsAlike`). If a probe found each value by it before, it still does.
         ensures reached { (hash : T → ℕ) → IsAlike T.eq hash → IsReached hash self.old → IsReached hash self.new }
     {
         let (former, count) = self.cells.take(place);
@@ -217,6 +231,8 @@ impl<T: Eq> Slots<T> {
         requires { is_live (slot_at self.old.slots place) ≡ true }
         ensures taken { slot_at self.old.slots place ≡ Slot.Live result.0 result.1 }
         ensures after { self.new.slots ≡ slice_set self.old.slots place Slot.Removed }
+
+        // If a probe found each value by its `hash` before, it still does.
         ensures reached { (hash : T → ℕ) → IsReached hash self.old → IsReached hash self.new }
     {
         self.take_leaving(place, REMOVED)
@@ -247,6 +263,8 @@ impl<T: Eq> Slots<T> {
     where
         T: Drop,
         ensures slots { self.new.slots ≡ replicate (length self.old.slots) Slot.Empty }
+
+        // There is no value left, so a probe finds each value under any hash.
         ensures reached { (hash : T → ℕ) → IsReached hash self.new }
     {
         drop_if_live(self.tags.as_slice(), &mut self.cells, self.live);
@@ -255,7 +273,7 @@ impl<T: Eq> Slots<T> {
         self.removed = 0;
     }
 
-    /// Walks over the values of this table and of an older one, lent, each with its count, in no particular order.
+    /// Walks over references to the values of this table and of an older one, each with its count, in no particular order.
     pub fn walk<'a>(&'a self, older: &'a Slots<T>) -> Walk<'a, T>
         ensures entries { IsPermutation (entries self.now.slots ++ entries older.now.slots) result }
         ensures fits { length result < 2 ^ 63 }
@@ -271,8 +289,8 @@ impl<T: Eq> Slots<T> {
         }
     }
 
-    /// Turns this table and an older one into a walk, which gives their values with their counts, in no particular order. Unread values are
-    /// dropped with it.
+    /// Turns this table and an older one into a walk, which gives their values with their counts, in no particular order. Unread values are dropped
+    /// with the walk.
     pub fn into_walk(self, older: Slots<T>) -> IntoWalk<T>
         ensures entries { IsPermutation (entries self.slots ++ entries older.slots) result }
         ensures fits { length result < 2 ^ 63 }
@@ -301,8 +319,8 @@ impl<T: Eq> Slots<T> {
 }
 
 impl<T: Eq + Hash> Slots<T> {
-    /// Places an absent value with the count `n` in the first slot on its path that is not Live. All other slots stay as they are. At least
-    /// one slot must not be Live.
+    /// Places an absent value with the count `n` in the first slot on its path that is not Live. All other slots are unchanged. At least one slot
+    /// must not be Live.
     ///
     /// # Complexity
     ///
@@ -313,8 +331,10 @@ impl<T: Eq + Hash> Slots<T> {
         requires absent { IsAbsent (T.eq value) self.old.slots }
         requires room { live_count self.old.slots < length self.old.slots }
         requires reached { IsReached (hash_under T.hash_input S.BuildHasher S.Hasher.Hasher state.now) self.old }
+
+        // `placed` says that one slot changed, and `first` also says which: the first on the value's path that wasn't Live.
         ensures placed { Places value n self.old.slots self.new.slots }
-        ensures first { PlacesAlong (hash_under T.hash_input S.BuildHasher S.Hasher.Hasher state.now value) value n self.old.slots self.new.slots }
+        ensures first { PlacesBy (hash_under T.hash_input S.BuildHasher S.Hasher.Hasher state.now) value n self.old self.new }
         ensures reached { IsReached (hash_under T.hash_input S.BuildHasher S.Hasher.Hasher state.now) self.new }
     {
         let hash = hash_of(state, &value);
@@ -339,7 +359,7 @@ impl<T: Eq + Hash> Slots<T> {
         requires room { live_count self.old.slots < length self.old.slots }
         requires reached { IsReached (hash_under T.hash_input S.BuildHasher S.Hasher.Hasher state.now) self.old }
 
-        // `first` also says in which slot.
+        // `placed` says that one slot changed, and `first` also says which.
         ensures placed { Places value n self.old.slots self.new.slots }
         ensures first { PlacesAlong hash value n self.old.slots self.new.slots }
         ensures reached { IsReached (hash_under T.hash_input S.BuildHasher S.Hasher.Hasher state.now) self.new }
@@ -348,8 +368,8 @@ impl<T: Eq + Hash> Slots<T> {
         self.place_at(place, state, hash, value, n);
     }
 
-    /// Places an absent value with the count `n` at `place`, which the caller has found: the first place on the path of `hash`, the value's
-    /// hash under the state, whose slot isn't Live. It hashes and probes nothing.
+    /// Places an absent value with the count `n` at `place`. The caller has found `place`: the first on the path of `hash` whose slot isn't Live.
+    /// `hash` is the value's hash under the state. The call hashes and probes nothing.
     #[inline(always)]
     pub fn place_at<S: BuildHasher>(
         &mut self,
@@ -365,7 +385,7 @@ impl<T: Eq + Hash> Slots<T> {
         requires free { IsFirstFree hash self.old.slots place }
         requires reached { IsReached (hash_under T.hash_input S.BuildHasher S.Hasher.Hasher state.now) self.old }
 
-        // That slot alone changed; `placed` says so without the place.
+        // `after`: the slot at `place` alone changed. `placed` says the same without the place.
         ensures placed { Places value n self.old.slots self.new.slots }
         ensures after { self.new.slots ≡ slice_set self.old.slots place (Slot.Live value n) }
         ensures reached { IsReached (hash_under T.hash_input S.BuildHasher S.Hasher.Hasher state.now) self.new }

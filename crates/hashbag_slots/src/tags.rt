@@ -21,16 +21,15 @@ pub const REMOVED: u8 = 1;
 pub const MOVED: u8 = 2;
 
 /// The least tag of a Live slot.
-pub const LEAST_MARK: u8 = 128;
+pub const LEAST_LIVE: u8 = 128;
 
-/// Returns the tag of a Live slot whose value has this hash: 128 plus the top 7 bits of the hash, which are above those that choose the
-/// place.
+/// Returns the tag of a Live slot whose value has this hash: 128 plus the top 7 bits of the hash. The place is chosen by lower bits.
 #[inline(always)]
 pub fn fingerprint_of(hash: u64) -> u8
     ensures fingerprint { result ≡ fingerprint_of hash }
     ensures least { 128 ≤ result }
 {
-    (hash >> 57) as u8 + LEAST_MARK
+    (hash >> 57) as u8 + LEAST_LIVE
 }
 
 /// Returns `count` tags of Empty slots.

@@ -1,12 +1,15 @@
 //! Walks over two tables of slots, a newer and an older one: their values with their counts, each once.
 //!
-//! A walk knows how many values are left, and after the last one it gives `None` for good. It hashes nothing and doesn't allocate. A whole
-//! walk reads each slot once.
+//! A walk knows how many values are left, and after the last one it gives `None` for good. It hashes nothing and doesn't allocate. A whole walk reads
+//! each slot once.
 //!
-//! It makes three passes over each table, one over the newer, one over the older, and so on. A pass takes every third block of 256 slots.
-//! So what was given of both tables at any time has homes that are spread over all blocks. A smaller table that a walk fills is then filled
-//! evenly. In the order of places, the first half of the walk would fill the smaller table from end to end, and the second half would probe
-//! through full slots. A block is large enough that a pass reads its own blocks alone, and not the memory of all.
+//! A walk makes three passes over each table, one over the newer, one over the older, and so on. A pass takes every third block of 256 slots. So at
+//! any time the values given so far have homes all over both tables. A smaller table that is filled by a walk is then filled evenly. In the order of
+//! places, the first half of the walk would fill the smaller table from end to end, and the second half would probe through full slots. A block is so
+//! large that a pass reads the memory of its own blocks alone.
+//!
+//! In clauses `YieldsFirst (λ s. s)` says that a walk is its list of what is left, and `next` gives the first of it. `lower` and `upper` are the
+//! clauses of the trait: the bounds hold of the number of items left.
 ghost use Rattle.std.specs.Prelude.{◌≡◌, ℕ, length, Some, IfSome, ⊤};
 ghost use Rattle.std.specs.Iterator.{YieldsFirst, YieldsFirstBy, item_count, at_most, UpTo};
 ghost use Rattle.std.specs.Iterator.SizeHint.{IsWithinCount};
@@ -31,7 +34,7 @@ pub(crate) fn cells_of<'a, T>(
     if turn % 2 == 1 { newer } else { older }
 }
 
-/// The values of tables that are lent, with their counts. Contracts see a walk as the list of those that are left.
+/// References to the values of two tables, with their counts. Contracts see a walk as the list of the values that are left, with their counts.
 #[derive(Drop)]
 pub struct Walk<'a, T> {
     pub(crate) newer_tags: &'a [u8],
@@ -119,9 +122,9 @@ impl<'a, T> ExactSizeIterator for Walk<'a, T> {
     }
 }
 
-/// The values of tables that were used up, with their counts. Unread values are dropped with the walk.
+/// The values of two tables, with their counts, by value. The walk owns the tables, and drops unread values with them.
 ///
-/// Contracts see a walk as the list of those that are left.
+/// Contracts see a walk as the list of the values that are left, with their counts.
 pub struct IntoWalk<T> {
     pub(crate) newer_tags: Vec<u8>,
     pub(crate) newer: Cells<(T, usize)>,
@@ -207,7 +210,7 @@ impl<T: Drop> ExactSizeIterator for IntoWalk<T> {
 }
 
 impl<T> IntoWalk<T> {
-    /// Returns a walk over what is left, which lends it, and leaves this walk where it is.
+    /// Returns a walk over references to what is left. This walk doesn't advance.
     pub fn rest(&self) -> Walk<'_, T>
         ensures { result ≡ self.now }
     {

@@ -1,5 +1,5 @@
 -- Two tables, of which the older is carried.
-use Rattle.std.proofs.Common.{◌≡◌, ℕ, zero, suc, ◌+◌, ◌-◌, ◌*◌, ◌<◌, ◌≤◌, min, Bool, true, false, List, [], ◌∷◌, ◌++◌, length, take, drop, replicate, refl, sym, ap, subst, ◌∙◌, inl, inr, arith, append_assoc, None}
+use Rattle.std.proofs.Common.{◌≡◌, ℕ, zero, suc, ◌+◌, ◌-◌, ◌*◌, ◌<◌, ◌≤◌, min, ◌⊎◌, Bool, true, false, List, [], ◌∷◌, ◌++◌, length, take, drop, replicate, refl, sym, ap, subst, ◌∙◌, inl, inr, arith, append_assoc, None}
 use Rattle.std.specs.Cmp.{IsEquivalence}
 use Rattle.std.specs.Map.{lookup_entry}
 use Rattle.std.specs.List.{IsDistinct}
@@ -25,27 +25,6 @@ pub IsCounted-nil : (T : Type 0) (eq : T → T → Bool) → IsCounted eq []
 unfolding IsDistinct
 IsCounted-nil T eq = record { distinct = tt; positive = λ k d lt. absurd (omega arith) }
 
-module _ {T : Type 0} (eq : T → T → Bool) (hash : T → ℕ) where
-  pub IsTables-none : (newer older : Columns T) → newer.slots ≡ [] → older.slots ≡ [] → IsReached hash newer → IsReached hash older → IsTables eq hash newer older 0
-  IsTables-none newer older e f r s =
-      let l = ap length e in
-      let m : length (drop 0 older.slots) ≡ 0 = ap length f in
-      record {
-        tables = record {
-          newer_reached = r;
-          older_reached = s;
-          apart = λ p v n here q lt. absurd (omega arith);
-          unmoved = unmoved_blank newer.slots 0 e;
-          carried_within = omega arith;
-          carried_slots_dead = λ p lt. absurd (omega arith);
-          fits = let a = ap live_count e in let b = ap removed_count e in let c = ap live_count f in omega arith;
-        };
-        counted = subst (λ ss. IsCounted eq (entries ss ++ entries (drop 0 older.slots))) (sym e) (subst (λ ss. IsCounted eq (entries ss)) (sym f) (IsCounted-nil T eq));
-        carries = omega arith;
-        smaller = inl f;
-        freed = λ _. ap length f;
-      }
-
 module _ {T : Type 0} where
   pub Fills-none : (ss : List (Slot T)) → Fills 0 ss ss
   Fills-none ss = record { same_length = refl; places = []; few = omega arith; each = λ p. inl refl }
@@ -63,30 +42,30 @@ module _ {T : Type 0} where
   }
 
   pub Fills-then : (j k : ℕ) (a b c : List (Slot T)) → Fills j a b → Fills k b c → Fills (j + k) a c
-  Fills-then j k a b c f h = record {
-    same_length = h.same_length ∙ f.same_length;
-    places = f.places ++ h.places;
-    few = let l = length-append f.places h.places in let x = f.few in let y = h.few in omega arith;
-    each = λ p.
-        elim (f.each p) [
-          | inl x ↦ elim (h.each p) [
-            | inl y ↦ inl (y ∙ x)
-            | inr y ↦
-                let l = length-append f.places h.places in
-                let i = y.0 in
-                let within : length f.places + i.0 < length (f.places ++ h.places) = let z = i.1 in omega arith in
-                inr ((length f.places + i.0, within, get_or-append-add f.places h.places i.0 0 ∙ i.2), sym (ap is_live x) ∙ y.1, y.2)
-          ]
-          | inr x ↦ elim (h.each p) [
-            | inl y ↦
-                let l = length-append f.places h.places in
-                let i = x.0 in
-                let within : i.0 < length (f.places ++ h.places) = let z = i.1 in omega arith in
-                inr ((i.0, within, get_or_append_left f.places h.places 0 i.0 i.1 ∙ i.2), x.1, ap is_live y ∙ x.2)
-            | inr y ↦ absurd (let z = x.2 in let w = y.1 in cc)
-          ]
-        ];
-  }
+  Fills-then j k a b c f h =
+      let l = length-append f.places h.places in
+      record {
+        same_length = h.same_length ∙ f.same_length;
+        places = f.places ++ h.places;
+        few = let x = f.few in let y = h.few in omega arith;
+        each = λ p.
+            elim (f.each p) [
+              | inl x ↦ elim (h.each p) [
+                | inl y ↦ inl (y ∙ x)
+                | inr y ↦
+                    let i = y.0 in
+                    let within : length f.places + i.0 < length (f.places ++ h.places) = let z = i.1 in omega arith in
+                    inr ((length f.places + i.0, within, get_or-append-add f.places h.places i.0 0 ∙ i.2), sym (ap is_live x) ∙ y.1, y.2)
+              ]
+              | inr x ↦ elim (h.each p) [
+                | inl y ↦
+                    let i = x.0 in
+                    let within : i.0 < length (f.places ++ h.places) = let z = i.1 in omega arith in
+                    inr ((i.0, within, get_or_append_left f.places h.places 0 i.0 i.1 ∙ i.2), x.1, ap is_live y ∙ x.2)
+                | inr y ↦ absurd (let z = x.2 in let w = y.1 in cc)
+              ]
+            ];
+      }
 
   pub Fills-PlacesAll : (hash : T → ℕ) (es : List (T × ℕ)) (a b : List (Slot T)) → PlacesAll hash es a b → Fills (length es) a b
   Fills-PlacesAll hash [] a b h = subst (Fills 0 a) (sym h) (Fills-none a)
@@ -193,6 +172,10 @@ module _ {T : Type 0} (eq : T → T → Bool) (hash : T → ℕ) (newer older ne
     removed = removed;
   }
 
+pub carried_freed : {T : Type 0} (most : ℕ) (newer waiting newer1 : List (Slot T)) (older none : Columns T) (k : ℕ) → Carried most newer waiting newer1 (drop k older.slots) → length older.slots ≡ k → none.slots ≡ [] → Carried most newer waiting newer1 (drop 0 none.slots)
+carried_freed most newer waiting newer1 older none k carried all empty =
+    subst (Carried most newer waiting newer1) (drop_all k older.slots (omega arith) ∙ sym empty) carried
+
 module _ {T : Type 0} (eq : T → T → Bool) (hash : T → ℕ) where
   -- the older table is freed where none of its slots waits
   pub tables_freed : (newer older none : Columns T) (k : ℕ) → AreTables eq hash newer older k → length older.slots ≡ k → none.slots ≡ [] → IsReached hash none → AreTables eq hash newer none 0
@@ -208,46 +191,47 @@ module _ {T : Type 0} (eq : T → T → Bool) (hash : T → ℕ) where
         fits = let f = tables.fits in let c : live_count (drop 0 none.slots) ≡ 0 = ap live_count empty in omega arith;
       }
 
-  pub carried_freed : (most : ℕ) (newer waiting newer1 : List (Slot T)) (older none : Columns T) (k : ℕ) → Carried most newer waiting newer1 (drop k older.slots) → length older.slots ≡ k → none.slots ≡ [] → Carried most newer waiting newer1 (drop 0 none.slots)
-  carried_freed most newer waiting newer1 older none k carried all empty =
-      subst (Carried most newer waiting newer1) (drop_all k older.slots (omega arith) ∙ sym empty) carried
-
   pub room_carried : (k : ℕ) (newer waiting newer1 waiting1 : List (Slot T)) → Carried k newer waiting newer1 waiting1 → room_of newer waiting ≤ room_of newer1 waiting1
   room_carried k newer waiting newer1 waiting1 h =
       let l : most_used (length newer1) ≡ most_used (length newer) = ap most_used h.fills.same_length in
       let a = h.live in let b = h.removed in omega (arith, l, a, b)
 
-  -- a carry keeps what holds between two calls
-  pub IsTables-carried : IsEquivalence eq → (newer older newer1 older1 : Columns T) (carried_to carried_to1 : ℕ) → IsTables eq hash newer older carried_to → AreTables eq hash newer1 older1 carried_to1
-      → Carried 16 newer.slots (drop carried_to older.slots) newer1.slots (drop carried_to1 older1.slots) → (length older1.slots ≤ carried_to1 → length older1.slots ≡ 0) → IsTables eq hash newer1 older1 carried_to1
-  IsTables-carried laws newer older newer1 older1 carried_to carried_to1 before tables h freed =
-      let w = drop carried_to older.slots in
+  -- a carry of `many` waiting slots leaves what holds between two calls
+  pub IsTables-after : IsEquivalence eq → (many : ℕ) (newer waiting : List (Slot T)) (newer1 older1 : Columns T) (carried_to1 : ℕ) → IsCounted eq (entries_of newer waiting) → length waiting - many ≤ 16 * room_of newer waiting
+      → (length waiting ≤ many) ⊎ (16 + (length waiting - many) ≤ length newer) → AreTables eq hash newer1 older1 carried_to1 → Carried many newer waiting newer1.slots (drop carried_to1 older1.slots)
+      → (length older1.slots ≤ carried_to1 → length older1.slots ≡ 0) → IsTables eq hash newer1 older1 carried_to1
+  IsTables-after laws many newer waiting newer1 older1 carried_to1 counted few smaller tables h freed =
       let w1 = drop carried_to1 older1.slots in
-      let r = room_carried 16 newer.slots w newer1.slots w1 h in
-      let len : length w1 ≡ length w - 16 = ap length h.waits ∙ length-drop 16 w in
+      let r = room_carried many newer waiting newer1.slots w1 h in
+      let len : length w1 ≡ length waiting - many = ap length h.waits ∙ length-drop many waiting in
       record {
         tables = tables;
-        counted = counted_rearranged laws _ _ h.entries before.counted;
-        carries = let c = before.carries in omega (arith, r, len, c);
-        smaller = elim before.smaller [
-          | inl none ↦ inl (h.waits ∙ ap (drop 16) none)
+        counted = counted_rearranged laws _ _ h.entries counted;
+        carries = omega (arith, r, len, few);
+        smaller = elim smaller [
+          | inl all ↦ inl (h.waits ∙ drop_all many waiting all)
           | inr some ↦ inr (let same = h.fills.same_length in omega (arith, len, same, some))
         ];
         freed = freed;
       }
 
-  -- and so does a carry of all that waits
+  -- so does one of 16
+  pub IsTables-carried : IsEquivalence eq → (newer older newer1 older1 : Columns T) (carried_to carried_to1 : ℕ) → IsTables eq hash newer older carried_to → AreTables eq hash newer1 older1 carried_to1
+      → Carried 16 newer.slots (drop carried_to older.slots) newer1.slots (drop carried_to1 older1.slots) → (length older1.slots ≤ carried_to1 → length older1.slots ≡ 0) → IsTables eq hash newer1 older1 carried_to1
+  IsTables-carried laws newer older newer1 older1 carried_to carried_to1 before tables h freed =
+      let few = before.carries in
+      let smaller : (length (drop carried_to older.slots) ≤ 16) ⊎ (16 + (length (drop carried_to older.slots) - 16) ≤ length newer.slots) =
+      elim before.smaller [
+        | inl none ↦ inl (let l = ap length none in omega (arith, l))
+        | inr some ↦ inr (omega (arith, some))
+      ] in
+      IsTables-after laws 16 newer.slots (drop carried_to older.slots) newer1 older1 carried_to1 before.counted (omega (arith, few)) smaller tables h freed
+
+  -- and so does one of all that waits
   pub IsTables-finished : IsEquivalence eq → (newer older newer1 older1 : Columns T) (carried_to carried_to1 k : ℕ) → IsTables eq hash newer older carried_to → AreTables eq hash newer1 older1 carried_to1
       → Carried k newer.slots (drop carried_to older.slots) newer1.slots (drop carried_to1 older1.slots) → length (drop carried_to older.slots) ≤ k → (length older1.slots ≤ carried_to1 → length older1.slots ≡ 0) → IsTables eq hash newer1 older1 carried_to1
   IsTables-finished laws newer older newer1 older1 carried_to carried_to1 k before tables h all freed =
-      let none : drop carried_to1 older1.slots ≡ [] = h.waits ∙ drop_all k (drop carried_to older.slots) all in
-      record {
-        tables = tables;
-        counted = counted_rearranged laws _ _ h.entries before.counted;
-        carries = let l = ap length none in omega (arith, l);
-        smaller = inl none;
-        freed = freed;
-      }
+      IsTables-after laws k newer.slots (drop carried_to older.slots) newer1 older1 carried_to1 before.counted (omega (arith, all)) (inl all) tables h freed
 
   -- a carry out of the older table leaves what another insertion needs
   pub carries_after : (newer waiting newer1 waiting1 : List (Slot T)) → Carried 16 newer waiting newer1 waiting1 → length waiting ≤ 16 * room_of newer waiting → 0 < room_of newer waiting
@@ -289,6 +273,9 @@ IsTables-blank {T = T} eq hash newer older n e f r s =
       freed = λ _. ap length f;
     }
 
+pub IsTables-none : {T : Type 0} (eq : T → T → Bool) (hash : T → ℕ) (newer older : Columns T) → newer.slots ≡ [] → older.slots ≡ [] → IsReached hash newer → IsReached hash older → IsTables eq hash newer older 0
+IsTables-none eq hash newer older = IsTables-blank eq hash newer older 0
+
 pub entries_blank : {T : Type 0} (newer older : List (Slot T)) (n : ℕ) → newer ≡ replicate n Empty → older ≡ [] → entries_of newer (drop 0 older) ≡ []
 entries_blank {T = T} newer older n e f = (λ i. entries (e i) ++ entries (f i)) ∙ ap (λ es. es ++ []) (entries_empty T n)
 
@@ -305,20 +292,7 @@ module _ {T : Type 0} where
 module _ {T : Type 0} (eq : T → T → Bool) (hash : T → ℕ) (newer fresh : Columns T) (many : ℕ) (reached : IsReached hash newer) (may : MayAdopt eq hash fresh newer.slots many) where
   pub IsTables-adopted : IsEquivalence eq → (newer1 older1 : Columns T) (carried_to1 : ℕ) → AreTables eq hash newer1 older1 carried_to1 → Carried many fresh.slots newer.slots newer1.slots (drop carried_to1 older1.slots)
       → (length older1.slots ≤ carried_to1 → length older1.slots ≡ 0) → IsTables eq hash newer1 older1 carried_to1
-  IsTables-adopted laws newer1 older1 carried_to1 tables h freed =
-      let w1 = drop carried_to1 older1.slots in
-      let r = room_carried eq hash many fresh.slots newer.slots newer1.slots w1 h in
-      let len : length w1 ≡ length newer.slots - many = ap length h.waits ∙ length-drop many newer.slots in
-      record {
-        tables = tables;
-        counted = counted_rearranged laws _ _ h.entries may.counted;
-        carries = let c = may.carries in omega (arith, r, len, c);
-        smaller = elim may.smaller [
-          | inl all ↦ inl (h.waits ∙ drop_all many newer.slots all)
-          | inr some ↦ inr (let same = h.fills.same_length in omega (arith, len, same, some))
-        ];
-        freed = freed;
-      }
+  IsTables-adopted laws newer1 older1 carried_to1 tables h freed = IsTables-after eq hash laws many fresh.slots newer.slots newer1 older1 carried_to1 may.counted may.carries may.smaller tables h freed
 
 -- a table of Empty slots with room enough takes the place of one that is full
 module _ {T : Type 0} (eq : T → T → Bool) (hash : T → ℕ) (newer fresh : Columns T) (counted : IsCounted eq (entries newer.slots)) (empty : fresh.slots ≡ replicate (length fresh.slots) Empty) (reached : IsReached hash fresh)
@@ -348,15 +322,15 @@ module _ {T : Type 0} (eq : T → T → Bool) (hash : T → ℕ) (newer fresh : 
       let r = room_fresh in let a = roomy.some in let b = roomy.carries in
       carries_after eq hash fresh.slots newer.slots newer1 waiting1 h (omega (arith, r, b)) (omega (arith, r, a))
 
+pub entries_settled : {T : Type 0} (v : T) (n : ℕ) (newer newer1 waiting : List (Slot T)) → Places v n newer newer1 → IsPermutation ((v, n) ∷ entries_of newer waiting) (entries_of newer1 waiting)
+entries_settled v n newer newer1 waiting put = IsPermutation-append_left (entries waiting) _ _ (entries-Places v n newer newer1 put)
+
 module _ {T : Type 0} (eq : T → T → Bool) (laws : IsEquivalence eq) (hash : T → ℕ) (newer older newer1 : Columns T) (carried_to : ℕ) (v : T) (n : ℕ)
     (before : IsTables eq hash newer older carried_to) (absent : lookup_entry (eq v) (entries_of newer.slots (drop carried_to older.slots)) ≡ None) (some : 0 < n)
     (room : 0 < room_of newer.slots (drop carried_to older.slots)) (carries : length (drop carried_to older.slots) ≤ 16 * (room_of newer.slots (drop carried_to older.slots) - 1)) where
   module _ (put : Places v n newer.slots newer1.slots) (reached : IsReached hash newer1) where
     abbrev pub w : List (Slot T)
     w = drop carried_to older.slots
-
-    pub entries_settled : IsPermutation ((v, n) ∷ entries_of newer.slots w) (entries_of newer1.slots w)
-    entries_settled = IsPermutation-append_left (entries w) _ _ (entries-Places v n newer.slots newer1.slots put)
 
     -- what is Live in the older table waits, and is not the new value
     other : (x : T) (m p : ℕ) → slot_at older.slots p ≡ Live x m → eq x v ≡ false
@@ -385,7 +359,7 @@ module _ {T : Type 0} (eq : T → T → Bool) (laws : IsEquivalence eq) (hash : 
             carried_slots_dead = before.tables.carried_slots_dead;
             fits = let f = before.tables.fits in omega (arith, room, live, fewer, limits, f);
           };
-          counted = counted_rearranged laws _ _ entries_settled (IsCounted-cons eq v n (entries_of newer.slots w) absent some before.counted);
+          counted = counted_rearranged laws _ _ (entries_settled v n newer.slots newer1.slots w put) (IsCounted-cons eq v n (entries_of newer.slots w) absent some before.counted);
           carries = omega (arith, room, live, fewer, limits, carries);
           smaller = elim before.smaller [
             | inl none ↦ inl none

@@ -1,5 +1,5 @@
 -- What the answers of a closure leave of a map, and of two tables of slots.
-use Rattle.std.proofs.Common.{◌≡◌, ℕ, ◌+◌, ◌≤◌, min, Bool, true, false, cond, ltb, List, [], ◌∷◌, ◌++◌, length, drop, refl, sym, ap, subst, ◌∙◌, inl, inr, arith, append_assoc}
+use Rattle.std.proofs.Common.{◌≡◌, ℕ, ◌+◌, ◌<◌, ◌≤◌, ◌^◌, min, Bool, true, false, cond, ltb, List, [], ◌∷◌, ◌++◌, length, drop, refl, sym, ap, subst, ◌∙◌, inl, inr, arith, append_assoc}
 use denote.Ref.{Bor}
 use denote.Param.Members.{Mut}
 use Rattle.std.specs.List.{IsDistinct, AllByRecursion}
@@ -8,7 +8,7 @@ use Rattle.std.proofs.lemmas.List.{length-drop}
 use Rattle.std.proofs.lemmas.List.Sums.{sum_by-append}
 use Rattle.std.proofs.lemmas.List.Sorted.{IsPermutation-refl}
 use Rattle.std.proofs.lemmas.Map.Keys.{IsDistinct-cons, IsDistinct-head, IsDistinct-tail}
-use Rattle.hashbag_slots.specs.Slots.{is_live, entries}
+use Rattle.hashbag_slots.specs.Slots.{is_live, live_count, removed_count, entries}
 use Rattle.hashbag_slots.specs.Columns.{Columns, IsReached}
 use Rattle.hashbag_table.specs.Asked.{MayAskInTurn, AnswersInTurn, Retains, kept}
 use Rattle.hashbag_table.specs.Entries.{IsCounted, total}
@@ -65,9 +65,9 @@ module _ {F T : Type 0} (g : Mut F (Bor T × (ℕ × Unit {0})) ℕ) where
   answers_both f f1 f2 (e ∷ es) fs [] ns h k = absurd h
   answers_both f f1 f2 (e ∷ es) fs (a ∷ ms) ns h k = (h.0, h.1, answers_both h.0 f1 f2 es fs ms ns h.2 k)
 
-  pub asks_first : (f : F) (es fs : List (T × ℕ)) → MayAskInTurn g f (es ++ fs) → MayAskInTurn g f es
-  asks_first f es fs asks = record {
-    at = λ before after e answers last split asked. asks.at before (after ++ fs) e answers last (ap (λ l. l ++ fs) split ∙ append_assoc before (e ∷ after) fs) asked;
+  pub asks_first : (f : F) (es fs all : List (T × ℕ)) → es ++ fs ≡ all → MayAskInTurn g f all → MayAskInTurn g f es
+  asks_first f es fs all is asks = record {
+    at = λ before after e answers last split asked. asks.at before (after ++ fs) e answers last (sym is ∙ ap (λ l. l ++ fs) split ∙ append_assoc before (e ∷ after) fs) asked;
   }
 
   asks_then : (f f1 : F) (es fs : List (T × ℕ)) (ms : List ℕ) → MayAskInTurn g f (es ++ fs) → AnswersInTurn g f es ms f1 → MayAskInTurn g f1 fs
@@ -79,24 +79,31 @@ module _ {F T : Type 0} (g : Mut F (Bor T × (ℕ × Unit {0})) ℕ) where
   pub total_both : (es fs : List (T × ℕ)) → total (es ++ fs) ≡ total es + total fs
   total_both es fs = sum_by-append (λ e. e.1) es fs
 
-  -- the newer table, and then the slots that wait
-  module _ (newer waiting newer1 : Columns T) (carried_to : ℕ) (f f1 : F) (first : RetainsFrom g 0 f newer.slots newer1.slots f1) where
-    pub asks_waiting : MayAskInTurn g f (entries_of newer.slots (drop carried_to waiting.slots)) → MayAskInTurn g f1 (entries (drop carried_to waiting.slots))
-    asks_waiting asks =
-        let a = answers_left g f f1 newer.slots newer1.slots first.left in
-        asks_then f f1 (entries newer.slots) (entries (drop carried_to waiting.slots)) a.0 asks a.1
+  -- what fits of all fits of each part
+  pub total_fits : (es fs : List (T × ℕ)) (all : ℕ) → total (es ++ fs) ≡ all → all < 2 ^ 64 → (total es < 2 ^ 64) × (total fs < 2 ^ 64)
+  total_fits es fs all is fits = let both = total_both es fs in (omega (arith, both, is, fits), omega (arith, both, is, fits))
 
-  module _ (eq : T → T → Bool) (newer older newer1 older1 : Columns T) (carried_to : ℕ) (f f1 f2 : F)
-      (first : RetainsFrom g 0 f newer.slots newer1.slots f1) (second : RetainsFrom g carried_to f1 older.slots older1.slots f2) where
+  -- the newer table, and then the slots that wait
+  pub asks_waiting : (newer waiting newer1 : Columns T) (carried_to : ℕ) (f f1 : F) → RetainsFrom g 0 f newer.slots newer1.slots f1 → (all : List (T × ℕ)) → entries_of newer.slots (drop carried_to waiting.slots) ≡ all → MayAskInTurn g f all
+      → MayAskInTurn g f1 (entries (drop carried_to waiting.slots))
+  asks_waiting newer waiting newer1 carried_to f f1 first all is asks =
+      let a = answers_left g f f1 newer.slots newer1.slots first.left in
+      asks_then f f1 (entries newer.slots) (entries (drop carried_to waiting.slots)) a.0 (subst (MayAskInTurn g f) (sym is) asks) a.1
+
+  pub record WalksBoth (newer older newer1 older1 : Columns T) (carried_to : ℕ) (f f1 f2 : F) : Type 0 where
+    pub first : RetainsFrom g 0 f newer.slots newer1.slots f1
+    pub second : RetainsFrom g carried_to f1 older.slots older1.slots f2
+
+  module _ {newer older newer1 older1 : Columns T} {carried_to : ℕ} {f f1 f2 : F} (walked : WalksBoth newer older newer1 older1 carried_to f f1 f2) where
     pub length_waiting : length (drop carried_to older1.slots) ≡ length (drop carried_to older.slots)
-    length_waiting = let a = length-drop carried_to older1.slots in let b = length-drop carried_to older.slots in let same = second.same_length in omega (arith, a, b, same)
+    length_waiting = let a = length-drop carried_to older1.slots in let b = length-drop carried_to older.slots in let same = walked.second.same_length in omega (arith, a, b, same)
 
     both_left : (answers : List ℕ) × AnswersInTurn g f (entries_of newer.slots (drop carried_to older.slots)) answers f2
         × (entries_of newer1.slots (drop carried_to older1.slots) ≡ kept (entries_of newer.slots (drop carried_to older.slots)) answers)
     both_left =
         let w = drop carried_to older.slots in let w1 = drop carried_to older1.slots in
-        let a = answers_left g f f1 newer.slots newer1.slots first.left in
-        let b = answers_left g f1 f2 w w1 second.left in (
+        let a = answers_left g f f1 newer.slots newer1.slots walked.first.left in
+        let b = answers_left g f1 f2 w w1 walked.second.left in (
           a.0 ++ b.0,
           answers_both f f1 f2 (entries newer.slots) (entries w) a.0 b.0 a.1 b.1,
           (λ i. a.2 i ++ b.2 i) ∙ sym (kept_both f f1 (entries newer.slots) (entries w) a.0 b.0 a.1),
@@ -120,30 +127,30 @@ module _ {F T : Type 0} (g : Mut F (Bor T × (ℕ × Unit {0})) ℕ) where
         let a = total_kept (entries_of newer.slots (drop carried_to older.slots)) all.0 in let e = ap (λ l. total l) all.2 in
         let s = total_both (entries newer1.slots) (entries (drop carried_to older1.slots)) in omega (arith, a, e, s)
 
+    used_left : live_count newer1.slots + removed_count newer1.slots + live_count (drop carried_to older1.slots) ≤ live_count newer.slots + removed_count newer.slots + live_count (drop carried_to older.slots)
+    used_left =
+        let a = counts_left g f f1 newer.slots newer1.slots walked.first.left in let x = a.0 in
+        let b = counts_left g f1 f2 (drop carried_to older.slots) (drop carried_to older1.slots) walked.second.left in let y = b.1 in omega (arith, x, y)
+
+    limit_left : most_used (length newer1.slots) ≡ most_used (length newer.slots)
+    limit_left = ap most_used walked.first.same_length
+
     pub room_left : room_of newer.slots (drop carried_to older.slots) ≤ room_of newer1.slots (drop carried_to older1.slots)
-    room_left =
-        let a = counts_left g f f1 newer.slots newer1.slots first.left in let x = a.0 in
-        let b = counts_left g f1 f2 (drop carried_to older.slots) (drop carried_to older1.slots) second.left in let y = b.1 in
-        let l : most_used (length newer1.slots) ≡ most_used (length newer.slots) = ap most_used first.same_length in
-        omega (arith, x, y, l)
+    room_left = let used = used_left in let l = limit_left in omega (arith, used, l)
 
     -- two tables stay two tables
-    module _ (hash : T → ℕ) (before : IsTables eq hash newer older carried_to) (newer_reached : IsReached hash newer1) (older_reached : IsReached hash older1) where
+    module _ (eq : T → T → Bool) (hash : T → ℕ) (before : IsTables eq hash newer older carried_to) (newer_reached : IsReached hash newer1) (older_reached : IsReached hash older1) where
       tables_left : AreTables eq hash newer1 older1 carried_to
       tables_left = record {
         newer_reached = newer_reached;
         older_reached = older_reached;
         apart = λ p v n here.
-            let was = retained_live g carried_to f1 f2 older.slots older1.slots second p v n here in
-            retained_absent g 0 f f1 newer.slots newer1.slots first (eq v) (before.tables.apart p v was.0 was.1);
-        unmoved = λ p here. before.tables.unmoved p (retained_moved g 0 f f1 newer.slots newer1.slots first p here);
-        carried_within = let l = before.tables.carried_within in let same = second.same_length in omega (arith, l, same);
-        carried_slots_dead = λ p lt. ap is_live (second.before p lt) ∙ before.tables.carried_slots_dead p lt;
-        fits =
-            let a = counts_left g f f1 newer.slots newer1.slots first.left in let x = a.0 in
-            let b = counts_left g f1 f2 (drop carried_to older.slots) (drop carried_to older1.slots) second.left in let y = b.1 in
-            let l : most_used (length newer1.slots) ≡ most_used (length newer.slots) = ap most_used first.same_length in
-            let t = before.tables.fits in omega (arith, x, y, l, t);
+            let was = retained_live g carried_to f1 f2 older.slots older1.slots walked.second p v n here in
+            retained_absent g 0 f f1 newer.slots newer1.slots walked.first (eq v) (before.tables.apart p v was.0 was.1);
+        unmoved = λ p here. before.tables.unmoved p (retained_moved g 0 f f1 newer.slots newer1.slots walked.first p here);
+        carried_within = let l = before.tables.carried_within in let same = walked.second.same_length in omega (arith, l, same);
+        carried_slots_dead = λ p lt. ap is_live (walked.second.before p lt) ∙ before.tables.carried_slots_dead p lt;
+        fits = let used = used_left in let l = limit_left in let t = before.tables.fits in omega (arith, used, l, t);
       }
 
       pub IsTables-left : IsTables eq hash newer1 older1 carried_to
@@ -155,9 +162,9 @@ module _ {F T : Type 0} (g : Mut F (Bor T × (ℕ × Unit {0})) ℕ) where
             carries = let c = before.carries in let r = room_left in omega (arith, c, r, len);
             smaller = elim before.smaller [
               | inl none ↦ inl (let z : length (drop carried_to older1.slots) ≡ 0 = len ∙ ap length none in nil_is (drop carried_to older1.slots) z)
-              | inr some ↦ inr (let same = first.same_length in omega (arith, len, same, some))
+              | inr some ↦ inr (let same = walked.first.same_length in omega (arith, len, same, some))
             ];
-            freed = λ all. let same = second.same_length in same ∙ before.freed (omega (arith, same, all));
+            freed = λ all. let same = walked.second.same_length in same ∙ before.freed (omega (arith, same, all));
           }
         where
           nil_is : {X : Type 0} (xs : List X) → length xs ≡ 0 → xs ≡ []

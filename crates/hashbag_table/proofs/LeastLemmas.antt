@@ -1,12 +1,15 @@
 -- The least number of slots of which so many may be Live.
-use Rattle.std.proofs.Common.{◌≡◌, ℕ, suc, ◌*◌, ◌^◌, ◌<◌, ◌≤◌, refl, inl, inr, arith, pow-suc}
+use Rattle.std.proofs.Common.{◌≡◌, ℕ, suc, ◌+◌, ◌*◌, ◌^◌, ◌<◌, ◌≤◌, List, [], length, refl, ap, subst, ◌∙◌, inl, inr, arith, pow-suc}
+use Rattle.std.proofs.lemmas.List.{length-append}
 use lib.Pow.{pow_mono}
 use Rattle.std.proofs.lemmas.Bool.{cases_lt}
-use Rattle.hashbag_slots.specs.Slots.{IsSlotCount}
+use Rattle.hashbag_slots.specs.declared.slots.Slot.{Slot}
+use Rattle.hashbag_slots.specs.Slots.{IsSlotCount, live_count, removed_count, entries}
 use Rattle.hashbag_slots.proofs.Paths.{count_bound}
 use Rattle.hashbag_table.specs.declared.table.TheConstants.{MOST_VALUES}
-use Rattle.hashbag_table.specs.Tables.{most_used, IsLeast}
+use Rattle.hashbag_table.specs.Tables.{most_used, IsLeast, entries_of}
 use Rattle.hashbag_table.proofs.RoomLemmas.{slot_count_least}
+use Rattle.hashbag_table.proofs.SlotLemmas.{length-entries}
 
 -- ---- limits
 
@@ -23,6 +26,17 @@ limit_few n = omega arith
 -- no number of slots has room for more values than the greatest
 pub limit_bound : (n : ℕ) → IsSlotCount n → most_used n ≤ MOST_VALUES
 limit_bound n c = let m = limit_mono n (2 ^ 59) (count_bound n c) in let e = limit_most in omega (arith, m, e)
+
+pub most_is : MOST_VALUES ≡ 432345564227567616
+most_is = refl
+
+-- how many values two tables have, which the greatest table has room for
+pub values_fit : {T : Type 0} (newer waiting : List (Slot T)) (es : List (T × ℕ)) (slots : ℕ) → entries_of newer waiting ≡ es → live_count newer + removed_count newer + live_count waiting ≤ most_used (length newer) → slots ≡ length newer → slots ≤ 2 ^ 59
+    → (length es ≡ live_count newer + live_count waiting) × (length es ≤ MOST_VALUES)
+values_fit newer waiting es slots same fits is bound =
+    let x = length-append (entries newer) (entries waiting) in let p = length-entries newer in let q = length-entries waiting in let l = ap length same in
+    let m = limit_mono (length newer) (2 ^ 59) (omega (arith, is, bound)) in let e = limit_most in
+    (omega (arith, x, p, q, l), omega (arith, x, p, q, l, fits, m, e))
 
 -- ---- the next number of slots
 
@@ -81,6 +95,9 @@ least_unique n k m m' h j =
 -- no value takes no slots
 pub least_none : (m : ℕ) → IsLeast 0 0 m → m ≡ 0
 least_none m h = let a = h.least 0 (inl refl) (omega arith) (omega arith) in omega (arith, a)
+
+pub least_empty : {X : Type 0} (items : List X) (n m : ℕ) → n ≡ length items → IsLeast 0 n m → items ≡ [] → m ≡ 0
+least_empty items n m is least none = least_none m (subst (λ k. IsLeast 0 k m) (is ∙ ap length none) least)
 
 -- there is none for more values than a table may have
 pub least_bound : (n k m : ℕ) → IsLeast n k m → k ≤ MOST_VALUES

@@ -62,12 +62,23 @@ module _ {T : Type 0} (eq : T → T → Bool) (laws : IsEquivalence eq) where
         freed = λ _. l;
       }
 
--- the values that wait move into a table of Empty slots in which all have room
-module _ {T : Type 0} (eq : T → T → Bool) (laws : IsEquivalence eq) (hash : T → ℕ) (newer older blank : Columns T) (carried_to many : ℕ)
-    (before : IsTables eq hash newer older carried_to) (empty : blank.slots ≡ replicate (length blank.slots) Empty) (all : carried_to + many ≡ length older.slots)
-    (enough : length (entries_of newer.slots (drop carried_to older.slots)) ≤ most_used (length blank.slots)) where
+-- the values that wait may move into a table of Empty slots, in which all have room
+pub record MayMove {T : Type 0} (eq : T → T → Bool) (hash : T → ℕ) (newer older blank : Columns T) (carried_to many : ℕ) : Type 0 where
+  pub before : IsTables eq hash newer older carried_to
+  pub empty : blank.slots ≡ replicate (length blank.slots) Empty
+  pub all : carried_to + many ≡ length older.slots
+  pub enough : length (entries_of newer.slots (drop carried_to older.slots)) ≤ most_used (length blank.slots)
+
+-- they moved into it
+pub record HaveMoved {T : Type 0} (hash : T → ℕ) (older blank blank1 : Columns T) (carried_to many : ℕ) : Type 0 where
+  pub placed : PlacesAll hash (entries_in carried_to many older.slots) blank.slots blank1.slots
+  pub removed : removed_count blank1.slots ≤ removed_count blank.slots
+  pub slots : length blank1.slots ≡ length blank.slots
+  pub reached : IsReached hash blank1
+
+module _ {T : Type 0} {eq : T → T → Bool} {hash : T → ℕ} {newer older blank : Columns T} {carried_to many : ℕ} (may : MayMove eq hash newer older blank carried_to many) where
   pub apart_blank : AreApart eq older.slots blank.slots
-  apart_blank p v n here q lt = ap (λ ss. holds (eq v) (slot_at ss q)) empty ∙ ap (holds (eq v)) (slot_at-replicate (length blank.slots) q)
+  apart_blank p v n here q lt = ap (λ ss. holds (eq v) (slot_at ss q)) may.empty ∙ ap (holds (eq v)) (slot_at-replicate (length blank.slots) q)
 
   pub all_values : length (entries_of newer.slots (drop carried_to older.slots)) ≡ live_count newer.slots + live_count (drop carried_to older.slots)
   all_values =
@@ -76,56 +87,56 @@ module _ {T : Type 0} (eq : T → T → Bool) (laws : IsEquivalence eq) (hash : 
 
   pub room_blank : live_count blank.slots + live_count older.slots ≤ length blank.slots
   room_blank =
-      let a = live_fresh blank.slots empty in
-      let b = live-drop older.slots carried_to before.tables.carried_within before.tables.carried_slots_dead in
-      let c = all_values in let d = limit_few (length blank.slots) in omega (arith, a, b, c, d, enough)
+      let a = live_fresh blank.slots may.empty in
+      let b = live-drop older.slots carried_to may.before.tables.carried_within may.before.tables.carried_slots_dead in
+      let c = all_values in let d = limit_few (length blank.slots) in let enough = may.enough in omega (arith, a, b, c, d, enough)
 
-  module _ (blank1 : Columns T) (placed : PlacesAll hash (entries_in carried_to many older.slots) blank.slots blank1.slots) (removed : removed_count blank1.slots ≤ removed_count blank.slots) (slots : length blank1.slots ≡ length blank.slots)
-      (reached : IsReached hash blank1) where
-    moved_in : IsPermutation (entries (drop carried_to older.slots)) (entries blank1.slots)
-    moved_in =
-        let w = drop carried_to older.slots in
-        let l = length-drop carried_to older.slots in
-        let whole : entries_in carried_to many older.slots ++ entries blank.slots ≡ entries w =
-        ap (λ es. entries_in carried_to many older.slots ++ es) (entries_fresh blank.slots empty) ∙ append-nil (entries_in carried_to many older.slots) ∙ ap entries (take_all many w (omega (arith, l, all))) in
-        subst (λ es. IsPermutation es (entries blank1.slots)) whole (entries-PlacesAll hash (entries_in carried_to many older.slots) blank.slots blank1.slots placed)
+module _ {T : Type 0} {eq : T → T → Bool} (laws : IsEquivalence eq) {hash : T → ℕ} {newer older blank blank1 : Columns T} {carried_to many : ℕ}
+    (may : MayMove eq hash newer older blank carried_to many) (moved : HaveMoved hash older blank blank1 carried_to many) where
+  moved_in : IsPermutation (entries (drop carried_to older.slots)) (entries blank1.slots)
+  moved_in =
+      let w = drop carried_to older.slots in let all = may.all in
+      let l = length-drop carried_to older.slots in
+      let whole : entries_in carried_to many older.slots ++ entries blank.slots ≡ entries w =
+      ap (λ es. entries_in carried_to many older.slots ++ es) (entries_fresh blank.slots may.empty) ∙ append-nil (entries_in carried_to many older.slots) ∙ ap entries (take_all many w (omega (arith, l, all))) in
+      subst (λ es. IsPermutation es (entries blank1.slots)) whole (entries-PlacesAll hash (entries_in carried_to many older.slots) blank.slots blank1.slots moved.placed)
 
-    -- the map of both tables is that of the former newer one beside the one that has what waited
-    pub beside : IsPermutation (entries_of newer.slots (drop carried_to older.slots)) (entries_of blank1.slots newer.slots)
-    beside =
-        let w = drop carried_to older.slots in
-        IsPermutation-trans _ _ _ (IsPermutation-append_comm (entries newer.slots) (entries w)) (IsPermutation-append_left (entries newer.slots) _ _ moved_in)
+  -- the map of both tables is that of the former newer one beside the one that has what waited
+  pub beside : IsPermutation (entries_of newer.slots (drop carried_to older.slots)) (entries_of blank1.slots newer.slots)
+  beside =
+      let w = drop carried_to older.slots in
+      IsPermutation-trans _ _ _ (IsPermutation-append_comm (entries newer.slots) (entries w)) (IsPermutation-append_left (entries newer.slots) _ _ moved_in)
 
-    live_beside : live_count blank1.slots ≡ live_count (drop carried_to older.slots)
-    live_beside =
-        let a = length_permutation _ _ moved_in in let b = length-entries blank1.slots in let c = length-entries (drop carried_to older.slots) in omega (arith, a, b, c)
+  live_beside : live_count blank1.slots ≡ live_count (drop carried_to older.slots)
+  live_beside =
+      let a = length_permutation _ _ moved_in in let b = length-entries blank1.slots in let c = length-entries (drop carried_to older.slots) in omega (arith, a, b, c)
 
-    none_removed : removed_count blank1.slots ≡ 0
-    none_removed = let a = removed_fresh blank.slots empty in omega (arith, a, removed)
+  none_removed : removed_count blank1.slots ≡ 0
+  none_removed = let a = removed_fresh blank.slots may.empty in let removed = moved.removed in omega (arith, a, removed)
 
-    counted_beside : IsCounted eq (entries_of blank1.slots newer.slots)
-    counted_beside = counted_rearranged laws _ _ beside before.counted
+  counted_beside : IsCounted eq (entries_of blank1.slots newer.slots)
+  counted_beside = counted_rearranged laws _ _ beside may.before.counted
 
-    pub may_pack : (k : ℕ) → length newer.slots ≤ k → MayAdopt eq hash blank1 newer.slots k
-    may_pack k most =
-        let live = live_beside in let none = none_removed in let sum = all_values in
-        let limits : most_used (length blank1.slots) ≡ most_used (length blank.slots) = ap most_used slots in
-        record {
-          reached = reached;
-          apart = apart_counted eq laws blank1.slots newer.slots counted_beside;
-          unmoved = unmoved_filled _ blank.slots blank1.slots (Fills-PlacesAll hash _ blank.slots blank1.slots placed) (unmoved_blank blank.slots (length blank.slots) empty);
-          counted = counted_beside;
-          fits = omega (arith, live, none, sum, limits, enough);
-          carries = omega (arith, most);
-          smaller = inl most;
-        }
-
-    module _ (k : ℕ) (most : length newer.slots ≤ k) (new : Tables T) (h : Carried k blank1.slots newer.slots new.newer new.waiting) where
-      pub packed : IsPacked new
-      packed = record {
-        waiting = h.waits ∙ drop_all k newer.slots most;
-        room = let a = h.removed in let none = none_removed in let r : removed_count new.newer ≡ 0 = omega (arith, a, none) in omega (arith, r);
+  pub may_pack : (k : ℕ) → length newer.slots ≤ k → MayAdopt eq hash blank1 newer.slots k
+  may_pack k most =
+      let live = live_beside in let none = none_removed in let sum = all_values may in let enough = may.enough in
+      let limits : most_used (length blank1.slots) ≡ most_used (length blank.slots) = ap most_used moved.slots in
+      record {
+        reached = moved.reached;
+        apart = apart_counted eq laws blank1.slots newer.slots counted_beside;
+        unmoved = unmoved_filled _ blank.slots blank1.slots (Fills-PlacesAll hash _ blank.slots blank1.slots moved.placed) (unmoved_blank blank.slots (length blank.slots) may.empty);
+        counted = counted_beside;
+        fits = omega (arith, live, none, sum, limits, enough);
+        carries = omega (arith, most);
+        smaller = inl most;
       }
 
-      pub values_packed : values new ≡ length (entries_of newer.slots (drop carried_to older.slots))
-      values_packed = let a = h.live in let live = live_beside in let sum = all_values in omega (arith, a, live, sum)
+  module _ (k : ℕ) (most : length newer.slots ≤ k) (new : Tables T) (h : Carried k blank1.slots newer.slots new.newer new.waiting) where
+    pub packed : IsPacked new
+    packed = record {
+      waiting = h.waits ∙ drop_all k newer.slots most;
+      room = let a = h.removed in let none = none_removed in let r : removed_count new.newer ≡ 0 = omega (arith, a, none) in omega (arith, r);
+    }
+
+    pub values_packed : values new ≡ length (entries_of newer.slots (drop carried_to older.slots))
+    values_packed = let a = h.live in let live = live_beside in let sum = all_values may in omega (arith, a, live, sum)

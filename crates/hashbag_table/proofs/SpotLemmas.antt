@@ -54,36 +54,27 @@ module _ {T : Type 0} where
       IsPermutation-sym _ _ (subst (λ us. IsPermutation ((v, n) ∷ entries (slice_set ss p Removed)) (entries us)) (ap (slice_set ss p) (sym was) ∙ set-get_or ss p Empty) (put_removed ss p v n lt))
 
   module _ (ss ts : List (Slot T)) (p : ℕ) (v : T) (m : ℕ) where
-    pub swap_newer : (x : T) (k : ℕ) → p < length ss → slot_at ss p ≡ Live v m → Swaps (entries_of ss ts) (entries_of (slice_set ss p (Live x k)) ts) (v, m) ((x, k) ∷ [])
-    swap_newer x k lt was = record {
-      rest = entries_of (slice_set ss p Removed) ts;
-      before = IsPermutation-append_left (entries ts) _ _ (take_removed ss p v m lt was);
-      after = IsPermutation-append_left (entries ts) _ _ (put_removed ss p x k lt);
-    }
-
-    pub take_newer : p < length ss → slot_at ss p ≡ Live v m → Swaps (entries_of ss ts) (entries_of (slice_set ss p Removed) ts) (v, m) []
-    take_newer lt was = record {
-      rest = entries_of (slice_set ss p Removed) ts;
-      before = IsPermutation-append_left (entries ts) _ _ (take_removed ss p v m lt was);
-      after = IsPermutation-refl _;
-    }
-
-    pub swap_waiting : (x : T) (k : ℕ) → p < length ts → slot_at ts p ≡ Live v m → Swaps (entries_of ss ts) (entries_of ss (slice_set ts p (Live x k))) (v, m) ((x, k) ∷ [])
-    swap_waiting x k lt was = record {
-      rest = entries_of ss (slice_set ts p Removed);
-      before = IsPermutation-trans _ _ _ (IsPermutation-append_right (entries ss) _ _ (take_removed ts p v m lt was)) (IsPermutation-middle (entries ss) (v, m) _);
-      after = IsPermutation-trans _ _ _ (IsPermutation-sym _ _ (IsPermutation-middle (entries ss) (x, k) _)) (IsPermutation-append_right (entries ss) _ _ (put_removed ts p x k lt));
-    }
+    newer_first : p < length ss → slot_at ss p ≡ Live v m → IsPermutation (entries_of ss ts) ((v, m) ∷ entries_of (slice_set ss p Removed) ts)
+    newer_first lt was = IsPermutation-append_left (entries ts) _ _ (take_removed ss p v m lt was)
 
     pub take_first : p < length ts → slot_at ts p ≡ Live v m → IsPermutation (entries_of ss ts) ((v, m) ∷ entries_of ss (slice_set ts p Removed))
     take_first lt was = IsPermutation-trans _ _ _ (IsPermutation-append_right (entries ss) _ _ (take_removed ts p v m lt was)) (IsPermutation-middle (entries ss) (v, m) _)
 
-    pub take_waiting : p < length ts → slot_at ts p ≡ Live v m → Swaps (entries_of ss ts) (entries_of ss (slice_set ts p Removed)) (v, m) []
-    take_waiting lt was = record {
-      rest = entries_of ss (slice_set ts p Removed);
+    pub swap_newer : (x : T) (k : ℕ) → p < length ss → slot_at ss p ≡ Live v m → Swaps (entries_of ss ts) (entries_of (slice_set ss p (Live x k)) ts) (v, m) ((x, k) ∷ [])
+    swap_newer x k lt was = record { rest = _; before = newer_first lt was; after = IsPermutation-append_left (entries ts) _ _ (put_removed ss p x k lt) }
+
+    pub take_newer : p < length ss → slot_at ss p ≡ Live v m → Swaps (entries_of ss ts) (entries_of (slice_set ss p Removed) ts) (v, m) []
+    take_newer lt was = record { rest = _; before = newer_first lt was; after = IsPermutation-refl _ }
+
+    pub swap_waiting : (x : T) (k : ℕ) → p < length ts → slot_at ts p ≡ Live v m → Swaps (entries_of ss ts) (entries_of ss (slice_set ts p (Live x k))) (v, m) ((x, k) ∷ [])
+    swap_waiting x k lt was = record {
+      rest = _;
       before = take_first lt was;
-      after = IsPermutation-refl _;
+      after = IsPermutation-trans _ _ _ (IsPermutation-sym _ _ (IsPermutation-middle (entries ss) (x, k) _)) (IsPermutation-append_right (entries ss) _ _ (put_removed ts p x k lt));
     }
+
+    pub take_waiting : p < length ts → slot_at ts p ≡ Live v m → Swaps (entries_of ss ts) (entries_of ss (slice_set ts p Removed)) (v, m) []
+    take_waiting lt was = record { rest = _; before = take_first lt was; after = IsPermutation-refl _ }
 
 module _ {T : Type 0} (eq : T → T → Bool) (laws : IsEquivalence eq) where
   pub tail_counted : (e : T × ℕ) (rest : List (T × ℕ)) → IsCounted eq (e ∷ rest) → IsCounted eq rest
@@ -234,23 +225,25 @@ is_some (Some x) h = (x, refl)
 module _ {T : Type 0} (eq : T → T → Bool) (laws : IsEquivalence eq) (hash : T → ℕ) (newer older : Columns T) (carried_to : ℕ) (before : IsTables eq hash newer older carried_to) (p : ℕ) where
   module _ (k : ℕ) (pos : 0 < k) (newer1 : Columns T) (live : is_live (slot_at newer.slots p) ≡ true)
       (now : newer1.slots ≡ slice_set newer.slots p (recounted k (slot_at newer.slots p))) (reached : IsReached hash newer1) where
-    set_newer_swap : Swaps (entries_of newer.slots (drop carried_to older.slots)) (entries_of newer1.slots (drop carried_to older.slots)) ((live_is (slot_at newer.slots p) live).0, (live_is (slot_at newer.slots p) live).1) (((live_is (slot_at newer.slots p) live).0, k) ∷ [])
+    newer_live : (v : T) × (n : ℕ) × (slot_at newer.slots p ≡ Live v n)
+    newer_live = live_is (slot_at newer.slots p) live
+
+    set_newer_swap : Swaps (entries_of newer.slots (drop carried_to older.slots)) (entries_of newer1.slots (drop carried_to older.slots)) (newer_live.0, newer_live.1) ((newer_live.0, k) ∷ [])
     set_newer_swap =
-        let l = live_is (slot_at newer.slots p) live in
+        let l = newer_live in
         let w = drop carried_to older.slots in
         subst (λ ss. Swaps (entries_of newer.slots w) (entries_of ss w) (l.0, l.1) ((l.0, k) ∷ [])) (sym (now ∙ ap (λ s. slice_set newer.slots p (recounted k s)) l.2))
         (swap_newer newer.slots w p l.0 l.1 l.0 k (within_table newer.slots p live) l.2)
 
     pub set_newer_map : (e : T × ℕ) → slot_entry (slot_at newer.slots p) ≡ Some e → Swaps (entries_of newer.slots (drop carried_to older.slots)) (entries_of newer1.slots (drop carried_to older.slots)) e ((e.0, k) ∷ [])
     set_newer_map e h =
-        let l = live_is (slot_at newer.slots p) live in
-        let w = drop carried_to older.slots in
-        let same : (l.0, l.1) ≡ e = some_same (l.0, l.1) e (sym (ap slot_entry l.2) ∙ h) in
+        let l = newer_live in let w = drop carried_to older.slots in
+        let same = some_same (l.0, l.1) e (sym (ap slot_entry l.2) ∙ h) in
         subst (λ (x : T × ℕ). Swaps (entries_of newer.slots w) (entries_of newer1.slots w) x ((x.0, k) ∷ [])) same set_newer_swap
 
     pub set_newer_tables : IsTables eq hash newer1 older carried_to
     set_newer_tables =
-        let l = live_is (slot_at newer.slots p) live in
+        let l = newer_live in
         IsTables-newer eq hash newer older carried_to before p l.0 l.1 (Live l.0 k) (λ test h. h) refl newer1 (within_table newer.slots p live) l.2
         (now ∙ ap (λ s. slice_set newer.slots p (recounted k s)) l.2) reached
         (counted_swap eq laws _ _ l.0 l.1 k pos before.counted set_newer_swap)
@@ -418,3 +411,11 @@ module _ {T : Type 0} (eq : T → T → Bool) (x : T) (es : List (T × ℕ)) whe
 pub held_entry : {T : Type 0} (test : T → Bool) (t : Tables T) (spot : Spot) → HoldsIn test t spot → (e : T × ℕ) × (slot_entry (slot_in t spot) ≡ Some e)
 held_entry test t (Newer p) h = let l = holder test (slot_at t.newer p) h.1 in ((l.0, l.1), ap slot_entry l.2)
 held_entry test t (Waiting p) h = let l = holder test (slot_at t.waiting p) h.1 in ((l.0, l.1), ap slot_entry l.2)
+
+-- the slot at the place that a spot names is the one at the spot
+module _ {T : Type 0} {seen now : Tables T} {spot : Spot} {p : ℕ} (same : seen ≡ now) where
+  pub at_newer : spot ≡ Newer p → slot_at seen.newer p ≡ slot_in now spot
+  at_newer is = ap (λ (t : Tables T). slot_at t.newer p) same ∙ ap (slot_in now) (sym is)
+
+  pub at_waiting : spot ≡ Waiting p → slot_at seen.waiting p ≡ slot_in now spot
+  at_waiting is = ap (λ (t : Tables T). slot_at t.waiting p) same ∙ ap (slot_in now) (sym is)

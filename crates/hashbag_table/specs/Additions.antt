@@ -8,9 +8,9 @@ use Rattle.hashbag_table.specs.Table.{Table, IsMapOf, ChangesSlot}
 use Rattle.hashbag_table.specs.Tables.{room, Arrives, KeepsRoom}
 
 module _ {T S : Type 0} (eq : T → T → Bool) where
-  -- v was inserted into `before`, or its entry was changed, which left `after` with the entries `now`. If v was present, its slot was
-  -- changed by `change`. If v was absent, `new_set` says how many entries there are, and `arrives` what the slots are. `room` and
-  -- `same_room`: how many slots and how much room there are
+  -- v was inserted into `before`, or its entry was changed. That left `after` with the entries `now`. If v was present, its slot was changed by
+  -- `change`. If v was absent, `new_set` says how many entries there are, and `arrives` what the slots are. `room` and `same_room` say how many slots
+  -- and how much room there are
   pub record Puts (v : T) (now : List (T × ℕ)) (change : Slot T → Slot T) (before after : Table T S) : Type 0 where
     pub map : IsMapOf eq before now after
     pub new_set : entry_of eq v before.entries ≡ None → length after.entries ≡ length before.entries + 1
@@ -19,11 +19,11 @@ module _ {T S : Type 0} (eq : T → T → Bool) where
     pub room : 0 < room before.tables → KeepsRoom 1 before.tables after.tables
     pub same_room : 0 < count_of eq v before.entries → KeepsRoom 0 before.tables after.tables
 
-  -- n more of v: the stored instance stays
+  -- n of v were added; the stored instance stays
   abbrev pub Adds : T → ℕ → Table T S → Table T S → Type 0
   Adds v n before after = Puts v (with_count eq v (count_of eq v before.entries + n) before.entries) (recounted (count_of eq v before.entries + n)) before after
 
-  -- v itself is stored, with the count n
+  -- v itself was stored, with the count n
   abbrev pub Stores : T → ℕ → Table T S → Table T S → Type 0
   Stores v n before after = Puts v (with_instance eq v n before.entries) (λ _. Live v n) before after
 

@@ -1,11 +1,11 @@
--- Calls of a closure with the entries of a map, one after another, and what the returned numbers leave of it.
+-- Calls of a closure with the entries of a map, one after another, and what the returned numbers leave of the map.
 use Rattle.std.specs.Prelude.{◌≡◌, ℕ, min, nat_lt, if◌then◌else◌, List, [], ◌∷◌, ◌++◌}
 use denote.Ref.{Bor}
 use denote.Param.Members.{Mut}
 use Rattle.std.specs.Fn.{Called, Takes}
 use Rattle.std.specs.List.Sorted.{IsPermutation}
 
--- each value with the lesser of its count and the returned one, unless that is 0
+-- each value with the lesser of its count and the returned number. If that is 0, the value is gone
 abbrev pub kept : {T : Type 0} → List (T × ℕ) → List ℕ → List (T × ℕ)
 kept [] answers = []
 kept (e ∷ walk) [] = []
@@ -16,20 +16,21 @@ module _ {F T : Type 0} (g : Mut F (Bor T × (ℕ × Unit {0})) ℕ) where
   abbrev pub MayAsk : F → T × ℕ → Type 0
   MayAsk f e = (value : Bor T) → value.now ≡ e.0 → Takes g f (value, (e.1, tt))
 
-  -- called with a value and its count, f may return a and be left as f'
+  -- a call of f with a value and its count may return a, and turn the closure into f'
   pub record MayAnswer (f : F) (e : T × ℕ) (a : ℕ) (f' : F) : Type 0 where
     pub value : Bor T
     pub shows : value.now ≡ e.0
     pub called : Called g f (value, (e.1, tt)) a f'
 
-  -- called with each entry in turn, each time as the call before left it, f may return these numbers and be left as f'
+  -- calls with each entry in turn, from f on, may return these numbers, and turn the closure into f'. Each call gets the closure that the call before
+  -- left
   abbrev pub AnswersInTurn : F → List (T × ℕ) → List ℕ → F → Type 0
   AnswersInTurn f [] [] f' = f ≡ f'
   AnswersInTurn f [] (a ∷ answers) f' = ⊥
   AnswersInTurn f (e ∷ walk) [] f' = ⊥
   AnswersInTurn f (e ∷ walk) (a ∷ answers) f' = (next : F) × MayAnswer f e a next × AnswersInTurn next walk answers f'
 
-  -- f may be called with each entry in turn, whatever it returned before
+  -- the closure may be called with each entry in turn, from f on, whatever it returned before
   pub record MayAskInTurn (f : F) (walk : List (T × ℕ)) : Type 0 where
     pub at : (before after : List (T × ℕ)) (e : T × ℕ) (answers : List ℕ) (f' : F) → walk ≡ before ++ e ∷ after → AnswersInTurn f before answers f' → MayAsk f' e
 

@@ -1,4 +1,5 @@
--- The number that a `Built` stands for.
+-- The number that a `Built` stands for. `Sum'` has a snapshot of the sum before, if there is one (`None'`, `Some'`), and what was added.
+-- `Held-Sum-before` is the type of that optional snapshot.
 use Rattle.std.specs.Prelude.{ℕ, ◌+◌}
 use Rattle.hashbag_table.specs.declared.built.Sum.{Sum, Sum', Held-Sum-before, None', Some'}
 

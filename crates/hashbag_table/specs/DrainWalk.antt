@@ -12,7 +12,7 @@ module _ {T : Type 0} where
   abbrev pub drain_rest : DrainWalk T → List (T × ℕ)
   drain_rest s = s.taken
 
-  -- the name of its loan of the table
+  -- the name of the walk's loan of the table
   abbrev pub drain_name : DrainWalk T → GName
   drain_name s = s.table.ghost_name
 

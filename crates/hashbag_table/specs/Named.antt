@@ -7,6 +7,6 @@ module _ {T : Type 0} (names : T → Bool) where
   abbrev pub named_entry : List (T × ℕ) → Option (T × ℕ)
   named_entry es = lookup_entry names es
 
-  -- the count of the value that the key names, 0 if it names none that is there
+  -- the count of the value that the key names, 0 if that value is absent
   abbrev pub named_count : List (T × ℕ) → ℕ
   named_count es = unwrap_or (lookup names es) 0

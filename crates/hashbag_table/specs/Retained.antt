@@ -13,41 +13,41 @@ abbrev pub slot_left : {T : Type 0} → T → ℕ → ℕ → Slot T
 slot_left v n a = if nat_lt 0 (min a n) then Live v (min a n) else Removed
 
 module _ {T : Type 0} where
-  -- what the returned number a leaves of a slot: one that is not Live is unchanged
+  -- what the returned number a leaves of a slot. A slot that is not Live is unchanged
   abbrev pub slot_kept : ℕ → Slot T → Slot T
   slot_kept a Empty = Empty
   slot_kept a Removed = Removed
   slot_kept a Moved = Moved
   slot_kept a (Live v n) = slot_left v n a
 
-  -- each slot is, at its own place, what some number leaves of it: no value comes to another slot
+  -- each slot is what some number leaves of the slot at the same place: no value is in another slot than before
   pub record RetainsSlots (old new : List (Slot T)) : Type 0 where
     pub same_length : length new ≡ length old
     pub each : (p : ℕ) → (a : ℕ) × (slot_at new p ≡ slot_kept a (slot_at old p))
 
-  -- each slot of the newer table, and each that waits, is at its own place what some number leaves of it; and no table is built
+  -- each newer slot, and each waiting slot, is what some number leaves of the slot at the same place. No table was built
   pub record RetainsTables (old new : Tables T) : Type 0 where
     pub newer : RetainsSlots old.newer new.newer
     pub waiting : RetainsSlots old.waiting new.waiting
     pub built : new.built ≡ old.built
 
 module _ {F T : Type 0} (g : Mut F (Bor T × (ℕ × Unit {0})) ℕ) where
-  -- f, called with the entry of the slot s if that is Live, may leave the slot t and be left as f'
+  -- f may turn the slot s into t, and become f'. If s is Live, f is called with its entry; else nothing changes
   abbrev pub LeavesSlot : F → Slot T → Slot T → F → Type 0
   LeavesSlot f Empty t f' = (t ≡ Empty) × (f ≡ f')
   LeavesSlot f Removed t f' = (t ≡ Removed) × (f ≡ f')
   LeavesSlot f Moved t f' = (t ≡ Moved) × (f ≡ f')
   LeavesSlot f (Live v n) t f' = (a : ℕ) × MayAnswer g f (v, n) a f' × (t ≡ slot_left v n a)
 
-  -- f, called with the entry of each Live slot in turn, each time as the call before left it, may leave these slots and be left as f'
+  -- f, called with the entry of each Live slot in turn, may leave these slots, and become f'. Each call gets the closure that the call before left
   abbrev pub LeavesSlots : F → List (Slot T) → List (Slot T) → F → Type 0
   LeavesSlots f [] [] f' = f ≡ f'
   LeavesSlots f [] (t ∷ ts) f' = ⊥
   LeavesSlots f (s ∷ ss) [] f' = ⊥
   LeavesSlots f (s ∷ ss) (t ∷ ts) f' = (next : F) × LeavesSlot f s t next × LeavesSlots next ss ts f'
 
-  -- f was called with the entry of each Live slot from the place `from` on, in the order of places, and left these; those before are as
-  -- they were
+  -- f was called with the entry of each Live slot from the place `from` on, in the order of places, and became f'. The slots from there on are what
+  -- the returned numbers left; the slots before are as they were
   pub record RetainsFrom (from : ℕ) (f : F) (old new : List (Slot T)) (f' : F) : Type 0 where
     pub same_length : length new ≡ length old
     pub before : (p : ℕ) → p < from → slot_at new p ≡ slot_at old p

@@ -96,7 +96,7 @@ all_entries = refl
 two : values tables ≡ 2
 two = refl
 
--- 24 may be Live or Removed: one is Live, one is Removed, and another value waits for its place
+-- 24 slots may be Live or Removed: one is Live, one is Removed, and one value waits
 room_left : room tables ≡ 21
 room_left = refl
 

@@ -9,8 +9,8 @@ use Rattle.hashbag_table.specs.declared.table.Spot.{Spot}
 use Rattle.hashbag_table.specs.declared.table.Spot.TheVariants.{Newer, Waiting}
 use Rattle.hashbag_table.specs.Entries.{IsCounted}
 
--- the slots of the newer table in place order; those of the older one that wait to be carried; `older`, how many
--- slots the older one has; and `built`, how many slots all newer tables so far had
+-- two tables. `newer`: the slots of the newer table in the order of places. `waiting`: the slots of the older table that wait to be carried. `older`:
+-- how many slots the older table has. `built`: how many slots all tables had that ever were the newer one
 pub record Tables (T : Type 0) : Type 0 where
   pub newer : List (Slot T)
   pub waiting : List (Slot T)
@@ -25,15 +25,15 @@ most_used n = 3 * n / 4
 abbrev pub grown_slots : ℕ → ℕ → ℕ
 grown_slots n s = if nat_eq n 0 then 16 else if nat_le (8 * s) (3 * n) then n else 2 * n
 
--- m is the least number of slots, from n on, of which k may be Live
+-- m is the least number of slots, not below n, of which k may be Live
 pub record IsLeast (n k m : ℕ) : Type 0 where
   pub count : IsSlotCount m
   pub from : n ≤ m
   pub enough : k ≤ most_used m
   pub least : (other : ℕ) → IsSlotCount other → n ≤ other → k ≤ most_used other → m ≤ other
 
--- a table of m slots may follow one of n slots with s values: there is room, insertions carry all, 16 slots each, before the room is used
--- up, and the former table is no larger
+-- a table of m slots may follow a table of n slots with s values. It has room. The insertions that use up this room carry all n slots, 16 each. It is
+-- no smaller than the former table
 pub record Roomy (n s m : ℕ) : Type 0 where
   pub some : s < most_used m
   pub carries : n ≤ 16 * (most_used m - s)
@@ -44,14 +44,14 @@ module _ {T : Type 0} where
   abbrev pub NoneMoved : List (Slot T) → Type 0
   NoneMoved ss = (p : ℕ) → slot_at ss p ≢ Moved
 
-  -- at most k slots differ, each of which was not Live and is Live now
+  -- at most k slots changed, each from not Live to Live
   pub record Fills (k : ℕ) (old new : List (Slot T)) : Type 0 where
     pub same_length : length new ≡ length old
     pub places : List ℕ
     pub few : length places ≤ k
     pub each : (p : ℕ) → (slot_at new p ≡ slot_at old p) ⊎ (((i : ℕ) × (i < length places) × (slice_index places i ≡ p)) × (is_live (slot_at old p) ≡ false) × (is_live (slot_at new p) ≡ true))
 
-  -- how many absent values may come before a growth
+  -- how many absent values can be inserted before a growth
   abbrev pub room_of : List (Slot T) → List (Slot T) → ℕ
   room_of newer waiting = most_used (length newer) - live_count newer - removed_count newer - live_count waiting
 
@@ -59,8 +59,9 @@ module _ {T : Type 0} where
   abbrev pub entries_of : List (Slot T) → List (Slot T) → List (T × ℕ)
   entries_of newer waiting = entries newer ++ entries waiting
 
-  -- two tables, of whose older one `carried_to` slots were carried: values are found in both, none is Live in both, none was
-  -- carried out of the newer one, what was carried is not Live, and no more slots are used than may be
+  -- two tables; the first `carried_to` slots of the older one were carried. Values are found in both tables. No value is Live in both. No slot of the
+  -- newer table is Moved. No carried slot is Live. The values of both tables and the Removed slots of the newer one are together at most its
+  -- `most_used`
   pub record AreTables (eq : T → T → Bool) (hash : T → ℕ) (newer older : Columns T) (carried_to : ℕ) : Type 0 where
     pub newer_reached : IsReached hash newer
     pub older_reached : IsReached hash older
@@ -70,8 +71,8 @@ module _ {T : Type 0} where
     pub carried_slots_dead : (p : ℕ) → p < carried_to → is_live (slot_at older.slots p) ≡ false
     pub fits : live_count newer.slots + removed_count newer.slots + live_count (drop carried_to older.slots) ≤ most_used (length newer.slots)
 
-  -- what holds between two calls: what waits is at most 16 times the room, and at least 16 fewer than the newer slots; and if
-  -- nothing waits, the older table has no slots
+  -- what holds between two calls. The waiting slots are at most 16 times the room. There are none, or at least 16 fewer than newer slots. If all
+  -- slots of the older table were carried, it has no slots
   pub record IsTables (eq : T → T → Bool) (hash : T → ℕ) (newer older : Columns T) (carried_to : ℕ) : Type 0 where
     pub tables : AreTables eq hash newer older carried_to
     pub counted : IsCounted eq (entries_of newer.slots (drop carried_to older.slots))
@@ -79,8 +80,9 @@ module _ {T : Type 0} where
     pub smaller : (drop carried_to older.slots ≡ []) ⊎ (16 + length (drop carried_to older.slots) ≤ length newer.slots)
     pub freed : length older.slots ≤ carried_to → length older.slots ≡ 0
 
-  -- a table may take the place of these newer slots, `many` of which are carried at once: values are found in it, all are
-  -- no more used than may be, and those that wait are few enough for its room
+  -- the table `newer` may become the newer one. Then the slots `former` are the older table, whose first `many` slots are carried at once. Values are
+  -- found in `newer`. No more of its slots are used than `most_used` allows. The slots that wait then are at most 16 times the room, and there are
+  -- none or at least 16 fewer than slots of `newer`
   pub record MayAdopt (eq : T → T → Bool) (hash : T → ℕ) (newer : Columns T) (former : List (Slot T)) (many : ℕ) : Type 0 where
     pub reached : IsReached hash newer
     pub apart : AreApart eq former newer.slots
@@ -90,13 +92,17 @@ module _ {T : Type 0} where
     pub carries : length former - many ≤ 16 * room_of newer.slots former
     pub smaller : (length former ≤ many) ⊎ (16 + (length former - many) ≤ length newer.slots)
 
-  -- the next k waiting slots wait no more: their Live ones came into slots of the newer table that were not Live
+  -- the next k waiting slots were carried: the values of the Live ones are now in slots of the newer table that were not Live
   pub record Carried (k : ℕ) (newer waiting newer_after waiting_after : List (Slot T)) : Type 0 where
     pub fills : Fills k newer newer_after
     pub waits : waiting_after ≡ drop k waiting
     pub entries : IsPermutation (entries_of newer waiting) (entries_of newer_after waiting_after)
     pub live : live_count newer_after + live_count waiting_after ≡ live_count newer + live_count waiting
     pub removed : removed_count newer_after ≤ removed_count newer
+
+  -- `Carried` for two tables, before and after: first the older table's slots from the place `from` on wait, and then those from the place `to` on
+  abbrev pub CarriedOn : ℕ → ℕ → ℕ → Columns T → Columns T → Columns T → Columns T → Type 0
+  CarriedOn k from to newer older newer' older' = Carried k newer.slots (drop from older.slots) newer'.slots (drop to older'.slots)
 
 module _ {T : Type 0} where
   -- how many distinct values there are
@@ -113,7 +119,7 @@ module _ {T : Type 0} where
     pub room : room old ≤ room new + k
     pub built : new.built ≡ old.built
 
-  -- of these newer slots at most k became Live, and of these waiting ones the first 16 wait no more
+  -- at most k of the slots `newer` became Live, and the first 16 of the slots `waiting` were carried
   pub record Settles (k : ℕ) (newer waiting : List (Slot T)) (new : Tables T) : Type 0 where
     pub fills : Fills k newer new.newer
     pub waits : new.waiting ≡ drop 16 waiting
@@ -127,7 +133,7 @@ module _ {T : Type 0} where
     pub with_room : 0 < room old → new.built ≡ old.built
     pub grown : room old ≡ 0 → new.built ≡ old.built + length new.newer
 
-  -- the tables after the carry or the growth that an absent value causes, before it is placed: with room
+  -- the tables after the carry or the growth that an absent value causes, before it is placed. They have room
   pub record IsReady (old new : Tables T) : Type 0 where
     pub with_room : 0 < room old → Carried 16 old.newer old.waiting new.newer new.waiting
     pub grown : room old ≡ 0 → Carried 16 (fresh old) old.newer new.newer new.waiting × (old.waiting ≡ [])
@@ -135,10 +141,10 @@ module _ {T : Type 0} where
     pub carries : length new.waiting ≤ 16 * (room new - 1)
     pub built : Builds old new
 
-  -- What an inserted absent value leaves. If there was room: at most 17 newer slots became Live, and the others are the same; the first 16
-  -- waiting slots wait no more; room is at most 1 lower; no table was built. If there was none: a new table of `grown_slots` was built, of
-  -- which at most 17 slots became Live, and the others are Empty. The former newer table waits, without its first 16 slots. Room is the
-  -- `most_used` of the new table less all values.
+  -- What the insertion of an absent value leaves. If there was room: at most 17 newer slots became Live, and the others are the same; the first 16
+  -- waiting slots were carried; room is at most 1 lower; no table was built. If there was none: a new table of `grown_slots` was built, of which at
+  -- most 17 slots became Live, and the others are Empty. The former newer table waits, without its first 16 slots. Room is the `most_used` of the new
+  -- table less all values.
   pub record Arrives (old new : Tables T) : Type 0 where
     pub with_room : 0 < room old → Settles 17 old.newer old.waiting new
     pub grown : room old ≡ 0 → Settles 17 (fresh old) old.newer new
@@ -146,37 +152,49 @@ module _ {T : Type 0} where
     pub room_grown : room old ≡ 0 → room new ≡ most_used (length new.newer) - values old - 1
     pub built : Builds old new
 
-  -- the newer table has the least number of slots, from n on, of which k may be Live
+  -- the newer table has the least number of slots, not below n, of which k may be Live
   abbrev pub HasLeast : ℕ → ℕ → Tables T → Type 0
   HasLeast n k t = IsLeast n k (length t.newer)
 
-  -- one table of slots: nothing waits, and room is `most_used` of the table less the values
+  -- there is one table: no slot waits, and room is `most_used` of the table less the values
   pub record IsPacked (t : Tables T) : Type 0 where
     pub waiting : t.waiting ≡ []
     pub room : room t ≡ most_used (length t.newer) - values t
 
-  -- the least table from n slots on with room for k values took the place of both, and its slots count as built
+  -- one table replaced both: the least one, with no fewer than n slots, that has room for k values. Its slots count as built
   pub record Packs (n k : ℕ) (old new : Tables T) : Type 0 where
     pub least : HasLeast n k new
     pub packed : IsPacked new
     pub built : new.built ≡ old.built + length new.newer
 
-  -- room for n values more than the k present ones: there was that room, and the tables stay; or there wasn't, and the least table that has
-  -- it took their place
+  -- room for n values more than the k present ones. Either there was room for n, and the tables are unchanged. Or there was less, and the least table
+  -- with that room replaced both
   abbrev pub ReservesOrStays : ℕ → ℕ → Tables T → Tables T → Type 0
   ReservesOrStays n k old new = ((n ≤ room old) × (new ≡ old)) ⊎ ((room old < n) × Packs (length old.newer) (k + n) old new)
 
-  -- no more slots than k values need: the newer table is at most the least one for them and the tables stay, or it was larger
-  -- and that one took their place
+  -- no more slots than k values need. Either the newer table was no larger than the least one for k values, and the tables are unchanged. Or it was
+  -- larger, and that least table replaced both
   abbrev pub ShrinksOrStays : ℕ → Tables T → Tables T → Type 0
   ShrinksOrStays k old new = (((m : ℕ) → IsLeast 0 k m → length old.newer ≤ m) × (new ≡ old)) ⊎ ((length new.newer < length old.newer) × Packs 0 k old new)
+
+  -- P holds if the newer table has no more slots than the least one for k values
+  abbrev pub IfNoLarger : ℕ → Tables T → Type 0 → Type 0
+  IfNoLarger k t P = (m : ℕ) → IsLeast 0 k m → length t.newer ≤ m → P
+
+  -- `Carried` for the newer and the waiting slots of two `Tables`
+  abbrev pub CarriesNext : ℕ → Tables T → Tables T → Type 0
+  CarriesNext k old new = Carried k old.newer old.waiting new.newer new.waiting
+
+  -- the values of both tables and the Removed slots of the newer one are together at most its `most_used`
+  abbrev pub IsNotOverfull : Tables T → Type 0
+  IsNotOverfull t = live_count t.newer + removed_count t.newer + live_count t.waiting ≤ most_used (length t.newer)
 
   -- the slot at a spot
   abbrev pub slot_in : Tables T → Spot → Slot T
   slot_in t (Newer p) = slot_at t.newer p
   slot_in t (Waiting p) = slot_at t.waiting p
 
-  -- a value that passes is Live at the spot
+  -- a value that passes the test is Live at the spot
   abbrev pub HoldsIn : (T → Bool) → Tables T → Spot → Type 0
   HoldsIn test t (Newer p) = HoldsAt test t.newer p
   HoldsIn test t (Waiting p) = HoldsAt test t.waiting p
@@ -190,12 +208,12 @@ module _ {T : Type 0} where
   abbrev pub IfEntry : Tables T → Spot → (T × ℕ → Type 0) → Type 0
   IfEntry t spot P = (e : T × ℕ) → entry_in t (Some spot) ≡ Some e → P e
 
-  -- the slot at the spot is this one now, and all others are as they were
+  -- the slot at the spot is s now, and all others are as they were
   abbrev pub Writes : Spot → Slot T → Tables T → Tables T → Type 0
   Writes (Newer p) s old new = (new.newer ≡ slice_set old.newer p s) × (new.waiting ≡ old.waiting) × (new.built ≡ old.built)
   Writes (Waiting p) s old new = (new.newer ≡ old.newer) × (new.waiting ≡ slice_set old.waiting p s) × (new.built ≡ old.built)
 
-  -- one slot in which a value that passes is Live, in whichever table it is, is changed, and all others are as they were
+  -- one slot, of either table, whose value passes the test, was changed by `change`. All other slots are as they were
   pub record Rewrites (test : T → Bool) (change : Slot T → Slot T) (old new : Tables T) : Type 0 where
     pub spot : Spot
     pub held : HoldsIn test old spot

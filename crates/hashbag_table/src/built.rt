@@ -1,18 +1,21 @@
-//! A whole number for contracts alone, which takes no bytes.
+//! A number for contracts alone, which has no bound and takes no bytes.
+//!
+//! A `usize` could overflow. So the number is a chain of sums: each has what was added last, and a snapshot of the sum before. A `Snapshot` is only
+//! for contracts and takes no bytes.
 ghost use Rattle.std.specs.Prelude.{◌≡◌, ◌+◌};
 
 use std::marker::Model;
 use std::mem;
 use std::snapshot::Snapshot;
 
-// The earlier number, and one that was added.
+// The sum before, if there is one, and what was added to it.
 #[derive(Drop)]
 struct Sum {
     before: Option<Snapshot<Sum>>,
     more: usize,
 }
 
-/// How many slots were built. An unbounded number that takes no memory. Contracts see it as that number.
+/// How many slots were built: a number without a bound, which takes no memory. Contracts see that number.
 #[derive(Drop)]
 pub struct Built {
     sum: Snapshot<Sum>,
@@ -28,7 +31,7 @@ impl Model for Built {
 }
 
 impl Built {
-    /// Returns the number `slots`.
+    /// Returns the number `slots`, to begin with.
     pub fn first(slots: usize) -> Built
         ensures { result ≡ slots }
     {

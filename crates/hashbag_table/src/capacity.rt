@@ -17,7 +17,7 @@ pub const MOST_SLOTS: usize = 1 << 59;
 pub fn no_slots<T: Eq + Drop>(alloc: Global) -> Slots<T>
     ensures slots { result.slots ≡ [] }
 
-    // Under any hash its values are found: there are none.
+    // The values are found under any hash, since there are none.
     ensures reached { (hash : T → ℕ) → IsReached hash result }
 {
     match Slots::with_slots(alloc, 0) {
@@ -30,6 +30,8 @@ pub fn no_slots<T: Eq + Drop>(alloc: Global) -> Slots<T>
 pub fn clear_slots<T: Eq + Drop>(slots: &mut Slots<T>)
     requires unmoved { NoneMoved slots.old.slots }
     ensures slots { slots.new.slots ≡ replicate (length slots.old.slots) Slot.Empty }
+
+    // The values are found under any hash, since there are none.
     ensures reached { (hash : T → ℕ) → IsReached hash slots.new }
 {
     if slots.live() > 0 || slots.removed() > 0 {
@@ -37,50 +39,52 @@ pub fn clear_slots<T: Eq + Drop>(slots: &mut Slots<T>)
     }
 }
 
-/// Returns how many of `count` slots may be Live or Removed: three quarters.
+/// Returns how many of `slots` slots may be Live or Removed: three quarters.
 #[inline(always)]
-pub fn most_used(count: usize) -> usize
-    requires { count ≤ 2 ^ 59 }
-    ensures { result ≡ most_used count }
+pub fn most_used(slots: usize) -> usize
+    requires { slots ≤ 2 ^ 59 }
+    ensures { result ≡ most_used slots }
 {
-    3 * count / 4
+    3 * slots / 4
 }
 
-// Returns whether at most three eighths of `count` slots are Live, so that a new table with as many slots has room for as many again.
-fn is_sparse(count: usize, live: usize) -> bool
-    requires count { count ≤ 2 ^ 59 }
-    requires live { live ≤ count }
-    ensures { result ≡ nat_le (8 * live) (3 * count) }
+// Returns whether at most three eighths of `slots` slots are Live. Then a new table with as many slots has room for as many values more.
+fn is_sparse(slots: usize, live: usize) -> bool
+    requires count { slots ≤ 2 ^ 59 }
+    requires live { live ≤ slots }
+    ensures { result ≡ nat_le (8 * live) (3 * slots) }
 {
-    8 * live <= 3 * count
+    8 * live <= 3 * slots
 }
 
-/// Returns the number of slots of a new table, after one of `count` slots with `live` values: 16 if `count` is 0, `count` if at most
-/// three eighths are Live, else twice as many.
+/// Returns the number of slots of the table that follows one of `slots` slots with `live` values: 16 if `slots` is 0, `slots` if at most three
+/// eighths are Live, else `2 * slots`.
 ///
 /// # Errors
 ///
 /// `AllocError` if that is more than 2^59.
-pub fn grown_slots(count: usize, live: usize) -> Result<usize, AllocError>
-    requires count { IsSlotCount count }
-    requires live { live ≤ count }
-    ensures grown { IfOk result (λ n. n ≡ grown_slots count live) }
+pub fn grown_slots(slots: usize, live: usize) -> Result<usize, AllocError>
+    requires count { IsSlotCount slots }
+    requires live { live ≤ slots }
+    ensures grown { IfOk result (λ n. n ≡ grown_slots slots live) }
+
+    // The number is 0, or a power of two from 16 to 2^59.
     ensures slots { IfOk result (λ n. IsSlotCount n) }
-    ensures past_most { IsErr result → 2 ^ 59 < grown_slots count live }
+    ensures past_most { IsErr result → 2 ^ 59 < grown_slots slots live }
 {
-    if count == 0 {
+    if slots == 0 {
         return Ok(FIRST_SLOTS);
     }
-    if is_sparse(count, live) {
-        return Ok(count);
+    if is_sparse(slots, live) {
+        return Ok(slots);
     }
-    if count >= MOST_SLOTS {
+    if slots >= MOST_SLOTS {
         return Err(AllocError);
     }
-    Ok(2 * count)
+    Ok(2 * slots)
 }
 
-/// Returns the least number of slots, from `from` on, of which `values` may be Live.
+/// Returns the least number of slots, not below `from`, of which `values` may be Live.
 ///
 /// # Errors
 ///
@@ -88,14 +92,16 @@ pub fn grown_slots(count: usize, live: usize) -> Result<usize, AllocError>
 pub fn least_slots(from: usize, values: usize) -> Result<usize, AllocError>
     requires count { IsSlotCount from }
     ensures least { IfOk result (λ n. IsLeast from values n) }
+
+    // It fails only if even 2^59 slots aren't enough.
     ensures past_most { IsErr result → most_used (2 ^ 59) < values }
 {
-    let mut count = from;
-    'count: while most_used(count) < values {
-        if count >= MOST_SLOTS {
+    let mut slots = from;
+    'slots: while most_used(slots) < values {
+        if slots >= MOST_SLOTS {
             return Err(AllocError);
         }
-        count = if count == 0 { FIRST_SLOTS } else { 2 * count };
+        slots = if slots == 0 { FIRST_SLOTS } else { 2 * slots };
     }
-    Ok(count)
+    Ok(slots)
 }

@@ -5,7 +5,7 @@ pub use hashbag_slots::key::Key;
 use std::alloc::{AllocError, Global};
 use std::hash::Hash;
 
-/// A key from which a value can be built: an insertion builds it if no present value is named by the key.
+/// A key from which a value can be built. An insertion builds the value only if the key names no present value.
 pub trait ToValue<T: Eq + Hash>: Key<T> {
     /// Builds a value that the key names.
     ///

@@ -1,4 +1,4 @@
-//! Distinct values with their counts, found by hashing: what a counted multiset is built on.
+//! Distinct values with their counts, found by hashing: the map on which a counted multiset is built.
 //!
 //! A [`table::Table`] is a finite map from each distinct value to its stored instance and its count, which is at least 1. It keeps them in
 //! two tables of [`slots`].

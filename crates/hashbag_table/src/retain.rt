@@ -8,7 +8,7 @@ ghost use Rattle.hashbag_table.specs.Retained.{LeavesSlot, RetainsFrom};
 
 use hashbag_slots::slots::Slots;
 
-// Calls `f` once for the value at a place, whose slot must be Live, and returns the count that is left, as [`retain_slots`].
+// Calls `f` once for the value at a place, and lowers its count as [`retain_slots`] does. The slot must be Live. Returns the count that is left.
 #[inline(always)]
 fn retain_at<T: Eq + Drop, F: FnMut(&T, usize) -> usize>(
     slots: &mut Slots<T>,
@@ -33,9 +33,8 @@ fn retain_at<T: Eq + Drop, F: FnMut(&T, usize) -> usize>(
     0
 }
 
-/// Calls `f` once for each value from the place `from` on, with its count, in the order of places, and returns the total of the counts that
-/// are left there. The value keeps the lesser of its count and what `f` returns. If that is 0 the value is dropped, and its slot becomes
-/// Removed.
+/// Calls `f` once for each value from the place `from` on, with its count, in the order of places. Each count becomes the lesser of the count and
+/// what `f` returns. If that is 0 the value is dropped, and its slot becomes Removed. Returns the total of the counts that are left there.
 ///
 /// # Complexity
 ///
@@ -49,8 +48,12 @@ pub fn retain_slots<T: Eq + Drop, F: FnMut(&T, usize) -> usize>(
     requires within { from ≤ length slots.old.slots }
     requires asks { MayAskInTurn F.FnMut f.old (entries (drop from slots.old.slots)) }
     requires fits { total (entries (drop from slots.old.slots)) < 2 ^ 64 }
+
+    // `f` was called in turn and became `f.new`. The slots from `from` on are what its numbers left; the slots before are unchanged.
     ensures kept { RetainsFrom F.FnMut from f.old slots.old.slots slots.new.slots f.new }
     ensures total { result ≡ total (entries (drop from slots.new.slots)) }
+
+    // If the values were found under a hash before, they are still.
     ensures reached { (hash : T → ℕ) → IsReached hash slots.old → IsReached hash slots.new }
 {
     let mut sum = 0;

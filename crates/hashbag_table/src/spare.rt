@@ -27,6 +27,8 @@ impl<T: Eq + Drop> Spare<T> {
     /// Returns the number of slots.
     pub fn slots(&self) -> usize
         ensures value { result ≡ self.now }
+
+        // It is 0, or a power of two from 16 to 2^59.
         ensures count { IsSlotCount result }
     {
         self.blank.slots()

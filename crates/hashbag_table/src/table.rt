@@ -3,21 +3,22 @@
 //! Values are inserted into the newer table. If it has no room left, it becomes the older one, and a new one takes its place. Each
 //! insertion of an absent value then carries the next 16 slots of the older table, so no insertion moves all values at once.
 //!
-//! In clauses `IsMapOf` says which entries there are; `Adds` and `Stores` also which slots changed. `Rewrites`: one value's slot alone changed.
-//! `KeepsRoom 0`: no table was built, and room isn't lower. `FailsIfFull`: it fails only without room, for an absent value, and changes nothing.
+//! In clauses `IsMapOf` says which entries there are. `Adds`: occurrences were added, and a stored instance stays. `Stores`: the given instance itself
+//! is stored. Both also say which slots changed. `Rewrites`: only the slot of one value changed. `KeepsRoom 0`: no table was built, and room isn't
+//! lower. `FailsIfFull`: a call fails only for an absent value without room, and then changes nothing. `named_entry`: the entry that a key names.
 ghost use Rattle.std.specs.Prelude.{◌≡◌, ◌+◌, ◌-◌, ◌*◌, ◌<◌, ◌≤◌, ◌^◌, [], ◌∷◌, length, replicate, true, Some, None, IfOk, IfErr, OnOk, OnErr, IsOk, IsSome, IsTrue};
 ghost use Rattle.std.specs.Borrow.{sem};
 ghost use Rattle.std.specs.List.Sorted.{IsPermutation};
 ghost use Rattle.hashbag_slots.specs.FirstGroup.{IfAbsent};
 ghost use Rattle.hashbag_slots.specs.Hashing.{hash_under};
-ghost use Rattle.hashbag_slots.specs.Slots.{IsSlotCount, entries, IsAbsent, IsFirstFree, Places, recounted, live_count, removed_count};
+ghost use Rattle.hashbag_slots.specs.Slots.{IsSlotCount, entries, IsAbsent, IsFirstFree, Places};
 ghost use Rattle.hashbag_table.specs.Additions.{Adds, Stores, FailsIfFull};
 ghost use Rattle.hashbag_table.specs.Asked.{MayAskInTurn, Retains};
 ghost use Rattle.hashbag_table.specs.Named.{named_count, named_entry};
-ghost use Rattle.hashbag_table.specs.Entries.{entry_of, count_of, without, with_count, with_fewer, with_instance, total, IsCounted};
+ghost use Rattle.hashbag_table.specs.Entries.{entry_of, count_of, without, with_count, with_instance, total, IsCounted};
 ghost use Rattle.hashbag_table.specs.Retained.{RetainsTables};
-ghost use Rattle.hashbag_table.specs.Table.{IsMapOf, ChangesSlot};
-ghost use Rattle.hashbag_table.specs.Tables.{most_used, room, entries_of, Arrives, KeepsRoom, NoneMoved, Rewrites};
+ghost use Rattle.hashbag_table.specs.Table.{IsMapOf, LosesNamed, RewritesCount, ChangesSlot};
+ghost use Rattle.hashbag_table.specs.Tables.{most_used, room, entries_of, Arrives, KeepsRoom, IsNotOverfull, NoneMoved, Rewrites};
 
 mod keys;
 mod make;
@@ -90,17 +91,19 @@ impl<T: Eq + Hash + Drop, S: BuildHasher + Drop> Table<T, S> {
     /// Returns the number of slots of the newer table. None of them is Moved.
     pub fn slots(&self) -> usize
         ensures slots { result ≡ length self.now.tables.newer }
+
+        // It is 0, or a power of two from 16 to 2^59.
         ensures count { IsSlotCount result }
         ensures entries { self.now.entries ≡ entries_of self.now.tables.newer self.now.tables.waiting }
         ensures unmoved { NoneMoved self.now.tables.newer }
 
         // All values and the Removed slots of the newer table take at most three quarters of its slots.
-        ensures fits { live_count self.now.tables.newer + removed_count self.now.tables.newer + live_count self.now.tables.waiting ≤ most_used (length self.now.tables.newer) }
+        ensures fits { IsNotOverfull self.now.tables }
     {
         self.newer.slots()
     }
 
-    /// Only for proofs: by its contract the entries are the Live slots of both tables, and they are a map. It does nothing at run time.
+    /// Only for proofs: its contract says that the entries are the Live slots of both tables, and that they are a map. It does nothing at run time.
     #[inline(always)]
     pub fn held(&self)
         ensures held { self.now.entries ≡ entries_of self.now.tables.newer self.now.tables.waiting }
@@ -222,7 +225,7 @@ impl<T: Eq + Hash + Drop, S: BuildHasher + Drop> Table<T, S> {
         requires present { IsSome (entry_of T.eq value.now self.old.entries) }
         requires positive { 0 < n }
         ensures set { IsMapOf T.eq self.old (with_count T.eq value.now n self.old.entries) self.new }
-        ensures slot { Rewrites (T.eq value.now) (recounted n) self.old.tables self.new.tables }
+        ensures slot { RewritesCount (T.eq value.now) n self.old self.new }
         ensures room { KeepsRoom 0 self.old.tables self.new.tables }
     {
         let hash = self.hash(value);
@@ -239,6 +242,8 @@ impl<T: Eq + Hash + Drop, S: BuildHasher + Drop> Table<T, S> {
     /// It hashes the key once and doesn't allocate.
     pub fn remove<Q: Key<T>>(&mut self, key: Q) -> Option<(T, usize)>
         ensures taken { result ≡ named_entry (Q.names key) self.old.entries }
+
+        // The entries are those before, without the value that the key names: `v` is any value that it names.
         ensures left { (v : T) → IsTrue (Q.names key v) → IsMapOf T.eq self.old (without T.eq v self.old.entries) self.new }
         ensures slot { IsSome result → Rewrites (Q.names key) (λ _. Slot.Removed) self.old.tables self.new.tables }
         ensures none { result ≡ None → self.new ≡ self.old }
@@ -262,8 +267,10 @@ impl<T: Eq + Hash + Drop, S: BuildHasher + Drop> Table<T, S> {
     /// It hashes the key once and doesn't allocate.
     pub fn take<Q: Key<T>>(&mut self, key: Q, n: usize) -> usize
         ensures before { result ≡ named_count (Q.names key) self.old.entries }
-        ensures taken { (v : T) → IsTrue (Q.names key v) → IsMapOf T.eq self.old (with_fewer T.eq v n self.old.entries) self.new }
-        ensures fewer { n < result → Rewrites (Q.names key) (recounted (result - n)) self.old.tables self.new.tables }
+
+        // The value that the key names has `n` fewer, and is absent if it had no more than `n`.
+        ensures taken { LosesNamed T.eq (Q.names key) n self.old self.new }
+        ensures fewer { n < result → RewritesCount (Q.names key) (result - n) self.old self.new }
         ensures gone { 0 < result → result ≤ n → Rewrites (Q.names key) (λ _. Slot.Removed) self.old.tables self.new.tables }
         ensures none { result ≡ 0 → self.new ≡ self.old }
         ensures room { KeepsRoom 0 self.old.tables self.new.tables }
@@ -291,8 +298,8 @@ impl<T: Eq + Hash + Drop, S: BuildHasher + Drop> Table<T, S> {
     pub fn take_one<Q: Key<T>>(&mut self, key: Q) -> Result<T, usize>
         ensures last { IfOk result (λ instance. named_entry (Q.names key) self.old.entries ≡ Some (instance, 1)) }
         ensures others { IfErr result (λ before. (before ≡ named_count (Q.names key) self.old.entries) × (before ≢ 1)) }
-        ensures taken { (v : T) → IsTrue (Q.names key v) → IsMapOf T.eq self.old (with_fewer T.eq v 1 self.old.entries) self.new }
-        ensures fewer { IfErr result (λ before. 0 < before → Rewrites (Q.names key) (recounted (before - 1)) self.old.tables self.new.tables) }
+        ensures taken { LosesNamed T.eq (Q.names key) 1 self.old self.new }
+        ensures fewer { IfErr result (λ before. 0 < before → RewritesCount (Q.names key) (before - 1) self.old self.new) }
         ensures gone { IfOk result (λ _. Rewrites (Q.names key) (λ _. Slot.Removed) self.old.tables self.new.tables) }
         ensures absent { IfErr result (λ before. before ≡ 0 → self.new ≡ self.old) }
         ensures room { KeepsRoom 0 self.old.tables self.new.tables }
@@ -310,8 +317,8 @@ impl<T: Eq + Hash + Drop, S: BuildHasher + Drop> Table<T, S> {
         Err(0)
     }
 
-    // The slow path of `add`: the value isn't in the first group of its path in the newer table. `first` says whether that group proves it
-    // absent there. The function is out of line, so that the fast path is short.
+    // The slow path of `add`, if the first group of the value's path in the newer table doesn't have the value. `first` says whether that group shows
+    // that the value is absent there. This function is out of line, so that the fast path is short.
     #[inline(never)]
     fn add_slow(
         &mut self,
@@ -405,7 +412,7 @@ impl<T: Eq + Hash + Drop, S: BuildHasher + Drop> Table<T, S> {
     ///
     /// # Complexity
     ///
-    /// It doesn't allocate. It writes nothing to the newer table if no slot of that is Live or Removed.
+    /// It doesn't allocate. If no slot of the newer table is Live or Removed, it writes nothing to that table.
     pub fn clear(&mut self)
         ensures empty { self.new.entries ≡ [] }
         ensures hasher { self.new.hasher ≡ self.old.hasher }
@@ -419,14 +426,14 @@ impl<T: Eq + Hash + Drop, S: BuildHasher + Drop> Table<T, S> {
         self.carried_to = 0;
     }
 
-    /// Calls `f` once for each value, with its count, in no particular order, and returns the total of the counts that are left. The value
-    /// keeps the lesser of its count and what `f` returns. If that is 0 the value is dropped, and its slot, in whichever table it is,
-    /// becomes Removed. No value changes its slot. The caller ensures that the total fits.
+    /// Calls `f` once for each value, with its count, in no particular order. Each count becomes the lesser of the count and what `f` returns. If
+    /// that is 0 the value is dropped, and its slot, in whichever table it is, becomes Removed. No value changes its slot. Returns the total of the
+    /// counts that are left. The caller ensures that the total of the counts before fits a `usize`.
     ///
     /// # Complexity
     ///
-    /// It hashes nothing and doesn't allocate. It reads sixteen tags at once, and ends in each of the two tables with the last Live slot.
-    /// If there is no value it reads no tag, however many slots there are.
+    /// It hashes nothing and doesn't allocate. It reads sixteen tags at once. In each of the two tables it stops after the last Live slot. If there
+    /// is no value it reads no tag, however many slots there are.
     pub fn retain<F: FnMut(&T, usize) -> usize + Drop>(&mut self, mut f: F) -> usize
         requires asks { (walk : _) → IsPermutation self.old.entries walk → MayAskInTurn F.FnMut f walk }
         requires fits { total self.old.entries < 2 ^ 64 }

@@ -1,6 +1,7 @@
 //! Walks over a table: its entries one after another, each once.
 //!
-//! They come in no particular order, as [`hashbag_slots::walk`] says.
+//! The entries come in no particular order, as [`hashbag_slots::walk`] says. In clauses `YieldsFirst` says that a walk is its list of what is left,
+//! and `next` gives the first of it. `lower` and `upper` are the clauses of the trait: the bounds hold of the number of items left.
 ghost use Rattle.std.specs.Prelude.{◌≡◌, length, Some, IfSome};
 ghost use Rattle.std.specs.Iterator.{YieldsFirst, item_count, at_most, UpTo};
 ghost use Rattle.std.specs.Iterator.SizeHint.{IsWithinCount};
@@ -9,7 +10,7 @@ ghost use Rattle.hashbag_table.specs.DrainWalk.{drain_rest};
 pub use hashbag_slots::walk::{IntoWalk, Walk};
 use std::iter::ExactSizeIterator;
 
-/// The entries that were removed from a table, by value. The table is empty from the start, and unread entries are dropped with the walk.
+/// The entries that were removed from a table, by value. The table is empty from the start. Unread entries are dropped with the walk.
 ///
 /// Contracts see the list of the entries that are left as `drain_rest`.
 pub struct DrainWalk<'a, T> {
@@ -53,7 +54,7 @@ impl<'a, T: Drop> ExactSizeIterator for DrainWalk<'a, T> {
 }
 
 impl<'a, T> DrainWalk<'a, T> {
-    /// Returns a walk over what is left, which lends it, and leaves this walk where it is.
+    /// Returns a walk over references to what is left. This walk doesn't advance.
     pub fn rest(&self) -> Walk<'_, T>
         ensures { result ≡ drain_rest self.now }
     {

@@ -1,9 +1,9 @@
 //! Room and slots of a bag: how much there is, what is allocated, and what is freed.
-ghost use Rattle.std.specs.Prelude.{◌≡◌, ℕ, ◌+◌, ◌*◌, ◌<◌, ◌≤◌, [], length, IsOk, IfErr, OnOk, OnErr};
-ghost use Rattle.hashbag_slots.specs.Slots.{IsSlotCount, live_count, removed_count};
-ghost use Rattle.hashbag_table.specs.Tables.{most_used, room, values, Carried, KeepsRoom, ReservesOrStays, ShrinksOrStays, NoneMoved};
+ghost use Rattle.std.specs.Prelude.{◌≡◌, ◌+◌, ◌*◌, ◌<◌, ◌≤◌, [], length, IsOk, IfErr, OnOk, OnErr};
+ghost use Rattle.hashbag_slots.specs.Slots.{IsSlotCount};
+ghost use Rattle.hashbag_table.specs.Tables.{room, values, CarriesNext, IsNotOverfull, IfNoLarger, KeepsRoom, ShrinksOrStays, NoneMoved};
 ghost use Rattle.hashbag_core.specs.Occurrences.{distinct_count};
-ghost use Rattle.hashbag_core.specs.Held.{no_slots, AreHeld, NeedsSlots};
+ghost use Rattle.hashbag_core.specs.Held.{no_slots, AreHeld, ReservesSlots};
 ghost use Rattle.hashbag_table.specs.declared.table.TheConstants.{MOST_VALUES};
 ghost use Rattle.hashbag_core.specs.declared.bag.BagError.TheVariants.{Memory};
 
@@ -30,8 +30,8 @@ impl<T: Eq + Hash + Drop, S: BuildHasher + Drop> HashBag<T, S> {
         self.table.capacity()
     }
 
-    /// Returns the number of slots of the newer table, 0 if it has none. A slot has a place for one distinct value with its count. Those
-    /// that aren't Empty are Live, which hold a value, or Removed, which held one.
+    /// Returns the number of slots of the newer table, 0 if it has none. A slot has a place for one distinct value with its count. A slot of the
+    /// newer table is Empty, Live (it holds a value), or Removed (it held one).
     ///
     /// # Examples
     ///
@@ -48,12 +48,12 @@ impl<T: Eq + Hash + Drop, S: BuildHasher + Drop> HashBag<T, S> {
         // It is 0, or a power of two from 16 to 2^59.
         ensures count { IsSlotCount result }
 
-        // Each value is in one Live slot of either table, with its count, and none was moved out of the newer table.
+        // Each value is in one Live slot of either table, with its count. No value was moved out of the newer table.
         ensures held { AreHeld T.eq self.now.items self.now.tables }
         ensures unmoved { NoneMoved self.now.tables.newer }
 
         // The values of both tables and the Removed slots of the newer one take at most three quarters of its slots.
-        ensures fits { live_count self.now.tables.newer + removed_count self.now.tables.newer + live_count self.now.tables.waiting ≤ most_used (length self.now.tables.newer) }
+        ensures fits { IsNotOverfull self.now.tables }
         ensures values { values self.now.tables ≡ distinct_count T.eq self.now.items }
     {
         self.table.slots()
@@ -78,7 +78,7 @@ impl<T: Eq + Hash + Drop, S: BuildHasher + Drop> HashBag<T, S> {
         // The insertions that there is room for carry all waiting slots, 16 each.
         ensures carries { result ≤ 16 * room self.now.tables }
 
-        // If there are some, they are at least 16 fewer than the newer slots; if none, the older table has no slots.
+        // If some slots wait, they are at least 16 fewer than the newer slots. If none waits, the older table has no slots.
         ensures smaller { 0 < result → result + 16 ≤ length self.now.tables.newer }
         ensures freed { result ≡ 0 → self.now.tables.older ≡ 0 }
     {
@@ -88,8 +88,8 @@ impl<T: Eq + Hash + Drop, S: BuildHasher + Drop> HashBag<T, S> {
     /// Carries all slots of the older table that aren't carried yet, so that a look-up then probes one table alone. The occurrences stay,
     /// and no room is lost.
     ///
-    /// Otherwise only insertions of absent values carry. So a bag that is filled once and then only looked up is faster after this call. If
-    /// no slot waits to be carried, the call does nothing.
+    /// Otherwise only an insertion of an absent value carries slots. So a bag that is filled once and then only looked up is faster after this call.
+    /// If no slot waits to be carried, the call does nothing.
     ///
     /// # Complexity
     ///
@@ -108,12 +108,13 @@ impl<T: Eq + Hash + Drop, S: BuildHasher + Drop> HashBag<T, S> {
     /// Ok(())
     /// ```
     pub fn finish_carry(&mut self)
+        // The bag means the list that it meant before, and its hash state and limit are unchanged.
         ensures items { IsBagOf T.eq self.old self.old.items self.new }
         ensures len { length self.new.items ≡ length self.old.items }
         ensures waiting { self.new.tables.waiting ≡ [] }
 
         // The waiting values are in slots of the newer table that weren't Live. Its other slots are unchanged.
-        ensures carried { Carried (length self.old.tables.waiting) self.old.tables.newer self.old.tables.waiting self.new.tables.newer self.new.tables.waiting }
+        ensures carried { CarriesNext (length self.old.tables.waiting) self.old.tables self.new.tables }
 
         // There are as many slots as before, no table was built, and room isn't lower.
         ensures room { KeepsRoom 0 self.old.tables self.new.tables }
@@ -161,6 +162,7 @@ impl<T: Eq + Hash + Drop, S: BuildHasher + Drop> HashBag<T, S> {
     /// Ok(())
     /// ```
     pub fn reserve(&mut self, n: usize) -> Result<(), BagError>
+        // The bag means the list that it meant before, and its hash state and limit are unchanged.
         ensures items { IsBagOf T.eq self.old self.old.items self.new }
         ensures len { length self.new.items ≡ length self.old.items }
         ensures beyond { 0 < n → MOST_VALUES < distinct_count T.eq self.old.items + n → result ≡ Err BagError.Memory }
@@ -170,7 +172,7 @@ impl<T: Eq + Hash + Drop, S: BuildHasher + Drop> HashBag<T, S> {
 
         // What becomes of the tables, as under `# Complexity`.
         ensures enough { n ≤ room self.old.tables → IsOk result × (self.new ≡ self.old) }
-        ensures reserves { OnOk result (ReservesOrStays n (distinct_count T.eq self.old.items) self.old.tables self.new.tables) }
+        ensures reserves { OnOk result (ReservesSlots T.eq n self.old self.new) }
     {
         self.table.reserve(n)?;
         Ok(())
@@ -198,16 +200,17 @@ impl<T: Eq + Hash + Drop, S: BuildHasher + Drop> HashBag<T, S> {
     /// Ok(())
     /// ```
     pub fn shrink_to_fit(&mut self) -> Result<(), BagError>
+        // The bag means the list that it meant before, and its hash state and limit are unchanged.
         ensures items { IsBagOf T.eq self.old self.old.items self.new }
         ensures len { length self.new.items ≡ length self.old.items }
         ensures memory { IfErr result (λ e. e ≡ BagError.Memory) }
         ensures err { OnErr result (self.new ≡ self.old) }
 
-        // What becomes of the tables, as under `# Complexity`: m is the number of slots of the least table.
+        // What becomes of the tables, as under `# Complexity`. An empty bag is left with no slots.
         ensures none { self.old.items ≡ [] → IsOk result }
         ensures freed { OnOk result (self.old.items ≡ [] → self.new.tables ≡ no_slots self.old.tables.built) }
         ensures shrinks { OnOk result (ShrinksOrStays (distinct_count T.eq self.old.items) self.old.tables self.new.tables) }
-        ensures enough { (m : ℕ) → NeedsSlots T.eq self.old m → length self.old.tables.newer ≤ m → IsOk result × (self.new ≡ self.old) }
+        ensures enough { IfNoLarger (distinct_count T.eq self.old.items) self.old.tables (IsOk result × (self.new ≡ self.old)) }
     {
         self.table.shrink_to_fit()?;
         // Only for the proof: it uses the clauses `waiting`, `smaller` and `freed` of `Table::waiting`.

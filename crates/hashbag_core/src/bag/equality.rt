@@ -6,8 +6,8 @@ ghost use Rattle.hashbag_core.specs.EqualityLaws.{bag_eq_refl, bag_eq_partial};
 use crate::bag::HashBag;
 use std::hash::{BuildHasher, Hash};
 
-/// Two bags are equal if each value occurs as often in one as in the other. The stored instances, the states, the limits, the room and
-/// the history of the bags don't matter.
+/// Two bags are equal if each value occurs as often in one as in the other. The stored instances, the states, the limits, the room and the history of
+/// the bags don't matter.
 impl<T: Eq + Hash + Drop, S: BuildHasher + Drop> PartialEq for HashBag<T, S> {
     ghost eq = { bag_eq T.eq };
 

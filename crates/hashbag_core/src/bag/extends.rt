@@ -1,11 +1,13 @@
 //! Bags built from the items of an iterator, and bags to which these are added.
+//!
+//! In clauses `Once`, `AsItIs`, `OkOnce`, `CloneOnce` and `CloneAsOften` say which value is inserted for an item, and how often. `RefusesOne`,
+//! `RefusesPair` and `EndsTry` say with which error an item may fail.
 ghost use Rattle.std.specs.Prelude.{◌≡◌, ◌<◌, [], OnOk, IfOk, IfErr, OnErr, IsOkAnd};
 ghost use Rattle.std.specs.Iterator.{IsFinite};
-ghost use Rattle.hashbag_core.specs.Bag.{Bag};
 ghost use Rattle.hashbag_core.specs.Occurrences.{greatest_total};
 ghost use Rattle.hashbag_core.specs.Held.{no_slots};
 ghost use Rattle.hashbag_core.specs.Extends.{Once, AsItIs, OkOnce, CloneOnce, CloneAsOften};
-ghost use Rattle.hashbag_core.specs.Inserts.{empty_bag, Inserts, InsertsAll, InsertsUpTo, RefusesOne, RefusesPair, EndsTry};
+ghost use Rattle.hashbag_core.specs.Inserts.{empty_bag, Inserts, InsertsAll, InsertsUpTo, RefusesOne, RefusesPair, EndsTry, StopsBuilding};
 ghost use Rattle.hashbag_core.specs.Inserts.{IsCloneRefused, ClonesUpTo, ClonesManyUpTo};
 
 use crate::bag::{BagError, HashBag};
@@ -40,6 +42,8 @@ impl<T: Eq + Hash + Drop, S: BuildHasher + Drop> HashBag<T, S> {
         S: Default,
         ensures empty { result.items ≡ [] }
         ensures hasher { S.is_default result.hasher }
+
+        // Neither table has slots, and none was built (`0`).
         ensures slots { result.tables ≡ no_slots 0 }
 
         // No limit is set.
@@ -70,14 +74,16 @@ impl<T: Eq + Hash + Drop, S: BuildHasher + Drop> HashBag<T, S> {
         S: Default,
         requires can { I.can_next items }
         requires ends { IsFinite (I.remaining items) }
+
+        // Each item was inserted once, in turn, into an empty bag with this state.
         ensures all { IfOk result (λ bag. InsertsAll T.eq I.next_gives Once items (empty_bag bag.hasher) bag) }
 
         // The state is the default, and no limit is set.
         ensures hasher { IfOk result (λ bag. S.is_default bag.hasher) }
         ensures limit { IfOk result (λ bag. bag.most ≡ greatest_total) }
 
-        // If it fails, an item failed in the bag that the items before it had made, which is dropped.
-        ensures refused { IfErr result (λ e. (bag : Bag T S) × InsertsUpTo T.eq I.next_gives Once (RefusesOne T.eq) items (empty_bag bag.hasher) bag e) }
+        // If it fails, an item failed in a bag that began empty, and into which the items before it were inserted. That bag is dropped.
+        ensures refused { IfErr result (StopsBuilding S T.eq I.next_gives Once (RefusesOne T.eq) items) }
     {
         let mut bag = HashBag::default_in(alloc);
         bag.extend(items)?;
@@ -106,14 +112,16 @@ impl<T: Eq + Hash + Drop, S: BuildHasher + Drop> HashBag<T, S> {
         S: Default,
         requires can { I.can_next pairs }
         requires ends { IsFinite (I.remaining pairs) }
+
+        // Each pair was inserted in turn, as often as its number says, into an empty bag with this state.
         ensures all { IfOk result (λ bag. InsertsAll T.eq I.next_gives AsItIs pairs (empty_bag bag.hasher) bag) }
 
         // The state is the default, and no limit is set.
         ensures hasher { IfOk result (λ bag. S.is_default bag.hasher) }
         ensures limit { IfOk result (λ bag. bag.most ≡ greatest_total) }
 
-        // If it fails, a pair failed in the bag that the pairs before it had made, which is dropped.
-        ensures refused { IfErr result (λ e. (bag : Bag T S) × InsertsUpTo T.eq I.next_gives AsItIs (RefusesPair T.eq) pairs (empty_bag bag.hasher) bag e) }
+        // If it fails, a pair failed in a bag that began empty, and into which the pairs before it were inserted. That bag is dropped.
+        ensures refused { IfErr result (StopsBuilding S T.eq I.next_gives AsItIs (RefusesPair T.eq) pairs) }
     {
         let mut bag = HashBag::default_in(alloc);
         bag.extend_many(pairs)?;
@@ -149,8 +157,9 @@ impl<T: Eq + Hash + Drop, S: BuildHasher + Drop> HashBag<T, S> {
         ensures hasher { IfOk result (λ bag. S.is_default bag.hasher) }
         ensures limit { IfOk result (λ bag. bag.most ≡ greatest_total) }
 
-        // If it fails, an item was that error, or failed in the bag that the values before it had made, which is dropped.
-        ensures refused { IfErr result (λ e. (bag : Bag T S) × InsertsUpTo T.eq I.next_gives OkOnce (EndsTry T.eq) items (empty_bag bag.hasher) bag e) }
+        // If it fails, an item was that error, or its value failed in a bag that began empty, and into which the values before it were inserted. That
+        // bag is dropped.
+        ensures refused { IfErr result (StopsBuilding S T.eq I.next_gives OkOnce (EndsTry T.eq) items) }
     {
         let mut bag = HashBag::default_in(alloc);
         bag.try_extend(items)?;
@@ -165,7 +174,7 @@ impl<T: Eq + Hash + Drop, S: BuildHasher + Drop> HashBag<T, S> {
     /// - `TooMany` if the total would pass the limit with an item. That is tested first.
     /// - `Memory` if an item is absent, there is no room, and an allocation fails.
     ///
-    /// The items before the one that fails stay in the bag. It is dropped, and so is the iterator with the items after it.
+    /// The items before the one that fails stay in the bag. The failed item is dropped, and so is the iterator with the items after it.
     ///
     /// # Complexity
     ///
@@ -204,7 +213,7 @@ impl<T: Eq + Hash + Drop, S: BuildHasher + Drop> HashBag<T, S> {
     /// - `Item(error)` at the first item that is `Err(error)`.
     /// - `Insertion(error)` if an insertion fails as in [`HashBag::extend`].
     ///
-    /// The values of the items before that one stay in the bag. The iterator is dropped with the items after it.
+    /// The values of the items before the failed one stay in the bag. The iterator is dropped with the items after it.
     ///
     /// # Complexity
     ///
@@ -226,7 +235,8 @@ impl<T: Eq + Hash + Drop, S: BuildHasher + Drop> HashBag<T, S> {
         requires can { I.can_next items }
         requires ends { IsFinite (I.remaining items) }
 
-        // No item was an error, and all values were inserted in turn. Or those before an item that was the error, or failed.
+        // `Ok`: no item was an error, and all values were inserted in turn. `Err`: an item was the error, or failed, and the values before it were
+        // inserted.
         ensures all { OnOk result (InsertsAll T.eq I.next_gives OkOnce items self.old self.new) }
         ensures refused { IfErr result (InsertsUpTo T.eq I.next_gives OkOnce (EndsTry T.eq) items self.old self.new) }
     {
@@ -238,7 +248,7 @@ impl<T: Eq + Hash + Drop, S: BuildHasher + Drop> HashBag<T, S> {
         Ok(())
     }
 
-    /// Inserts the value of each pair in turn, as often as its number, as [`HashBag::insert_many`] does. A pair with 0 adds nothing.
+    /// Inserts the value of each pair in turn, as often as the pair's number says, as [`HashBag::insert_many`] does. A pair with 0 adds nothing.
     ///
     /// # Errors
     ///
@@ -306,7 +316,8 @@ impl<T: Eq + Hash + Drop, S: BuildHasher + Drop> HashBag<T, S> {
         requires can { I.can_next items }
         requires ends { IsFinite (I.remaining items) }
 
-        // Clones of all items were inserted in turn, or of those before one that failed.
+        // Clones of all items were inserted in turn, or clones of those before one that failed. It failed with `Memory` only if the item's clone may
+        // fail (it isn't infallible), or if an insertion of the clone may fail.
         ensures all { OnOk result (InsertsAll T.eq I.next_gives (CloneOnce T.is_clone) items self.old self.new) }
         ensures refused { IfErr result (ClonesUpTo T.eq T.is_clone T.is_infallible I.next_gives items self.old self.new) }
     {
@@ -318,7 +329,7 @@ impl<T: Eq + Hash + Drop, S: BuildHasher + Drop> HashBag<T, S> {
         Ok(())
     }
 
-    /// Inserts a clone of the value of each pair in turn, as often as its number. A pair with 0 adds nothing, and its value isn't cloned.
+    /// Inserts a clone of the value of each pair in turn, as often as the pair's number says. A pair with 0 adds nothing, and its value isn't cloned.
     ///
     /// # Errors
     ///
@@ -360,7 +371,7 @@ impl<T: Eq + Hash + Drop, S: BuildHasher + Drop> HashBag<T, S> {
         Ok(())
     }
 
-    // Inserts the value of a result once. If that is an error, it is returned.
+    // Inserts the value of a result once. If the result is an error, returns that error.
     fn insert_result<E>(&mut self, item: Result<T, E>) -> Result<(), TryExtendError<E>>
         ensures inserted { OnOk result (IsOkAnd item (λ v. Inserts T.eq v 1 self.old self.new)) }
         ensures refused { IfErr result (EndsTry T.eq self.old item) }
@@ -375,7 +386,7 @@ impl<T: Eq + Hash + Drop, S: BuildHasher + Drop> HashBag<T, S> {
         }
     }
 
-    // Inserts occurrences of a clone, if the total can have them. It clones nothing for 0.
+    // Inserts `n` occurrences of a clone of the value, if the total stays within the limit. With `n` 0 it clones nothing.
     fn insert_clone(&mut self, value: &T, n: usize) -> Result<(), BagError>
     where
         T: Clone,

@@ -1,12 +1,12 @@
 //! Insertions by keys, for callers that have no value but a key that names it, as a text names a `String`.
 //!
-//! In the Rust crate look-ups and removals take whatever a value can be borrowed as. Here they take a `Key`, and these insertions a
-//! [`ToValue`], which builds the value only if it is absent.
+//! In the Rust crate, look-ups and removals take the borrowed form of a value. Here they take a `Key`. The insertions of this file take a
+//! [`ToValue`], from which the value is built only if it is absent.
 ghost use Rattle.std.specs.Prelude.{◌≡◌, ◌+◌, ◌<◌, ◌≤◌, ◌↔◌, length, IsOk, IfOk, IfErr, OnOk, OnErr};
 ghost use Rattle.std.specs.Iterator.{IsFinite};
-ghost use Rattle.hashbag_core.specs.Bag.{Bag};
-ghost use Rattle.hashbag_core.specs.Inserts.{empty_bag, InsertsAll, InsertsUpTo};
-ghost use Rattle.hashbag_core.specs.Keys.{RefusesNamed, InsertsNamed, NamedOnce, RefusesKey};
+ghost use Rattle.hashbag_core.specs.Bag.{IsNamedIn};
+ghost use Rattle.hashbag_core.specs.Inserts.{empty_bag, InsertsAll, StopsBuilding};
+ghost use Rattle.hashbag_core.specs.Keys.{RefusesNamed, InsertsNamed, NamedOnce, RefusesKey, KeysUpTo};
 ghost use Rattle.hashbag_core.specs.Occurrences.{count_named, greatest_total};
 
 use crate::bag::{BagError, HashBag};
@@ -42,7 +42,7 @@ impl<T: Eq + Hash + Drop, S: BuildHasher + Drop> HashBag<T, S> {
     pub fn insert_key<Q: ToValue<T>>(&mut self, key: Q) -> Result<usize, BagError>
         ensures before { IfOk result (λ before. before ≡ count_named (Q.names key) self.old.items) }
 
-        // What the key names has one occurrence more, other values as many as before.
+        // The value that the key names has one occurrence more; other values have as many as before.
         ensures inserted { OnOk result (InsertsNamed T.eq (Q.names key) 1 self.old self.new) }
         ensures len { OnOk result (length self.new.items ≡ length self.old.items + 1) }
 
@@ -52,7 +52,7 @@ impl<T: Eq + Hash + Drop, S: BuildHasher + Drop> HashBag<T, S> {
         ensures err { OnErr result (self.new ≡ self.old) }
 
         // If the total fits and the value is present, it succeeds.
-        ensures present { length self.old.items + 1 ≤ self.old.most → 0 < count_named (Q.names key) self.old.items → IsOk result }
+        ensures present { length self.old.items + 1 ≤ self.old.most → IsNamedIn (Q.names key) self.old → IsOk result }
     {
         self.insert_many_key(key, 1)
     }
@@ -86,7 +86,7 @@ impl<T: Eq + Hash + Drop, S: BuildHasher + Drop> HashBag<T, S> {
     pub fn insert_many_key<Q: ToValue<T>>(&mut self, key: Q, n: usize) -> Result<usize, BagError>
         ensures before { IfOk result (λ before. before ≡ count_named (Q.names key) self.old.items) }
 
-        // What the key names has `n` occurrences more, other values as many as before.
+        // The value that the key names has `n` occurrences more; other values have as many as before.
         ensures inserted { 0 < n → OnOk result (InsertsNamed T.eq (Q.names key) n self.old self.new) }
         ensures none { n ≡ 0 → IsOk result × (self.new ≡ self.old) }
         ensures len { OnOk result (length self.new.items ≡ length self.old.items + n) }
@@ -97,7 +97,7 @@ impl<T: Eq + Hash + Drop, S: BuildHasher + Drop> HashBag<T, S> {
         ensures err { OnErr result (self.new ≡ self.old) }
 
         // If the total fits and the value is present, it succeeds.
-        ensures present { length self.old.items + n ≤ self.old.most → 0 < count_named (Q.names key) self.old.items → IsOk result }
+        ensures present { length self.old.items + n ≤ self.old.most → IsNamedIn (Q.names key) self.old → IsOk result }
     {
         if n > self.most - self.len {
             return Err(BagError::TooMany);
@@ -140,7 +140,7 @@ impl<T: Eq + Hash + Drop, S: BuildHasher + Drop> HashBag<T, S> {
 
         // Values of all keys were inserted in turn, or of those before one that failed.
         ensures all { OnOk result (InsertsAll T.eq I.next_gives (NamedOnce Q.names) keys self.old self.new) }
-        ensures refused { IfErr result (InsertsUpTo T.eq I.next_gives (NamedOnce Q.names) (RefusesKey Q.names) keys self.old self.new) }
+        ensures refused { IfErr result (KeysUpTo T.eq Q.names I.next_gives keys self.old self.new) }
     {
         // Only for the proof: it uses the clause `bag` of `len`.
         let _len = self.len();
@@ -178,8 +178,8 @@ impl<T: Eq + Hash + Drop, S: BuildHasher + Drop> HashBag<T, S> {
         ensures hasher { IfOk result (λ bag. S.is_default bag.hasher) }
         ensures limit { IfOk result (λ bag. bag.most ≡ greatest_total) }
 
-        // If it fails, a key failed, after values of those before it were inserted into some bag.
-        ensures refused { IfErr result (λ e. (bag : Bag T S) × InsertsUpTo T.eq I.next_gives (NamedOnce Q.names) (RefusesKey Q.names) keys (empty_bag bag.hasher) bag e) }
+        // If it fails, a key failed in a bag that began empty, and into which the values of the keys before it were inserted. That bag is dropped.
+        ensures refused { IfErr result (StopsBuilding S T.eq I.next_gives (NamedOnce Q.names) (RefusesKey Q.names) keys) }
     {
         let mut bag = HashBag::default_in(alloc);
         bag.extend_keys(keys)?;

@@ -25,7 +25,11 @@ impl<T: Eq + Hash + Drop> HashBag<T, FixedState> {
     /// ```
     pub fn new(alloc: Global) -> HashBag<T, FixedState>
         ensures empty { result.items ≡ [] }
+
+        // The hash state is one that `FixedState::default()` may return: `⟦<FixedState as Default>⟧` is that impl.
         ensures hasher { ⟦<FixedState as Default>⟧.is_default result.hasher }
+
+        // Neither table has slots, and none was built (`0`).
         ensures slots { result.tables ≡ no_slots 0 }
 
         // No limit is set.
@@ -56,13 +60,19 @@ impl<T: Eq + Hash + Drop> HashBag<T, FixedState> {
     /// ```
     pub fn with_capacity(alloc: Global, n: usize) -> Result<HashBag<T, FixedState>, BagError>
         ensures empty { IfOk result (λ bag. bag.items ≡ []) }
+
+        // The hash state is one that `FixedState::default()` may return: `⟦<FixedState as Default>⟧` is that impl.
         ensures hasher { IfOk result (λ bag. ⟦<FixedState as Default>⟧.is_default bag.hasher) }
+
+        // When it fails, as under `# Errors`. `MOST_VALUES` is 3 * 2^57.
         ensures none { n ≡ 0 → IsOk result }
         ensures beyond { MOST_VALUES < n → result ≡ Err BagError.Memory }
         ensures memory { IfErr result (λ e. e ≡ BagError.Memory) }
 
-        // Nothing waits in an older table, and no other one was built.
+        // The newer table has the least number of slots that gives room for `n` values. The `0` sets no lower bound.
         ensures least { IfOk result (λ bag. IsLeast 0 n (length bag.tables.newer)) }
+
+        // It is the only table: no slot of an older one waits, room is its own, and no other was built.
         ensures packed { IfOk result (λ bag. IsPacked bag.tables) }
         ensures room { IfOk result (λ bag. n ≤ room bag.tables) }
         ensures built { IfOk result (λ bag. bag.tables.built ≡ length bag.tables.newer) }
@@ -89,6 +99,8 @@ impl<T: Eq + Hash + Drop, S: BuildHasher + Drop> HashBag<T, S> {
     pub fn with_hasher(alloc: Global, hasher: S) -> HashBag<T, S>
         ensures empty { result.items ≡ [] }
         ensures hasher { result.hasher ≡ hasher }
+
+        // Neither table has slots, and none was built (`0`).
         ensures slots { result.tables ≡ no_slots 0 }
 
         // No limit is set.
@@ -110,6 +122,8 @@ impl<T: Eq + Hash + Drop, S: BuildHasher + Drop> HashBag<T, S> {
     pub fn with_limit(alloc: Global, hasher: S, most: usize) -> HashBag<T, S>
         ensures empty { result.items ≡ [] }
         ensures hasher { result.hasher ≡ hasher }
+
+        // Neither table has slots, and none was built (`0`).
         ensures slots { result.tables ≡ no_slots 0 }
         ensures limit { result.most ≡ most }
     {
@@ -147,12 +161,16 @@ impl<T: Eq + Hash + Drop, S: BuildHasher + Drop> HashBag<T, S> {
     ) -> Result<HashBag<T, S>, BagError>
         ensures empty { IfOk result (λ bag. bag.items ≡ []) }
         ensures hasher { IfOk result (λ bag. bag.hasher ≡ hasher) }
+
+        // When it fails, as under `# Errors`. `MOST_VALUES` is 3 * 2^57.
         ensures none { n ≡ 0 → IsOk result }
         ensures beyond { MOST_VALUES < n → result ≡ Err BagError.Memory }
         ensures memory { IfErr result (λ e. e ≡ BagError.Memory) }
 
-        // Nothing waits in an older table, and no other one was built.
+        // The newer table has the least number of slots that gives room for `n` values. The `0` sets no lower bound.
         ensures least { IfOk result (λ bag. IsLeast 0 n (length bag.tables.newer)) }
+
+        // It is the only table: no slot of an older one waits, room is its own, and no other was built.
         ensures packed { IfOk result (λ bag. IsPacked bag.tables) }
         ensures room { IfOk result (λ bag. n ≤ room bag.tables) }
         ensures built { IfOk result (λ bag. bag.tables.built ≡ length bag.tables.newer) }
@@ -168,7 +186,7 @@ impl<T: Eq + Hash + Drop, S: BuildHasher + Drop> HashBag<T, S> {
         })
     }
 
-    /// Returns a bag with clones of all stored instances, each with its count here, under a clone of the state. It has this bag's limit.
+    /// Returns a bag with a clone of each stored instance, with the same counts and the same limit, under a clone of the state.
     ///
     /// The caller ensures that clones of the values equal them.
     ///
@@ -196,7 +214,7 @@ impl<T: Eq + Hash + Drop, S: BuildHasher + Drop> HashBag<T, S> {
         S: Clone,
         requires equal { All (λ x. (y : _) → T.is_clone x y → T.eq x y ≡ true) self.now.items }
 
-        // The new bag has a clone of each occurrence, so each value as often, and the same total.
+        // The new bag has a clone of each occurrence. So each value occurs as often as in this bag, and the total is the same.
         ensures clones { IfOk result (λ bag. HasClones T.is_clone self.now.items bag.items) }
         ensures counts { IfOk result (λ bag. SameCounts T.eq self.now.items bag.items) }
         ensures len { IfOk result (λ bag. length bag.items ≡ length self.now.items) }
@@ -204,7 +222,7 @@ impl<T: Eq + Hash + Drop, S: BuildHasher + Drop> HashBag<T, S> {
         ensures limit { IfOk result (λ bag. bag.most ≡ self.now.most) }
         ensures memory { IfErr result (λ e. e ≡ BagError.Memory) }
 
-        // Its table is the least with room for the values. Nothing waits in an older one, and no other was built.
+        // The new bag has one table, the least with room for the values. No slot of an older one waits, and no other table was built.
         ensures least { IfOk result (λ bag. NeedsSlots T.eq self.now (length bag.tables.newer)) }
         ensures packed { IfOk result (λ bag. IsPacked bag.tables) }
         ensures built { IfOk result (λ bag. bag.tables.built ≡ length bag.tables.newer) }

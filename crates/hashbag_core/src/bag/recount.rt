@@ -3,7 +3,7 @@ ghost use Rattle.std.specs.Prelude.{◌≡◌, ◌+◌, ◌-◌, ◌<◌, ◌≤
 ghost use Rattle.std.specs.List.Sorted.{IsPermutation};
 ghost use Rattle.hashbag_table.specs.Entries.{count_of, IsCounted};
 ghost use Rattle.hashbag_table.specs.Tables.{room, KeepsRoom};
-ghost use Rattle.hashbag_core.specs.Bag.{occurrences};
+ghost use Rattle.hashbag_core.specs.Bag.{occurrences, IsPresent, total_recounted};
 ghost use Rattle.hashbag_core.specs.Occurrences.{count, recount};
 ghost use Rattle.hashbag_core.specs.Inserts.{Inserts, IsRefused};
 ghost use Rattle.hashbag_core.specs.Held.{Recounts};
@@ -36,8 +36,8 @@ fn set_or_remove<T: Eq + Hash + Drop, S: BuildHasher + Drop>(
 impl<T: Eq + Hash + Drop, S: BuildHasher + Drop> HashBag<T, S> {
     ghost use Rattle.hashbag_core.specs.Bag.{IsBagOf};
 
-    /// Sets the count of a value to `n`, and returns the count before. A present value keeps its stored instance, and the given one is
-    /// dropped; an absent one is inserted. With 0 the value is removed.
+    /// Sets the count of a value to `n`, and returns the count before. A present value keeps its stored instance, and the given one is dropped. An
+    /// absent value is inserted. With 0 the value is removed.
     ///
     /// # Errors
     ///
@@ -65,20 +65,20 @@ impl<T: Eq + Hash + Drop, S: BuildHasher + Drop> HashBag<T, S> {
         ensures before { IfOk result (λ before. before ≡ count T.eq value self.old.items) }
         ensures set { OnOk result (IsBagOf T.eq self.old (recount T.eq value n self.old.items) self.new) }
 
-        // An absent value was inserted `n` times. Of a present one only the slot changed, and room isn't lower.
+        // If the value was absent, it was inserted `n` times. If it was present, only its slot changed, and room isn't lower.
         ensures inserted { OnOk result (count T.eq value self.old.items ≡ 0 → Inserts T.eq value n self.old self.new) }
-        ensures slot { OnOk result (0 < count T.eq value self.old.items → Recounts T.eq value n self.old.tables self.new.tables) }
-        ensures room { OnOk result (0 < count T.eq value self.old.items → KeepsRoom 0 self.old.tables self.new.tables) }
+        ensures slot { OnOk result (IsPresent T.eq value self.old → Recounts T.eq value n self.old.tables self.new.tables) }
+        ensures room { OnOk result (IsPresent T.eq value self.old → KeepsRoom 0 self.old.tables self.new.tables) }
         ensures len { OnOk result (length self.new.items + count T.eq value self.old.items ≡ length self.old.items + n) }
 
         // When it fails, as under `# Errors`.
-        ensures too_many { (result ≡ Err BagError.TooMany) ↔ (self.old.most < length self.old.items - count T.eq value self.old.items + n) }
+        ensures too_many { (result ≡ Err BagError.TooMany) ↔ (self.old.most < total_recounted T.eq value n self.old) }
         ensures refused { IfErr result (IsRefused T.eq self.old value n) }
         ensures err { OnErr result (self.new ≡ self.old) }
 
         // If the new total fits, it succeeds if there is room or the value is present, or `n` is 0.
-        ensures takes { length self.old.items - count T.eq value self.old.items + n ≤ self.old.most → 0 < room self.old.tables → IsOk result }
-        ensures present { length self.old.items - count T.eq value self.old.items + n ≤ self.old.most → 0 < count T.eq value self.old.items → IsOk result }
+        ensures takes { total_recounted T.eq value n self.old ≤ self.old.most → 0 < room self.old.tables → IsOk result }
+        ensures present { total_recounted T.eq value n self.old ≤ self.old.most → IsPresent T.eq value self.old → IsOk result }
         ensures none { n ≡ 0 → IsOk result }
     {
         let before = self.contains(&value);

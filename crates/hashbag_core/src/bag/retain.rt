@@ -40,8 +40,8 @@ impl<T: Eq + Hash + Drop, S: BuildHasher + Drop> HashBag<T, S> {
         self.len = 0;
     }
 
-    /// Calls `f` once for each distinct value, with its count, in no particular order, and keeps of the value the lesser of its count and
-    /// what `f` returns. If that is 0 the value is removed, and its stored instance is dropped.
+    /// Lowers the count of each distinct value to what `f` returns for it, if that is less. If `f` returns 0, the value is removed, and its stored
+    /// instance is dropped. `f` is called once for each distinct value, with its count, in no particular order.
     ///
     /// # Complexity
     ///

@@ -1,8 +1,8 @@
 //! Spare slots of a bag: allocated ahead, and taken into use later.
 ghost use Rattle.std.specs.Prelude.{◌≡◌, ◌+◌, ◌-◌, ◌<◌, ◌≤◌, length, IfOk, IfErr};
-ghost use Rattle.hashbag_table.specs.Tables.{most_used, room, IsLeast, IsPacked};
+ghost use Rattle.hashbag_table.specs.Tables.{most_used, room, IsPacked};
 ghost use Rattle.hashbag_core.specs.Occurrences.{distinct_count};
-ghost use Rattle.hashbag_core.specs.Held.{BuildsSlots};
+ghost use Rattle.hashbag_core.specs.Held.{BuildsSlots, IsSpareFor};
 ghost use Rattle.hashbag_table.specs.declared.table.TheConstants.{MOST_VALUES};
 ghost use Rattle.hashbag_core.specs.declared.bag.BagError.TheVariants.{Memory};
 
@@ -15,8 +15,8 @@ impl<T: Eq + Hash + Drop, S: BuildHasher + Drop> HashBag<T, S> {
 
     /// Allocates the slots that [`HashBag::reserve`] would build for `n` more distinct values, and leaves them unused.
     ///
-    /// They are the least table, not smaller than the newer one, that has room for the present values and `n` more. A caller that needs
-    /// them later calls [`HashBag::use_spare`], which can't fail. One that doesn't drops them.
+    /// They are the least table, not smaller than the newer one, that has room for the present values and `n` more. A caller that needs the slots
+    /// later calls [`HashBag::use_spare`], which can't fail. A caller that doesn't need them drops them.
     ///
     /// # Errors
     ///
@@ -33,7 +33,8 @@ impl<T: Eq + Hash + Drop, S: BuildHasher + Drop> HashBag<T, S> {
     /// Ok(())
     /// ```
     pub fn spare(&self, n: usize) -> Result<Spare<T>, BagError>
-        ensures least { IfOk result (λ slots. IsLeast (length self.now.tables.newer) (distinct_count T.eq self.now.items + n) slots) }
+        // In clauses a spare is the number of its slots.
+        ensures least { IfOk result (λ slots. IsSpareFor T.eq n self.now slots) }
         ensures beyond { MOST_VALUES < distinct_count T.eq self.now.items + n → result ≡ Err BagError.Memory }
         ensures memory { IfErr result (λ e. e ≡ BagError.Memory) }
     {
@@ -43,7 +44,7 @@ impl<T: Eq + Hash + Drop, S: BuildHasher + Drop> HashBag<T, S> {
 
     /// Moves all values into spare slots. The slots that the bag had are freed, and the occurrences stay.
     ///
-    /// The caller ensures that the distinct values have room in them. A spare from `HashBag::spare(n)` has that room until more than `n`
+    /// The caller ensures that the distinct values have room in the spare slots. A spare from `HashBag::spare(n)` has that room until more than `n`
     /// absent values are inserted.
     ///
     /// # Complexity
@@ -61,12 +62,13 @@ impl<T: Eq + Hash + Drop, S: BuildHasher + Drop> HashBag<T, S> {
     /// Ok(())
     /// ```
     pub fn use_spare(&mut self, spare: Spare<T>)
-        // In clauses a spare is the number of its slots.
         requires enough { distinct_count T.eq self.old.items ≤ most_used spare }
+
+        // The bag means the list that it meant before, and its hash state and limit are unchanged.
         ensures items { IsBagOf T.eq self.old self.old.items self.new }
         ensures len { length self.new.items ≡ length self.old.items }
 
-        // The spare is the only table, so nothing waits. Room is `most_used` of it less the distinct values, and its slots count as built.
+        // The spare is the only table, so no slot waits. Room is `most_used` of the spare less the distinct values, and its slots count as built.
         ensures slots { length self.new.tables.newer ≡ spare }
         ensures room { room self.new.tables ≡ most_used spare - distinct_count T.eq self.old.items }
         ensures packed { IsPacked self.new.tables }

@@ -1,8 +1,8 @@
 //! How occurrences are removed from a bag: one, some, or all of a value.
 ghost use Rattle.std.specs.Borrow.{sem};
-ghost use Rattle.std.specs.Prelude.{◌≡◌, ◌≢◌, ◌+◌, ◌-◌, length, min, IfOk, IfErr, IsErrAnd, MatchOption, MatchResult};
-ghost use Rattle.hashbag_core.specs.Bag.{IsShorterBy, Lends};
-ghost use Rattle.hashbag_core.specs.Occurrences.{count_named, counted_named, stored_named, IsBag};
+ghost use Rattle.std.specs.Prelude.{◌≡◌, ◌≢◌, ◌+◌, ◌-◌, length, min, IfOk, IfErr, IsErrAnd};
+ghost use Rattle.hashbag_core.specs.Bag.{IsShorterBy, IsShorterByTaken, IsShorterByAll, LendsCounted, LendsNotOne};
+ghost use Rattle.hashbag_core.specs.Occurrences.{count_named, stored_named, IsBag};
 ghost use Rattle.hashbag_core.specs.Held.{HasFewer};
 
 use crate::bag::HashBag;
@@ -15,7 +15,7 @@ impl<T: Eq + Hash + Drop, S: BuildHasher + Drop> HashBag<T, S> {
     /// Removes one occurrence of a value, if there is one, and returns the count before. With the last occurrence the stored instance is
     /// dropped.
     ///
-    /// The value is given as itself, lent, or as a key that names it: `bag.remove(&value)`, `words.remove("the")`.
+    /// The value is given as a reference, or as a key that names it: `bag.remove(&value)`, `words.remove("the")`.
     ///
     /// # Complexity
     ///
@@ -85,8 +85,8 @@ impl<T: Eq + Hash + Drop, S: BuildHasher + Drop> HashBag<T, S> {
     /// Removes one occurrence of a value. If it was the last one, returns the stored instance in `Ok`. Else it returns in `Err` the stored
     /// instance, which stays in the bag, with the count before, or `Err(None)` if the value is absent.
     ///
-    /// A caller's proof learns only what was removed; from [`HashBag::take_one`] it also learns what the bag then is. That call lends
-    /// nothing, so it can be made in a loop.
+    /// A caller's proof learns only what was removed; from [`HashBag::take_one`] it also learns what the bag then is. `take_one` lends nothing, so it
+    /// can be called in a loop.
     ///
     /// # Complexity
     ///
@@ -106,7 +106,7 @@ impl<T: Eq + Hash + Drop, S: BuildHasher + Drop> HashBag<T, S> {
         // Once the loan is over, one occurrence of the value is gone, if there was one.
         ensures* left { sem 𝓛 (ends_taking T.row S.row S.Hasher.row T.Hash S.BuildHasher S.Hasher.Hasher self.entry (Q.names key)) }
         ensures last { IfOk result (λ instance. stored_named (Q.names key) self.old.items ≡ Some (instance, 1)) }
-        ensures others { IfErr result (λ found. Lends found (stored_named (Q.names key) self.old.items) × (count_named (Q.names key) self.old.items ≢ 1)) }
+        ensures others { IfErr result (LendsNotOne (Q.names key) self.old.items) }
     {
         HashBag::taken_or_lent(self.take_one(key), self, key)
     }
@@ -119,7 +119,7 @@ impl<T: Eq + Hash + Drop, S: BuildHasher + Drop> HashBag<T, S> {
     ) -> Result<T, Option<(&'a T, usize)>>
         ensures last { IfOk taken (λ instance. result ≡ Ok instance) }
         ensures absent { IfErr taken (λ before. before ≡ 0 → result ≡ Err None) }
-        ensures others { IfErr taken (λ before. before ≢ 0 → IsErrAnd result (λ found. Lends found (counted_named (Q.names key) before bag.now.items))) }
+        ensures others { IfErr taken (λ n. n ≢ 0 → IsErrAnd result (LendsCounted (Q.names key) n bag.now.items)) }
     {
         match taken {
             Ok(instance) => Ok(instance),
@@ -155,7 +155,7 @@ impl<T: Eq + Hash + Drop, S: BuildHasher + Drop> HashBag<T, S> {
         ensures fewer { HasFewer T.eq (Q.names key) 1 self.old self.new }
 
         // The total is lower by what was removed.
-        ensures len { MatchResult result (λ _. IsShorterBy 1 self.old self.new) (λ before. IsShorterBy (min before 1) self.old self.new) }
+        ensures len { IsShorterByTaken result self.old self.new }
         ensures last { IfOk result (λ instance. stored_named (Q.names key) self.old.items ≡ Some (instance, 1)) }
         ensures others { IfErr result (λ before. (before ≡ count_named (Q.names key) self.old.items) × (before ≢ 1)) }
 
@@ -196,7 +196,7 @@ impl<T: Eq + Hash + Drop, S: BuildHasher + Drop> HashBag<T, S> {
         ensures fewer { HasFewer T.eq (Q.names key) (count_named (Q.names key) self.old.items) self.old self.new }
 
         // The total is lower by the returned count.
-        ensures len { MatchOption result (length self.new.items ≡ length self.old.items) (λ taken. IsShorterBy taken.1 self.old self.new) }
+        ensures len { IsShorterByAll result self.old self.new }
     {
         let (instance, count) = self.table.remove(key)?;
         self.len -= count;

@@ -43,7 +43,7 @@ fn tree_with_limit(alloc: Global, limit: usize, pairs: Value) -> Result<Value, B
 }
 
 impl<T: JsonItem + Hash + Drop, S: BuildHasher + Drop> HashBag<T, S> {
-    // Returns the distinct values with their counts, values in ascending order. Room for all of them is allocated at once.
+    // Returns the distinct values with their counts, in the ascending order of the values. Room for all of them is allocated at once.
     fn sorted_pairs(&self, alloc: Global) -> Result<Vec<(&T, usize)>, BagError>
     where
         T: Ord,
@@ -61,7 +61,7 @@ impl<T: JsonItem + Hash + Drop, S: BuildHasher + Drop> HashBag<T, S> {
         Ok(pairs)
     }
 
-    // Returns the array of pairs, items in ascending order.
+    // Returns the array of pairs, in the ascending order of their items.
     fn pairs_value(&self, alloc: Global) -> Result<Value, BagError>
     where
         T: Ord,
@@ -78,8 +78,8 @@ impl<T: JsonItem + Hash + Drop, S: BuildHasher + Drop> HashBag<T, S> {
         Ok(Value::Array(list))
     }
 
-    /// Returns the tree of the bag: an array with an array `[item, count]` for each distinct value, items in ascending order. If the limit isn't
-    /// `usize::MAX`, it is an object with two members: `limit`, and `pairs`, which is that array.
+    /// Returns the tree of the bag: an array with an array `[item, count]` for each distinct value, in the ascending order of the items. If the limit
+    /// isn't `usize::MAX`, the tree is an object with two members: `limit`, and `pairs`, which is that array.
     ///
     /// Equal bags with the same limit have equal trees, whatever their instances, states and history. The tree is read back as an equal bag
     /// with the same limit, unless an allocation fails.
@@ -104,12 +104,12 @@ impl<T: JsonItem + Hash + Drop, S: BuildHasher + Drop> HashBag<T, S> {
         ensures tree { IfOk result (λ v. IsTreeOfCounts T.eq T.cmp T.tree_of self.now.items self.now.most (view v)) }
         ensures items { OnOk result (All T.is_item self.now.items) }
 
-        // The tree has no fault. It is read as a list with the counts of the bag, with its limit.
+        // The tree has no fault. Every list of pairs as which it is read has the counts of the bag. Its limit is that of the bag.
         ensures no_fault { IfOk result (λ v. fault greatest_total T.has_item (view v) ≡ None) }
         ensures counts { IfOk result (λ v. ReadsBack T.eq T.reads self.now.items (view v)) }
         ensures limit { IfOk result (λ v. limit_of (view v) ≡ self.now.most) }
 
-        // A bag has the same counts and the same limit exactly if its tree is this one.
+        // For any other bag: it has the same counts and the same limit exactly if its tree is this one.
         ensures same { IfOk result (λ v. TellsApart T.eq T.cmp T.tree_of T.is_item self.now.items self.now.most (view v)) }
         ensures no_float { IfOk result (λ v. has_float (view v) ≡ false) }
         ensures memory { IfErr result (λ e. e ≡ BagError.Memory) }

@@ -1,8 +1,7 @@
 //! The joins of two bags, collected.
-ghost use Rattle.std.specs.Prelude.{◌≡◌, List, map, IfOk, IfErr};
-ghost use Rattle.hashbag_core.specs.Bag.{Means};
-ghost use Rattle.hashbag_core.specs.Joins.{IsOuterJoin, IsDifference, IsNotIn, IsSignedDifference};
+ghost use Rattle.std.specs.Prelude.{◌≡◌, IfOk, IfErr};
 ghost use Rattle.hashbag_core.specs.JoinsLeft.{exceeding, subtracted, unmatched};
+ghost use Rattle.hashbag_script.specs.Collected.{CollectsOuterJoin, CollectsDifference, CollectsSignedDifference, CollectsNotIn};
 
 use hashbag_core::joins::limited_difference;
 use hashbag_core::{BagError, HashBag};
@@ -90,15 +89,11 @@ pub fn joins_of<'a, T: Eq + Hash + Drop, S: BuildHasher + Drop, S2: BuildHasher 
     a: &'a HashBag<T, S>,
     b: &'a HashBag<T, S2>,
 ) -> Result<Joins<'a, T>, BagError>
-    // X and Y list the occurrences of both bags. Their order means nothing. Each returned list is that join of them.
-    ensures outer { IfOk result (λ joins. (X Y : List T) → Means a.now X → Means b.now Y
-        → IsOuterJoin T.eq X Y (map (λ j. (j.0.now, j.1, j.2)) joins.outer.items)) }
-    ensures difference { IfOk result (λ joins. (X Y : List T) → Means a.now X → Means b.now Y
-        → IsDifference T.eq X Y (map (λ e. (e.0.now, e.1)) joins.difference.items)) }
-    ensures signed { IfOk result (λ joins. (X Y : List T) → Means a.now X → Means b.now Y
-        → IsSignedDifference T.eq X Y (map (λ e. (e.0.now, e.1)) joins.signed.items)) }
-    ensures not_in { IfOk result (λ joins. (X Y : List T) → Means a.now X → Means b.now Y
-        → IsNotIn T.eq X Y (map (λ e. (e.0.now, e.1)) joins.not_in.items)) }
+    // Each returned list is that join of the two bags, whichever lists they mean.
+    ensures outer { IfOk result (λ joins. CollectsOuterJoin T.eq a.now b.now joins.outer.items) }
+    ensures difference { IfOk result (λ joins. CollectsDifference T.eq a.now b.now joins.difference.items) }
+    ensures signed { IfOk result (λ joins. CollectsSignedDifference T.eq a.now b.now joins.signed.items) }
+    ensures not_in { IfOk result (λ joins. CollectsNotIn T.eq a.now b.now joins.not_in.items) }
     ensures memory { IfErr result (λ e. e ≡ BagError.Memory) }
 {
     let outer = a.outer_join(b).collect(alloc)?;

@@ -1,6 +1,6 @@
 //! Runs of steps on two bags, one after the other.
-ghost use Rattle.std.specs.Prelude.{◌≡◌, ◌⊎◌, length, IfErr, OnOk, OnErr};
-ghost use Rattle.hashbag_script.specs.Pairs.{ran, HasNoRoom, IsDone, IsPairNotBegun, IsPairCutOff};
+ghost use Rattle.std.specs.Prelude.{◌≡◌, length, IfErr, OnOk, OnErr};
+ghost use Rattle.hashbag_script.specs.Pairs.{ran, IsDone, AreUnbegunRuns, AreStoppedRuns};
 ghost use Rattle.hashbag_script.specs.Script.{IfRoomy};
 ghost use Rattle.hashbag_script.specs.Turns.{AreTablesInTurn, IsBoundedRun};
 
@@ -13,9 +13,9 @@ use std::hash::{BuildHasher, Hash};
 ///
 /// # Errors
 ///
-/// `Memory` if an allocation fails. If the first one fails, that of the replies of both, nothing changes. Else both runs are
-/// done as [`run`] does one, and the same steps can stop them. If the first one is stopped, the second bag and its replies are
-/// unchanged. If the second one is stopped, the first run was done. So the replies show how far each run was done.
+/// `Memory` if an allocation fails. The replies are allocated first: if that fails, nothing changes. Else both runs are done as [`run`] does one, and
+/// the same steps can stop them. If the first run is stopped, the second bag and its replies are unchanged. If the second run is stopped, the first
+/// run was done. So the replies show how far each run was done.
 ///
 /// # Examples
 ///
@@ -36,8 +36,8 @@ pub fn run_pair<T: Eq + Hash + Drop, S: BuildHasher + Drop, S2: BuildHasher + Dr
     replies_a: &mut Vec<Reply<T>>,
     replies_b: &mut Vec<Reply<T>>,
 ) -> Result<(), BagError>
-    // `ran` is one run: its bag and its replies before and after. Each step replies as the list of its bag's occurrences would, and the
-    // bag then has what that list has become.
+    // `ran` is one run: its bag and its replies, before and after. Each step replies as a plain list of its bag's occurrences would. The bag then has
+    // the occurrences that the list has become.
     ensures first { OnOk result (IsDone T.eq (ran a.old a.new steps_a.items replies_a.old.items replies_a.new.items)) }
     ensures second { OnOk result (IsDone T.eq (ran b.old b.new steps_b.items replies_b.old.items replies_b.new.items)) }
     ensures first_hasher { a.new.hasher ≡ a.old.hasher }
@@ -45,20 +45,17 @@ pub fn run_pair<T: Eq + Hash + Drop, S: BuildHasher + Drop, S2: BuildHasher + Dr
 
     // Only a failed allocation stops the runs.
     ensures memory { IfErr result (λ e. e ≡ BagError.Memory) }
-    ensures stopped { OnErr result (IsPairCutOff T.eq (HasNoRoom replies_a.old steps_a ⊎ HasNoRoom replies_b.old steps_b)
-        (ran a.old a.new steps_a.items replies_a.old.items replies_a.new.items)
-        (ran b.old b.new steps_b.items replies_b.old.items replies_b.new.items)) }
+    ensures stopped { OnErr result (AreStoppedRuns T.eq a.old a.new steps_a replies_a.old replies_a.new
+        b.old b.new steps_b replies_b.old replies_b.new) }
 
-    // If the tables have room for all values that arrive, each run keeps its slots. Then only the allocation of the replies can fail, and
-    // nothing was done.
+    // If the tables have room for all values that arrive, and no step is `Reserve` or `ShrinkToFit`, each run keeps its slots. Then only the
+    // allocation of the replies can fail, before any step.
     ensures first_slots { IfRoomy T.eq a.old steps_a.items (length a.new.tables.newer ≡ length a.old.tables.newer) }
     ensures second_slots { IfRoomy T.eq b.old steps_b.items (length b.new.tables.newer ≡ length b.old.tables.newer) }
     ensures roomy { IfRoomy T.eq a.old steps_a.items (IfRoomy T.eq b.old steps_b.items (OnErr result
-        (IsPairNotBegun (HasNoRoom replies_a.old steps_a ⊎ HasNoRoom replies_b.old steps_b)
-        (ran a.old a.new steps_a.items replies_a.old.items replies_a.new.items)
-        (ran b.old b.new steps_b.items replies_b.old.items replies_b.new.items)))) }
+        (AreUnbegunRuns a.old a.new steps_a replies_a.old replies_a.new b.old b.new steps_b replies_b.old replies_b.new))) }
 
-    // The tables of each bag follow from those before, and are bounded if it was empty and had no slots, as in one run.
+    // The tables of each bag follow from the tables before, as in one run. If the bag was empty and had no slots, they are bounded.
     ensures first_tables { AreTablesInTurn T.eq (ran a.old a.new steps_a.items replies_a.old.items replies_a.new.items) }
     ensures second_tables { AreTablesInTurn T.eq (ran b.old b.new steps_b.items replies_b.old.items replies_b.new.items) }
     ensures first_bounded { IsBoundedRun T.eq (ran a.old a.new steps_a.items replies_a.old.items replies_a.new.items) }

@@ -9,12 +9,11 @@ use crate::tags::EMPTY;
 use std::alloc::{AllocError, Global};
 use std::marker::Model;
 
-/// Memory for a table of Empty slots. Its tags are written when the table is made, so one that isn't used costs no more than its
-/// allocation.
+/// Memory for a table of Empty slots. The tags are written when the table is made, so a `Blank` that isn't used costs no more than its allocation.
 ///
 /// Contracts see the number of slots.
 pub struct Blank<T> {
-    // None is there yet; their capacity is the number of slots.
+    // No tag is written yet. The capacity is the number of slots.
     tags: Vec<u8>,
     cells: Cells<(T, usize)>,
 }
@@ -44,6 +43,7 @@ impl<T: Eq> Blank<T> {
     ///
     /// `AllocError` if an allocation fails.
     pub fn with_slots(alloc: Global, n: usize) -> Result<Blank<T>, AllocError>
+        // `n` is 0, or a power of two from 16 to 2^59.
         requires { IsSlotCount n }
         ensures slots { IfOk result (λ b. b ≡ n) }
     {
@@ -55,6 +55,8 @@ impl<T: Eq> Blank<T> {
     /// Returns the number of slots.
     pub fn slots(&self) -> usize
         ensures value { result ≡ self.now }
+
+        // It is 0, or a power of two from 16 to 2^59.
         ensures count { IsSlotCount result }
     {
         self.tags.capacity()
@@ -63,6 +65,8 @@ impl<T: Eq> Blank<T> {
     /// Returns the table, whose slots are Empty. It doesn't allocate.
     pub fn into_slots(self) -> Slots<T>
         ensures slots { result.slots ≡ replicate self Slot.Empty }
+
+        // There is no value yet, so a probe finds each value under any hash.
         ensures reached { (hash : T → ℕ) → IsReached hash result }
     {
         let Blank { mut tags, cells } = self;

@@ -7,7 +7,7 @@ ghost use Rattle.hashbag_slots.specs.Columns.{IsReached, CarriesInto};
 
 use crate::group::{GROUP_WIDTH, match_live, take_lowest};
 use crate::slots::Slots;
-use crate::tags::{LEAST_MARK, MOVED};
+use crate::tags::{LEAST_LIVE, MOVED};
 use std::hash::{BuildHasher, Hash};
 
 impl<T: Eq> Slots<T> {
@@ -18,10 +18,10 @@ impl<T: Eq> Slots<T> {
         ensures live { result ≡ is_live (slot_at self.now.slots place) }
         ensures distinct { IsSet T.eq self.now.slots }
     {
-        self.tags[place] >= LEAST_MARK
+        self.tags[place] >= LEAST_LIVE
     }
 
-    // Returns a bit for each of the 16 slots from a place on, the lowest for the first: whether it is Live.
+    // Returns a mask of the 16 slots from the place `from` on: bit i is set if the slot at `from + i` is Live.
     #[inline(always)]
     fn live_among(&self, from: usize) -> u64
         requires { from + 16 ≤ length self.now.slots }
@@ -47,8 +47,8 @@ impl<T: Eq + Hash> Slots<T> {
         }
     }
 
-    // Carries what is in 16 slots of the older table, from a place on. It reads their tags at once: which of them are Live can't be predicted,
-    // so a test of each slot would cost more.
+    // Carries what is in 16 slots of the older table, from the place `from` on. It reads their tags at once. The processor can't predict which of
+    // them are Live, so a branch for each slot would cost more.
     #[inline(always)]
     fn carry_group<S: BuildHasher>(&mut self, state: &S, older: &mut Slots<T>, from: usize)
         requires within { from + 16 ≤ length older.old.slots }
@@ -60,16 +60,15 @@ impl<T: Eq + Hash> Slots<T> {
         // Only for the proof: it uses the clauses `value` and `bound` of `slots`.
         let _slots = older.slots();
         let mut ahead = older.live_among(from);
-        'fingerprints: while ahead != 0 {
+        'live: while ahead != 0 {
             let (place, rest) = take_lowest(ahead, from);
             self.carry_slot(state, older, place);
             ahead = rest;
         }
     }
 
-    /// Carries `many` slots of an older table, from the place `from` on: each Live value is placed here as by `place`, with its count, and
-    /// its slot there becomes Moved. All other slots of both tables stay as they are. No value may be Live in both tables, and all of them
-    /// must fit here.
+    /// Carries `many` slots of an older table, from the place `from` on: each Live value is placed here as by `place`, with its count, and its slot
+    /// there becomes Moved. All other slots of both tables are unchanged. No value may be Live in both tables, and the values of both must fit here.
     ///
     /// # Complexity
     ///
@@ -85,6 +84,8 @@ impl<T: Eq + Hash> Slots<T> {
         requires apart { AreApart T.eq older.old.slots self.old.slots }
         requires room { live_count self.old.slots + live_count older.old.slots ≤ length self.old.slots }
         requires reached { IsReached (hash_under T.hash_input S.BuildHasher S.Hasher.Hasher state.now) self.old }
+
+        // The slots were carried as said above. Then no value is Live in both tables. A probe finds each value here, and in `older` if it did before.
         ensures { CarriesInto T.eq (hash_under T.hash_input S.BuildHasher S.Hasher.Hasher state.now) from many self.old older.old self.new older.new }
     {
         // Only for the proof: it uses the clauses `value` and `bound` of `slots`.

@@ -1,10 +1,10 @@
-//! Look-ups by a key: by a value that is lent, or by what names it. In clauses `HoldsAt` says that the slot at a place has a value that the
-//! key names, and `IsAbsent` that none has.
+//! Look-ups by a key: by a reference to a value, or by what names a value. In clauses `HoldsAt` says that the slot at a place has a value that the
+//! key names, and `IsAbsent` that no slot has one. `IsReached`: a probe finds each value of the table by its hash.
+//! `hash_under ..` is the hash under a state.
 ghost use Rattle.std.specs.Prelude.{◌≡◌, ℕ, ◌<◌, ◌≤◌, length, false, IfSome, IfNone, Some};
-ghost use Rattle.std.specs.Map.{lookup_entry};
 ghost use Rattle.hashbag_slots.specs.FirstGroup.{IfFound, IfAbsent, IfOpen, IsUndecided};
 ghost use Rattle.hashbag_slots.specs.Hashing.{hash_under};
-ghost use Rattle.hashbag_slots.specs.Slots.{is_live, slot_at, HoldsAt, IsAbsent, IsFirstFree, entry_at, entries};
+ghost use Rattle.hashbag_slots.specs.Slots.{is_live, slot_at, HoldsAt, IsAbsent, IsFirstFree, IsPlaceOf};
 ghost use Rattle.hashbag_slots.specs.Columns.{IsReached};
 
 use crate::key::Key;
@@ -24,8 +24,8 @@ impl<T: Eq + Hash> Slots<T> {
         ensures found { IfSome result (HoldsAt (Q.names key) self.now.slots) }
         ensures absent { IfNone result (IsAbsent (Q.names key) self.now.slots) }
 
-        // The entry at the returned place, `None` without one, is that of the key among all entries.
-        ensures map { entry_at self.now.slots result ≡ lookup_entry (Q.names key) (entries self.now.slots) }
+        // The entry at the returned place is the one that the key names among all entries. `None`: there is no such entry.
+        ensures map { IsPlaceOf (Q.names key) self.now.slots result }
     {
         let hash = hash_of(state, key);
         self.find_hashed(state, hash, key)
@@ -43,12 +43,14 @@ impl<T: Eq + Hash> Slots<T> {
         requires reached { IsReached (hash_under T.hash_input S.BuildHasher S.Hasher.Hasher state.now) self.now }
         ensures found { IfSome result (HoldsAt (Q.names key) self.now.slots) }
         ensures absent { IfNone result (IsAbsent (Q.names key) self.now.slots) }
-        ensures map { entry_at self.now.slots result ≡ lookup_entry (Q.names key) (entries self.now.slots) }
+
+        // The entry at the returned place is the one that the key names among all entries. `None`: there is no such entry.
+        ensures map { IsPlaceOf (Q.names key) self.now.slots result }
     {
         find_place(self.tags.as_slice(), &self.cells, state, hash, key)
     }
 
-    /// None of the first `from` slots may be Live. Finds as [`Slots::find_hashed`] does.
+    /// Finds as [`Slots::find_hashed`] does, if none of the first `from` slots is Live.
     #[inline(always)]
     pub fn find_uncarried<S: BuildHasher, Q: Key<T>>(
         &self,
@@ -63,7 +65,9 @@ impl<T: Eq + Hash> Slots<T> {
         requires reached { IsReached (hash_under T.hash_input S.BuildHasher S.Hasher.Hasher state.now) self.now }
         ensures found { IfSome result (HoldsAt (Q.names key) self.now.slots) }
         ensures absent { IfNone result (IsAbsent (Q.names key) self.now.slots) }
-        ensures map { entry_at self.now.slots result ≡ lookup_entry (Q.names key) (entries self.now.slots) }
+
+        // The entry at the returned place is the one that the key names among all entries. `None`: there is no such entry.
+        ensures map { IsPlaceOf (Q.names key) self.now.slots result }
     {
         // If an Empty slot is between home and `from`, the value is absent.
         if is_empty_before(self.tags.as_slice(), hash, from) {
@@ -76,7 +80,7 @@ impl<T: Eq + Hash> Slots<T> {
     ///
     /// - `Found`: the place of the Live slot whose value the key names.
     /// - `Absent`: no slot has the value, and this is the first place on the path whose slot is not Live, for [`Slots::place_at`].
-    /// - `Open`: they don't decide, or the table ends before the sixteenth. [`Slots::find_hashed`] then decides.
+    /// - `Open`: the 16 slots don't decide, or the table ends before the sixteenth. [`Slots::find_hashed`] then decides.
     #[inline(always)]
     pub fn probe_first_group<S: BuildHasher, Q: Key<T>>(
         &self,
@@ -90,9 +94,11 @@ impl<T: Eq + Hash> Slots<T> {
         ensures absent { IfAbsent result (λ _. IsAbsent (Q.names key) self.now.slots) }
         ensures free { IfAbsent result (IsFirstFree hash self.now.slots) }
 
-        // No Empty slot is among the 16, nor the value; or the table ends before the sixteenth.
+        // No slot among the 16 is Empty, and none has the value; or the table ends before the sixteenth.
         ensures open { IfOpen result (IsUndecided (Q.names key) hash self.now) }
-        ensures map { IfFound result (λ p. entry_at self.now.slots (Some p) ≡ lookup_entry (Q.names key) (entries self.now.slots)) }
+
+        // `Found`: the entry at the place is the one that the key names among all entries.
+        ensures map { IfFound result (λ p. IsPlaceOf (Q.names key) self.now.slots (Some p)) }
     {
         probe_first_group(self.tags.as_slice(), &self.cells, state, hash, key)
     }

@@ -16,7 +16,7 @@ use std::alloc::AllocError;
 use std::hash::{BuildHasher, Hash};
 
 impl<T: Eq + Hash + Drop, S: BuildHasher + Drop> Table<T, S> {
-    // The slow path of `add_key`, of a value that the first group of its path didn't show.
+    // The slow path of `add_key`, if the first group of the key's path in the newer table doesn't have a value that the key names.
     #[inline(never)]
     fn add_key_slow<Q: ToValue<T>>(
         &mut self,
@@ -60,7 +60,11 @@ impl<T: Eq + Hash + Drop, S: BuildHasher + Drop> Table<T, S> {
         requires positive { 0 < n }
         requires fits { named_count (Q.names key) self.old.entries + n < 2 ^ 64 }
         ensures before { IfOk result (λ before. before ≡ named_count (Q.names key) self.old.entries) }
+
+        // `n` of some value that the key names were added. `AddsNamed` also says which slots changed.
         ensures added { OnOk result (AddsNamed T.eq (Q.names key) n self.old self.new) }
+
+        // No two values are equal, and each count is at least 1.
         ensures counted { IsCounted T.eq self.new.entries }
         ensures absent { OnErr result (named_entry (Q.names key) self.old.entries ≡ None) }
         ensures err { OnErr result (self.new ≡ self.old) }

@@ -1,7 +1,7 @@
 //! How tables are made: empty ones, with room, and clones.
 ghost use Rattle.std.specs.Prelude.{◌≡◌, ◌<◌, [], All, length, replicate, true, IfOk, IsOk, IsErr};
 ghost use Rattle.hashbag_slots.specs.Slots.{entries};
-ghost use Rattle.hashbag_table.specs.Entries.{IsCounted, HasClones};
+ghost use Rattle.hashbag_table.specs.Entries.{IsCounted, IsEntryClone, HasClones};
 ghost use Rattle.hashbag_table.specs.Tables.{IsLeast, IsPacked};
 
 use crate::built::Built;
@@ -47,9 +47,11 @@ impl<T: Eq + Hash + Drop, S: BuildHasher + Drop> Table<T, S> {
         ensures none { n ≡ 0 → IsOk result }
         ensures beyond { MOST_VALUES < n → IsErr result }
 
-        // All its slots are Empty, nothing waits in an older table, and no other was built.
+        // All slots are Empty. Their number is the least of which `n` may be Live; the `0` sets no lower bound.
         ensures fresh { IfOk result (λ table. table.tables.newer ≡ replicate (length table.tables.newer) Slot.Empty) }
         ensures least { IfOk result (λ table. IsLeast 0 n (length table.tables.newer)) }
+
+        // The table is the only one that was built, and no slot waits in an older table.
         ensures packed { IfOk result (λ table. IsPacked table.tables) }
         ensures built { IfOk result (λ table. table.tables.built ≡ length table.tables.newer) }
     {
@@ -81,11 +83,13 @@ impl<T: Eq + Hash + Drop, S: BuildHasher + Drop> Table<T, S> {
         T: Clone,
         S: Clone,
         requires equal { All (λ e. (x : _) → T.is_clone e.0 x → T.eq e.0 x ≡ true) self.now.entries }
-        ensures clones { IfOk result (λ table. HasClones (λ e c. T.is_clone e.0 c.0 × (c.1 ≡ e.1)) self.now.entries table.entries) }
+        ensures clones { IfOk result (λ table. HasClones (IsEntryClone T.is_clone) self.now.entries table.entries) }
         ensures hasher { IfOk result (λ table. S.is_clone self.now.hasher table.hasher) }
+
+        // No two values are equal, and each count is at least 1.
         ensures counted { IfOk result (λ table. IsCounted T.eq table.entries) }
 
-        // Nothing waits in an older table, and no other was built.
+        // It has the least number of slots with room for the entries (the `0` sets no lower bound). No other table was built, and no slot waits.
         ensures least { IfOk result (λ table. IsLeast 0 (length self.now.entries) (length table.tables.newer)) }
         ensures packed { IfOk result (λ table. IsPacked table.tables) }
         ensures built { IfOk result (λ table. table.tables.built ≡ length table.tables.newer) }

@@ -1,12 +1,12 @@
 //! Room: a table that grows, carries what waits, or gets other slots on request.
-ghost use Rattle.std.specs.Prelude.{◌≡◌, ◌++◌, ◌+◌, ◌-◌, ◌*◌, ◌<◌, ◌≤◌, ℕ, [], drop, length, replicate, OnOk, OnErr, IsOk, IsErr};
+ghost use Rattle.std.specs.Prelude.{◌≡◌, ◌++◌, ◌+◌, ◌-◌, ◌*◌, ◌<◌, ◌≤◌, ℕ, [], length, replicate, OnOk, OnErr, IsOk, IsErr};
 ghost use Rattle.std.specs.List.Sorted.{IsPermutation};
 ghost use Rattle.hashbag_slots.specs.Hashing.{hash_under};
 ghost use Rattle.hashbag_slots.specs.Slots.{entries};
 ghost use Rattle.hashbag_slots.specs.Columns.{IsReached};
 ghost use Rattle.hashbag_table.specs.Entries.{IsCounted};
 ghost use Rattle.hashbag_table.specs.Table.{IsMapOf};
-ghost use Rattle.hashbag_table.specs.Tables.{most_used, room, values, IsLeast, AreTables, HasLeast, IsPacked, KeepsRoom, ReservesOrStays, ShrinksOrStays, Carried, IsReady, MayAdopt};
+ghost use Rattle.hashbag_table.specs.Tables.{most_used, room, values, IfNoLarger, AreTables, HasLeast, IsPacked, KeepsRoom, ReservesOrStays, ShrinksOrStays, Carried, CarriedOn, CarriesNext, IsReady, MayAdopt};
 
 use crate::capacity::{grown_slots, least_slots, no_slots};
 use crate::table::{MOST_VALUES, Table};
@@ -18,8 +18,8 @@ use std::mem;
 // How many slots one insertion of an absent value carries.
 const CARRIED_AT_ONCE: usize = 16;
 
-// Carries the next `most` waiting slots of the older table into the newer one, or all if there are fewer, and returns how many slots of
-// the older table were carried so far. If none waits any more, the older table is freed, and that number is 0.
+// Carries the next `most` waiting slots of the older table into the newer one, or all if there are fewer. Returns how many slots of the older table
+// were carried so far. If no slot waits any more, the older table is freed, and the returned number is 0.
 //
 // It hashes each value that it carries once, and doesn't allocate. If the older table has no slots, it does nothing.
 fn carry_next<T: Eq + Hash + Drop, S: BuildHasher>(
@@ -32,18 +32,18 @@ fn carry_next<T: Eq + Hash + Drop, S: BuildHasher>(
 ) -> usize
     requires tables { AreTables T.eq (hash_under T.hash_input S.BuildHasher S.Hasher.Hasher hasher.now) newer.old older.old carried_to }
     ensures tables { AreTables T.eq (hash_under T.hash_input S.BuildHasher S.Hasher.Hasher hasher.now) newer.new older.new result }
-    ensures carried { Carried most newer.old.slots (drop carried_to older.old.slots) newer.new.slots (drop result older.new.slots) }
+    ensures carried { CarriedOn most carried_to result newer.old older.old newer.new older.new }
     ensures freed { length older.new.slots ≤ result → length older.new.slots ≡ 0 }
 {
-    let count = older.slots();
-    if count == 0 {
+    let slots = older.slots();
+    if slots == 0 {
         return 0;
     }
     // Only for the proof: it uses the contract of `slots`.
     let _slots = newer.slots();
-    let many = (count - carried_to).min(most);
+    let many = (slots - carried_to).min(most);
     newer.carry_from(hasher, older, carried_to, many);
-    if carried_to + many == count {
+    if carried_to + many == slots {
         let _freed = mem::replace(older, no_slots(alloc));
         return 0;
     }
@@ -55,7 +55,7 @@ impl<T: Eq + Hash + Drop, S: BuildHasher + Drop> Table<T, S> {
     #[inline(never)]
     fn carry(&mut self)
         requires room { 0 < room self.old.tables }
-        ensures carried { Carried 16 self.old.tables.newer self.old.tables.waiting self.new.tables.newer self.new.tables.waiting }
+        ensures carried { CarriesNext 16 self.old.tables self.new.tables }
         ensures some { 0 < room self.new.tables }
         ensures carries { length self.new.tables.waiting ≤ 16 * (room self.new.tables - 1) }
         ensures built { self.new.tables.built ≡ self.old.tables.built }
@@ -78,9 +78,14 @@ impl<T: Eq + Hash + Drop, S: BuildHasher + Drop> Table<T, S> {
     ///
     /// It hashes each waiting value once, reads the waiting slots once, frees them, and doesn't allocate.
     pub fn finish_carry(&mut self)
+        // The entries are the same, in whatever order, and so is the hash state.
         ensures entries { IsMapOf T.eq self.old self.old.entries self.new }
         ensures waiting { self.new.tables.waiting ≡ [] }
-        ensures carried { Carried (length self.old.tables.waiting) self.old.tables.newer self.old.tables.waiting self.new.tables.newer self.new.tables.waiting }
+
+        // The waiting values are in slots of the newer table that weren't Live. Its other slots are unchanged.
+        ensures carried { CarriesNext (length self.old.tables.waiting) self.old.tables self.new.tables }
+
+        // There are as many slots as before, no table was built, and room isn't lower.
         ensures room { KeepsRoom 0 self.old.tables self.new.tables }
     {
         let waiting = self.older.slots() - self.carried_to;
@@ -94,9 +99,9 @@ impl<T: Eq + Hash + Drop, S: BuildHasher + Drop> Table<T, S> {
         );
     }
 
-    // Makes `newer` the newer slots. No other method gives an existing `Table` new slots. The slots that were the newer ones wait now,
-    // except the first `many`, which are carried at once. The older ones, of which none waits, are freed. The new ones count as built. It
-    // doesn't allocate.
+    // Makes `newer` the newer table. No other method gives an existing `Table` new slots. The former newer table becomes the older one: its first
+    // `many` slots are carried at once, and its other slots wait. The former older table, of which no slot waits, is freed. The slots of `newer`
+    // count as built. It doesn't allocate.
     fn adopt(&mut self, newer: Slots<T>, many: usize)
         requires none_waits { self.old.tables.waiting ≡ [] }
         requires may { MayAdopt T.eq (hash_under T.hash_input S.BuildHasher S.Hasher.Hasher self.old.hasher) newer self.old.tables.newer many }
@@ -118,8 +123,7 @@ impl<T: Eq + Hash + Drop, S: BuildHasher + Drop> Table<T, S> {
         );
     }
 
-    // Grows, as there is no room left: makes a new table, and carries the first 16 slots into it. If an allocation fails the table is
-    // unchanged.
+    // Grows, if there is no room left: makes a new table, and carries the first 16 slots into it. If an allocation fails, the table is unchanged.
     #[inline(never)]
     fn grow(&mut self) -> Result<(), AllocError>
         requires full { room self.old.tables ≡ 0 }
@@ -128,13 +132,14 @@ impl<T: Eq + Hash + Drop, S: BuildHasher + Drop> Table<T, S> {
         ensures hasher { self.new.hasher ≡ self.old.hasher }
         ensures err { OnErr result (self.new ≡ self.old) }
     {
-        let count = grown_slots(self.newer.slots(), self.newer.live())?;
-        let newer = Slots::with_slots(self.alloc, count)?;
+        let grown = grown_slots(self.newer.slots(), self.newer.live())?;
+        let newer = Slots::with_slots(self.alloc, grown)?;
         self.adopt(newer, CARRIED_AT_ONCE);
         Ok(())
     }
 
-    // Prepares for an absent value: a growth if there is no room, and else a carry, which doesn't allocate.
+    // Prepares the tables for an absent value. Without room they grow. With room the next 16 waiting slots are carried, if there are some; this
+    // doesn't allocate.
     pub(super) fn carry_or_grow(&mut self) -> Result<(), AllocError>
         ensures ready { OnOk result (IsReady self.old.tables self.new.tables) }
         ensures takes { 0 < room self.old.tables → IsOk result }
@@ -151,8 +156,8 @@ impl<T: Eq + Hash + Drop, S: BuildHasher + Drop> Table<T, S> {
         self.grow()
     }
 
-    // Moves every value into `newer`, which is Empty and has room for all, and makes it the newer table. Frees the others. It hashes each
-    // value once, and doesn't allocate.
+    // Moves every value into `newer`, and makes it the newer table. All slots of `newer` must be Empty, with room for all values. It frees both
+    // former tables, hashes each value once, and doesn't allocate.
     pub(super) fn move_all_into(&mut self, newer: Slots<T>)
         requires empty { newer.slots ≡ replicate (length newer.slots) Slot.Empty }
         requires reached { (hash : T → ℕ) → IsReached hash newer }
@@ -183,6 +188,7 @@ impl<T: Eq + Hash + Drop, S: BuildHasher + Drop> Table<T, S> {
     /// If there is enough room, it does nothing. Else it allocates the least table of slots that has the room, and is not smaller than the
     /// newer one. Every value is moved into that table and hashed once, and the former tables are freed.
     pub fn reserve(&mut self, n: usize) -> Result<(), AllocError>
+        // The entries are the same, in whatever order, and so is the hash state.
         ensures entries { IsMapOf T.eq self.old self.old.entries self.new }
         ensures beyond { 0 < n → MOST_VALUES < length self.old.entries + n → IsErr result }
         ensures err { OnErr result (self.new ≡ self.old) }
@@ -200,13 +206,13 @@ impl<T: Eq + Hash + Drop, S: BuildHasher + Drop> Table<T, S> {
         if n > MOST_VALUES - values {
             return Err(AllocError);
         }
-        let count = least_slots(slots, values + n)?;
-        let newer = Slots::with_slots(self.alloc, count)?;
+        let least = least_slots(slots, values + n)?;
+        let newer = Slots::with_slots(self.alloc, least)?;
         self.move_all_into(newer);
         Ok(())
     }
 
-    /// Frees slots that the entries don't need. The entries stay. If there are none, no slots are left.
+    /// Frees slots that the entries don't need. The entries stay. A table without entries is left with no slots.
     ///
     /// # Errors
     ///
@@ -214,25 +220,25 @@ impl<T: Eq + Hash + Drop, S: BuildHasher + Drop> Table<T, S> {
     ///
     /// # Complexity
     ///
-    /// If the least table of slots in which the entries have room is smaller than the newer one, it is allocated. Every value is moved into
-    /// it and hashed once, and the former tables are freed. Else it does nothing. Without entries it allocates nothing.
+    /// If the least table of slots in which the entries have room is smaller than the newer one, that least table is allocated. Every value is moved
+    /// into it and hashed once, and the former tables are freed. Else the call does nothing. Without entries it allocates nothing.
     pub fn shrink_to_fit(&mut self) -> Result<(), AllocError>
+        // The entries are the same, in whatever order, and so is the hash state.
         ensures entries { IsMapOf T.eq self.old self.old.entries self.new }
         ensures err { OnErr result (self.new ≡ self.old) }
         ensures none { self.old.entries ≡ [] → IsOk result }
 
-        // What becomes of the slots, as under `# Complexity`: m is the number of slots of the least table. `built` counts all slots that were
-        // ever built: without entries none is built.
+        // What becomes of the slots, as under `# Complexity`. `freed_built`: without entries no table is built.
         ensures freed { self.old.entries ≡ [] → self.new.tables.newer ≡ [] }
         ensures freed_built { self.old.entries ≡ [] → self.new.tables.built ≡ self.old.tables.built }
         ensures shrinks { OnOk result (ShrinksOrStays (length self.old.entries) self.old.tables self.new.tables) }
-        ensures enough { (m : ℕ) → IsLeast 0 (length self.old.entries) m → length self.old.tables.newer ≤ m → IsOk result × (self.new ≡ self.old) }
+        ensures enough { IfNoLarger (length self.old.entries) self.old.tables (IsOk result × (self.new ≡ self.old)) }
     {
-        let count = least_slots(0, self.set_len())?;
-        if count >= self.newer.slots() {
+        let least = least_slots(0, self.set_len())?;
+        if least >= self.newer.slots() {
             return Ok(());
         }
-        let newer = Slots::with_slots(self.alloc, count)?;
+        let newer = Slots::with_slots(self.alloc, least)?;
         self.move_all_into(newer);
         Ok(())
     }

@@ -17,6 +17,7 @@ impl<T: Eq + Hash + Drop, S: BuildHasher + Drop> Table<T, S> {
     ///
     /// `AllocError` if the allocation fails, or if there would be more than [`MOST_VALUES`].
     pub fn spare(&self, n: usize) -> Result<Spare<T>, AllocError>
+        // In clauses a spare is the number of its slots: the least, not below that of the newer slots, of which the entries and `n` more may be Live.
         ensures least { IfOk result (λ spare. IsLeast (length self.now.tables.newer) (length self.now.entries + n) spare) }
         ensures beyond { MOST_VALUES < length self.now.entries + n → IsErr result }
     {
@@ -39,10 +40,12 @@ impl<T: Eq + Hash + Drop, S: BuildHasher + Drop> Table<T, S> {
         requires enough { length self.old.entries ≤ most_used spare }
         ensures slots { length self.new.tables.newer ≡ spare }
 
-        // Nothing waits, the spare's slots count as built, and all values are in them.
+        // The spare slots are the only table: no slot waits, all values are in the spare slots, and these count as built.
         ensures packed { IsPacked self.new.tables }
         ensures built { self.new.tables.built ≡ self.old.tables.built + spare }
         ensures values { values self.new.tables ≡ length self.old.entries }
+
+        // The entries are the same, in whatever order, and so is the hash state.
         ensures entries { IsMapOf T.eq self.old self.old.entries self.new }
     {
         let Spare { blank } = spare;

@@ -1,14 +1,14 @@
 //! Look-ups: the spot of a value in the two tables of slots, what is there, and what is changed there.
 ghost use Rattle.std.specs.Prelude.{◌≡◌, ◌+◌, ◌-◌, ◌<◌, ◌≤◌, ◌^◌, ℕ, [], ◌∷◌, true, false, length, Some, None, IfSome, IfNone, IfOk, IfErr, OnErr, IsSome, slice_set, option_map};
 ghost use Rattle.std.specs.List.Sorted.{IsPermutation};
-ghost use Rattle.std.specs.Map.{lookup_entry};
 ghost use Rattle.hashbag_slots.specs.FirstGroup.{IfFound, IfAbsent};
 ghost use Rattle.hashbag_slots.specs.Hashing.{hash_under};
-ghost use Rattle.hashbag_slots.specs.Slots.{entries, entry_at, is_live, HoldsAt, IsAbsent, IsFirstFree, recounted, holds, slot_at, count_in};
+ghost use Rattle.hashbag_slots.specs.Slots.{IsPlaceOf, is_live, HoldsAt, IsAbsent, IsFirstFree, recounted, holds, slot_at, count_in};
 ghost use Rattle.hashbag_slots.specs.Columns.{IsReached, IsAlike};
 ghost use Rattle.hashbag_table.specs.Entries.{entry_of, IsCounted};
 ghost use Rattle.hashbag_table.specs.Named.{named_entry};
-ghost use Rattle.hashbag_table.specs.Tables.{slot_in, HoldsIn, entry_in, IfEntry, Writes, Swaps};
+ghost use Rattle.hashbag_table.specs.Tables.{slot_in, HoldsIn, IfEntry, Writes, Swaps};
+ghost use Rattle.hashbag_table.specs.Table.{IsSpotOf};
 
 use crate::table::{Spot, Table};
 use hashbag_slots::key::Key;
@@ -27,7 +27,7 @@ fn store_once<T: Eq>(slots: &mut Slots<T>, place: usize, value: T) -> T
     former
 }
 
-// Returns the place of the value that a key names in the older table, of which the first `carried_to` slots were carried.
+// Returns the place in the older table of the value that a key names. The first `carried_to` slots of that table were carried.
 #[inline(always)]
 fn find_waiting<T: Eq + Hash, S: BuildHasher, Q: Key<T>>(
     older: &Slots<T>,
@@ -41,7 +41,7 @@ fn find_waiting<T: Eq + Hash, S: BuildHasher, Q: Key<T>>(
     requires hashed { hash ≡ hash_under Q.hash_input S.BuildHasher S.Hasher.Hasher state.now key }
     requires reached { IsReached (hash_under T.hash_input S.BuildHasher S.Hasher.Hasher state.now) older.now }
     ensures found { IfSome result (HoldsAt (Q.names key) older.now.slots) }
-    ensures map { entry_at older.now.slots result ≡ lookup_entry (Q.names key) (entries older.now.slots) }
+    ensures map { IsPlaceOf (Q.names key) older.now.slots result }
 {
     if older.slots() == 0 {
         return None;
@@ -66,6 +66,8 @@ impl<T: Eq + Hash + Drop, S: BuildHasher + Drop> Table<T, S> {
     #[inline(always)]
     pub fn get<Q: Key<T>>(&self, key: Q) -> Option<(&T, usize)>
         ensures found { option_map (λ e. (e.0.now, e.1)) result ≡ named_entry (Q.names key) self.now.entries }
+
+        // No two values are equal, and each count is at least 1.
         ensures counted { IsCounted T.eq self.now.entries }
     {
         let hash = self.hash(key);
@@ -78,12 +80,12 @@ impl<T: Eq + Hash + Drop, S: BuildHasher + Drop> Table<T, S> {
         }
     }
 
-    // The newer table must not have the value that a key with this hash names. Returns its spot in the older one.
+    // Returns the spot in the older table of the value that a key names. The newer table must not have the value.
     #[inline(always)]
     fn waiting_spot<Q: Key<T>>(&self, hash: u64, key: Q) -> Option<Spot>
         requires hashed { hash ≡ hash_under Q.hash_input S.BuildHasher S.Hasher.Hasher self.now.hasher key }
         requires absent { IsAbsent (Q.names key) self.now.tables.newer }
-        ensures map { entry_in self.now.tables result ≡ named_entry (Q.names key) self.now.entries }
+        ensures map { IsSpotOf (Q.names key) self.now result }
         ensures held { IfSome result (HoldsIn (Q.names key) self.now.tables) }
     {
         match find_waiting(&self.older, self.carried_to, &self.hasher, hash, key) {
@@ -92,11 +94,11 @@ impl<T: Eq + Hash + Drop, S: BuildHasher + Drop> Table<T, S> {
         }
     }
 
-    // Returns the spot of the value that a key with this hash names.
+    // Returns the spot of the value that a key names. `hash` is the key's hash.
     #[inline(always)]
     pub(super) fn spot_of<Q: Key<T>>(&self, hash: u64, key: Q) -> Option<Spot>
         requires hashed { hash ≡ hash_under Q.hash_input S.BuildHasher S.Hasher.Hasher self.now.hasher key }
-        ensures map { entry_in self.now.tables result ≡ named_entry (Q.names key) self.now.entries }
+        ensures map { IsSpotOf (Q.names key) self.now result }
         ensures held { IfSome result (HoldsIn (Q.names key) self.now.tables) }
         ensures counted { IsCounted T.eq self.now.entries }
     {
@@ -107,8 +109,8 @@ impl<T: Eq + Hash + Drop, S: BuildHasher + Drop> Table<T, S> {
         self.waiting_spot(hash, key)
     }
 
-    // Returns the spot of the value that a key names, after the first group of its path in the newer table, which showed `first`. If `first`
-    // is `Absent`, the newer table isn't probed again.
+    // Returns the spot of the value that a key names. `first` is what the first group of the key's path in the newer table showed. If `first` is
+    // `Absent`, the newer table isn't probed again.
     #[inline(always)]
     pub(super) fn spot_after_first_group<Q: Key<T>>(
         &self,
@@ -118,7 +120,7 @@ impl<T: Eq + Hash + Drop, S: BuildHasher + Drop> Table<T, S> {
     ) -> Option<Spot>
         requires hashed { hash ≡ hash_under Q.hash_input S.BuildHasher S.Hasher.Hasher self.now.hasher key }
         requires shown { IfAbsent first (λ _. IsAbsent (Q.names key) self.now.tables.newer) }
-        ensures map { entry_in self.now.tables result ≡ named_entry (Q.names key) self.now.entries }
+        ensures map { IsSpotOf (Q.names key) self.now result }
         ensures held { IfSome result (HoldsIn (Q.names key) self.now.tables) }
     {
         if let FirstGroup::Absent(_) = first {
@@ -131,7 +133,7 @@ impl<T: Eq + Hash + Drop, S: BuildHasher + Drop> Table<T, S> {
     #[inline(always)]
     pub(super) fn probe_first_group<Q: Key<T>>(&self, hash: u64, key: Q) -> FirstGroup
         requires hashed { hash ≡ hash_under Q.hash_input S.BuildHasher S.Hasher.Hasher self.now.hasher key }
-        ensures map { IfFound result (λ p. entry_in self.now.tables (Some (Spot.Newer p)) ≡ named_entry (Q.names key) self.now.entries) }
+        ensures map { IfFound result (λ p. IsSpotOf (Q.names key) self.now (Some (Spot.Newer p))) }
         ensures held { IfFound result (λ p. HoldsIn (Q.names key) self.now.tables (Spot.Newer p)) }
         ensures absent { IfAbsent result (λ _. IsAbsent (Q.names key) self.now.tables.newer) }
         ensures free { IfAbsent result (IsFirstFree hash self.now.tables.newer) }

@@ -26,8 +26,8 @@ returns-in-Ok-insert_within-clause-read g c = (
 pub returns-in_default-as_u64-clause-fault : goal.returns-in_default-as_u64-clause-fault
 returns-in_default-as_u64-clause-fault g c = search rules
 
-pub returns-in_default-as_u64-clause-may_end : goal.returns-in_default-as_u64-clause-may_end
-returns-in_default-as_u64-clause-may_end g c = λ is. absurd (cc)
+pub returns-in_default-as_u64-clause-may_run_out : goal.returns-in_default-as_u64-clause-may_run_out
+returns-in_default-as_u64-clause-may_run_out g c = λ is. absurd (cc)
 
 pub returns-in-Err-NotAnItem-clause-no_fault : goal.returns-in-Err-NotAnItem-clause-no_fault
 returns-in-Err-NotAnItem-clause-no_fault g c = tt

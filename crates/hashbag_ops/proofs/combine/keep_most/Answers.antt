@@ -4,6 +4,7 @@ use Rattle.hashbag_core.specs.EqualityLaws.{count_append}
 use Rattle.hashbag_core.specs.Occurrences.{count}
 use Rattle.hashbag_ops.specs.Unions.{IsUnion}
 use Rattle.hashbag_ops.proofs.Lengths.{same_length}
+use Rattle.hashbag_ops.proofs.combine.keep_most.Goals.{After-take_away}
 use Rattle.hashbag_ops.proofs.combine.keep_most.Goals as goal
 
 -- a union of X and Y is as long as X and what Y has more together
@@ -16,12 +17,15 @@ union_long {eq = eq} laws X Y more Z rest union =
     omega (arith, greater, surplus, parts))
     ∙ length-append X more
 
+long_union : (g : _) (c : After-take_away g) (Z : List g.row.T.Denot) → IsUnion g.T.PartialEq.eq c.args.into.now.items c.args.from.items Z → length Z ≡ length c.args.into.now.items + length c.take_away.new.bag.items
+long_union g c Z union = union_long g.met.T.Eq.laws c.args.into.now.items c.args.from.items c.take_away.new.bag.items Z c.take_away.ensures.counts union
+
 pub returns-clause-too_many : goal.returns-clause-too_many
 returns-clause-too_many g c = λ Z union.
-    let long = union_long g.met.T.Eq.laws c.args.into.now.items c.args.from.items c.take_away.new.bag.items Z c.take_away.ensures.counts union in
+    let long = long_union g (goal.at.returns-clause-too_many g c).After-take_away Z union in
     (λ is. let over = c.merge.ensures.too_many.0 is in omega (arith, long, over), λ over. c.merge.ensures.too_many.1 (omega (arith, long, over)))
 
 pub returns-clause-only_memory : goal.returns-clause-only_memory
 returns-clause-only_memory g c = λ Z union fits.
-    let long = union_long g.met.T.Eq.laws c.args.into.now.items c.args.from.items c.take_away.new.bag.items Z c.take_away.ensures.counts union in
+    let long = long_union g (goal.at.returns-clause-only_memory g c).After-take_away Z union in
     c.merge.ensures.only_memory (omega (arith, long, fits))

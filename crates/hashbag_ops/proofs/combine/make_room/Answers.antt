@@ -1,9 +1,18 @@
-use Rattle.std.proofs.Common.{◌≤◌, length, inl, inr, sym, subst, arith}
+use Rattle.std.proofs.Common.{◌≡◌, ℕ, ◌≤◌, Bool, List, length, inl, inr, sym, subst, arith}
+use Rattle.std.specs.Cmp.{IsEquivalence}
 use Rattle.std.proofs.lemmas.List.Sorted.{IsPermutation-refl}
+use Rattle.hashbag_core.specs.Bag.{Bag}
+use Rattle.hashbag_core.specs.Joins.{IsNotIn}
 use Rattle.hashbag_core.specs.JoinsLeft.{lacking}
+use Rattle.hashbag_core.specs.Walks.{IsSetWalkOf}
 use Rattle.hashbag_core.proofs.CallerLemmas.{count_kept}
 use Rattle.hashbag_core.proofs.JoinLemmas.{length_lacking, not_in_from_walk}
 use Rattle.hashbag_ops.proofs.combine.make_room.Goals as goal
+
+-- as many as each list of what is in a bag and not in Y: as many as Y lacks of a walk over the bag
+many_lacked : {T S : Type 0} {eq : T → T → Bool} (laws : IsEquivalence eq) (from : Bag T S) (Y : List T) (W : List (T × ℕ)) (k : ℕ) → IsSetWalkOf eq from W → ((M : List (T × ℕ)) → IsNotIn eq from.items Y M → k ≡ length M)
+    → k ≡ length (lacking eq Y W)
+many_lacked {eq = eq} laws from Y W k is all = all (lacking eq Y W) (not_in_from_walk laws from.items Y W (is.walk from.items (IsPermutation-refl from.items)))
 
 pub returns-then-set_len-room-clause-room : goal.returns-then-set_len-room-clause-room
 returns-then-set_len-room-clause-room g c = λ W is.
@@ -16,11 +25,8 @@ returns-clause-counts g c = λ v. count_kept g.met.T.Eq.laws c.args.into.now c.r
 
 pub returns-clause-room : goal.returns-clause-room
 returns-clause-room g c = λ W is.
-    let X = c.args.from.now.items in
-    let Y = c.args.into.now.items in
-    let many = c.lacked_by-lacked.ensures (lacking g.T.PartialEq.eq Y W) (not_in_from_walk g.met.T.Eq.laws X Y W (is.walk X (IsPermutation-refl X))) in
     let enough = c.in_ok-reserve.ensures.room in
-    omega (arith, many, enough)
+    omega (arith, enough, many_lacked g.met.T.Eq.laws c.args.from.now c.args.into.now.items W _ is c.lacked_by-lacked.ensures)
 
 pub returns-clause-slots : goal.returns-clause-slots
 returns-clause-slots g c = elim c.in_ok-reserve.ensures.reserves [
@@ -30,7 +36,5 @@ returns-clause-slots g c = elim c.in_ok-reserve.ensures.reserves [
 
 pub returns-clause-enough : goal.returns-clause-enough
 returns-clause-enough g c = λ W is enough.
-    let X = c.args.from.now.items in
-    let Y = c.args.into.now.items in
-    let many = c.lacked_by-lacked.ensures (lacking g.T.PartialEq.eq Y W) (not_in_from_walk g.met.T.Eq.laws X Y W (is.walk X (IsPermutation-refl X))) in
+    let many = many_lacked g.met.T.Eq.laws c.args.from.now c.args.into.now.items W _ is c.lacked_by-lacked.ensures in
     (c.reserve.ensures.enough (omega (arith, many, enough))).1

@@ -37,6 +37,12 @@ module _ {T : Type 0} {eq : T → T → Bool} (laws : IsEquivalence eq) (X Y : L
   all_passed v W none (inl apart) = apart
   all_passed v W none (inr there) = absurd (not_in_nil _ (Contains-same W [] _ none there.1))
 
+-- of pairs whose values all occur in X the next one does, and so do the later ones
+next_occurs : {T : Type 0} (eq : T → T → Bool) (X : List T) (W : List (T × ℕ)) (e : T × ℕ) (rest : List (T × ℕ)) → W ≡ e ∷ rest → All (λ e. 0 < count eq e.0 X) W → (0 < count eq e.0 X) × All (λ e. 0 < count eq e.0 X) rest
+next_occurs {T} eq X W e rest steps there =
+    let came = subst (λ (l : List (T × ℕ)). All (λ e. 0 < count eq e.0 X) l) steps there in
+    (All-head (λ e. 0 < count eq e.0 X) e rest came, All-tail (λ e. 0 < count eq e.0 X) e rest came)
+
 pub loop-value-init : goal.loop-value-init
 loop-value-init g c =
     let laws = g.met.T.Eq.laws in
@@ -52,8 +58,7 @@ pub returns-then-contains-gt0 : goal.returns-then-contains-gt0
 returns-then-contains-gt0 g c =
     let eq = g.T.PartialEq.eq in
     let X = c.args.walked.now.items in
-    let came = subst (λ (W : List (g.row.T.Denot × ℕ)). All (λ e. 0 < count eq e.0 X) W) c.in-Some.ensures.steps c.loop-value.invariant.there in
-    let some : 0 < count eq c.in-Some.value.now X = All-head (λ e. 0 < count eq e.0 X) _ c.next.new.self came in (
+    let some : 0 < count eq c.in-Some.value.now X = (next_occurs eq X _ _ c.next.new.self c.in-Some.ensures.steps c.loop-value.invariant.there).0 in (
       λ t. absurd (false≢true t),
       λ apart.
           let none = apart c.in-Some.value.now in
@@ -67,12 +72,11 @@ loop-value-preserved g c =
     let laws = g.met.T.Eq.laws in
     let X = c.args.walked.now.items in
     let Y = c.args.other.now.items in
-    let came = subst (λ (W : List (g.row.T.Denot × ℕ)). All (λ e. 0 < count eq e.0 X) W) c.in-Some.ensures.steps c.loop-value.invariant.there in
     let counted = c.contains.ensures.count in
     let none : count eq c.in-Some.value.now Y ≡ 0 = omega arith in
     record {
       apart = λ v. one_passed laws X Y v _ c.next.new.self none (subst (λ (W : List (g.row.T.Denot × ℕ)). Apart laws X Y v W) c.in-Some.ensures.steps (c.loop-value.invariant.apart v));
-      there = All-tail (λ e. 0 < count eq e.0 X) _ c.next.new.self came;
+      there = (next_occurs eq X _ _ c.next.new.self c.in-Some.ensures.steps c.loop-value.invariant.there).1;
     }
 
 pub returns : goal.returns

@@ -7,6 +7,7 @@ use Rattle.std.proofs.lemmas.List.Sorted.{IsPermutation-map, length_permutation}
 use Rattle.hashbag_ops.specs.Order.{counted_pair, comes_first}
 use Rattle.hashbag_ops.proofs.MostCommonFirst.{every_map, first_push, first_skip, first_swap, after_last}
 use Rattle.hashbag_ops.proofs.Ranked.{rank_weak}
+use Rattle.hashbag_ops.proofs.order.offer.Goals.{Else-len-k, In-Some}
 use Rattle.hashbag_ops.proofs.order.offer.Goals as goal
 
 every_of_none : {X : Type 0} (P : X → Type 0) (xs : List X) → length xs ≡ 0 → AllByRecursion P xs
@@ -25,12 +26,19 @@ returns-then-len-k-clause-first g c = λ P h.
     let room : length (map counted_pair items) < c.args.k = omega (arith, length-map items counted_pair, c.args.heap.now.data.ok.0, c.len.ensures, c.if-len-k.true) in
     first_push c.args.k P (map counted_pair items) (map counted_pair (heap_items c.push.new.self)) (counted_pair c.args.pair) h room (IsPermutation-map counted_pair (c.args.pair ∷ items) (heap_items c.push.new.self) c.in_ok-push.ensures.permutation)
 
+is_full : (g : _) (c : Else-len-k g) → c.args.k ≤ length (map counted_pair (heap_items c.args.heap.now))
+is_full g c = omega (arith, length-map (heap_items c.args.heap.now) counted_pair, c.args.heap.now.data.ok.0, c.len.ensures, c.if-len-k.false)
+
+-- none of the heap's pairs comes after its last
+none_after : (g : _) (c : In-Some g) → AllByRecursion (λ y. comes_first g.T.Ord.cmp (counted_pair c.in-Some.last.now) y ≡ false) (map counted_pair (heap_items c.args.heap.now))
+none_after g c = every_map counted_pair (λ y. comes_first g.T.Ord.cmp (counted_pair c.in-Some.last.now) y ≡ false) (heap_items c.args.heap.now) (c.in-Some.ensures.greatest c.requires)
+
 pub returns-in_default-clause-first : goal.returns-in_default-clause-first
 returns-in_default-clause-first g c = λ P h.
     let items = heap_items c.args.heap.now in
     let nothing : 0 < heap_len c.args.heap.now → ⊥ = λ some. false≢true (c.in_default.ensures.variant.1 some) in
     let none : length (map counted_pair items) ≡ 0 = omega (arith, length-map items counted_pair, c.args.heap.now.data.ok.0, nothing) in
-    let full : c.args.k ≤ length (map counted_pair items) = omega (arith, length-map items counted_pair, c.args.heap.now.data.ok.0, c.len.ensures, c.if-len-k.false) in
+    let full = is_full g (goal.at.returns-in_default-clause-first g c).Else-len-k in
     first_skip c.args.k P (map counted_pair items) (counted_pair c.args.pair) h full (every_of_none _ (map counted_pair items) none)
 
 pub returns-then-not-is_lt-clause-first : goal.returns-then-not-is_lt-clause-first
@@ -39,8 +47,8 @@ returns-then-not-is_lt-clause-first g c = λ P h.
     let lt = comes_first g.T.Ord.cmp in
     let last = c.in-Some.last.now in
     let x = counted_pair c.args.pair in
-    let full : c.args.k ≤ length (map counted_pair items) = omega (arith, length-map items counted_pair, c.args.heap.now.data.ok.0, c.len.ensures, c.if-len-k.false) in
-    let bound = every_map counted_pair (λ y. lt (counted_pair last) y ≡ false) items (c.in-Some.ensures.greatest c.requires) in
+    let full = is_full g (goal.at.returns-then-not-is_lt-clause-first g c).Else-len-k in
+    let bound = none_after g (goal.at.returns-then-not-is_lt-clause-first g c).In-Some in
     let answer : c.is_lt.result ≡ false = search rules in
     let late : lt x (counted_pair last) ≡ false = sym (c.is_lt.ensures ∙ ap is_lt c.cmp.ensures) ∙ answer in
     first_skip c.args.k P (map counted_pair items) x h full (after_last (rank_weak g.met.T.Ord.total (λ p. p)) x (counted_pair last) (map counted_pair items) late bound)
@@ -52,8 +60,8 @@ returns-clause-first g c = λ P h.
     let lt = comes_first g.T.Ord.cmp in
     let last = c.in-Some.last.now in
     let x = counted_pair c.args.pair in
-    let full : c.args.k ≤ length (map counted_pair items) = omega (arith, length-map items counted_pair, c.args.heap.now.data.ok.0, c.len.ensures, c.if-len-k.false) in
-    let bound = every_map counted_pair (λ y. lt (counted_pair last) y ≡ false) items (c.in-Some.ensures.greatest c.requires) in
+    let full = is_full g (goal.at.returns-clause-first g c).Else-len-k in
+    let bound = none_after g (goal.at.returns-clause-first g c).In-Some in
     let answer : c.is_lt.result ≡ true = search rules in
     let early : lt x (counted_pair last) ≡ true = sym (c.is_lt.ensures ∙ ap is_lt c.cmp.ensures) ∙ answer in
     let out : IsPermutation items (last ∷ left) = popped items left last c.pop.result (c.pop.ensures.variant.1 (c.in-Some.ensures.variant.0 refl)) c.pop.ensures.top c.pop.ensures.permutation c.in-Some.ensures.lookup in

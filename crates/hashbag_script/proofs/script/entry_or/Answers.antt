@@ -1,4 +1,4 @@
-use Rattle.std.proofs.Common.{◌≡◌, ℕ, Bool, List, Result, Ok, sym, subst, arith, rules}
+use Rattle.std.proofs.Common.{◌≡◌, ℕ, ◌+◌, ◌<◌, ◌≤◌, Bool, List, length, Result, Ok, sym, subst, arith, rules}
 use Rattle.std.proofs.lemmas.Bool.{false≢true}
 use Rattle.hashbag_core.specs.Occurrences.{count}
 use Rattle.hashbag_core.proofs.ExtendLemmas.{refuses_memory}
@@ -7,6 +7,7 @@ use Rattle.hashbag_script.proofs.StepLemmas.{SetsCountOf, sets_entered}
 use Rattle.hashbag_core.specs.declared.bag.BagError.{BagError}
 use Rattle.hashbag_core.specs.Bag.{Bag, IsBagOf}
 use Rattle.hashbag_script.proofs.RowLemmas.{entry_or_done}
+use Rattle.hashbag_script.proofs.script.entry_or.Goals.{In-Err-Memory}
 use Rattle.hashbag_script.proofs.script.entry_or.Goals as goal
 
 ok_is : (m n : ℕ) → (let r : Result ℕ BagError = Ok m in r) ≡ Ok n → m ≡ n
@@ -40,16 +41,19 @@ returns-in-Ok-clause-tables g c =
     sets_back c.args.value c.args.bag.now _ left (returns-in-Ok-clause-left g c) (search rules)
     (sets_entered g.met.T.Eq.laws c.args.value c.args.bag.now left c.args.quantity (λ some. (occupied some).1) (λ none. (vacant none).1))
 
+what_asks : (g : _) (c : In-Err-Memory g) → (length c.args.bag.now.items + c.args.quantity ≤ c.args.bag.now.most) × (0 < c.args.quantity) × (count g.T.PartialEq.eq c.args.value c.args.bag.now.items ≡ 0)
+what_asks g c =
+    let refused = rw (c.entry.ensures.value, c.entry.ensures.unchanged) at c.in-Err-Memory.ensures.refused in
+    refuses_memory g.met.T.Eq.laws c.args.bag.now.most c.args.bag.now.items c.args.value c.args.quantity c.in-Err-Memory.field-0 c.in-Err-Memory.field-0-is refused.why
+
 pub returns-in-Err-Memory-clause-asked : goal.returns-in-Err-Memory-clause-asked
 returns-in-Err-Memory-clause-asked g c =
-    let refused = rw (c.entry.ensures.value, c.entry.ensures.unchanged) at c.in-Err-Memory.ensures.refused in
-    let asks = refuses_memory g.met.T.Eq.laws c.args.bag.now.most c.args.bag.now.items c.args.value c.args.quantity c.in-Err-Memory.field-0 c.in-Err-Memory.field-0-is refused.why in
+    let asks = what_asks g (goal.at.returns-in-Err-Memory-clause-asked g c).In-Err-Memory in
     record { absent = asks.2; some = asks.1; fits = asks.0 }
 
 pub returns-in-Err-Memory-clause-takes : goal.returns-in-Err-Memory-clause-takes
 returns-in-Err-Memory-clause-takes g c = λ enough.
-    let refused = rw (c.entry.ensures.value, c.entry.ensures.unchanged) at c.in-Err-Memory.ensures.refused in
-    let asks = refuses_memory g.met.T.Eq.laws c.args.bag.now.most c.args.bag.now.items c.args.value c.args.quantity c.in-Err-Memory.field-0 c.in-Err-Memory.field-0-is refused.why in
+    let asks = what_asks g (goal.at.returns-in-Err-Memory-clause-takes g c).In-Err-Memory in
     let takes = rw c.entry.ensures.unchanged at c.in-Err-Memory.ensures.takes in
     let one = one_entered g.met.T.Eq.laws c.args.bag.now.most c.args.value c.args.quantity c.args.bag.now.items asks.2 asks.1 asks.0 in
     absurd (false≢true (takes asks.0 (omega (arith, one, enough))))

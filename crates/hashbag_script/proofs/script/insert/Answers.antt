@@ -1,11 +1,13 @@
-use Rattle.std.proofs.Common.{◌+◌, ◌<◌, length, subst, arith}
+use Rattle.std.proofs.Common.{◌≡◌, ◌+◌, ◌<◌, ◌≤◌, length, subst, arith}
 use Rattle.std.proofs.lemmas.Bool.{false≢true}
 use Rattle.hashbag_core.proofs.ExtendLemmas.{refuses_memory}
 use Rattle.hashbag_core.specs.declared.bag.BagError.{BagError}
 use Rattle.hashbag_core.specs.Extends.{Refuses}
+use Rattle.hashbag_core.specs.Occurrences.{count}
 use Rattle.hashbag_script.proofs.RoomLemmas.{one_inserted}
 use Rattle.hashbag_script.proofs.RowLemmas.{row_kept, insert_row-passes}
 use Rattle.hashbag_script.proofs.StepLemmas.{sets_inserted, sets_unchanged}
+use Rattle.hashbag_script.proofs.script.insert.Goals.{In-Err-Memory}
 use Rattle.hashbag_script.proofs.script.insert.Goals as goal
 
 pub returns-in-Ok-clause-tables : goal.returns-in-Ok-clause-tables
@@ -22,13 +24,16 @@ returns-in-Err-TooMany-clause-left g c =
     let passes : c.args.bag.now.most < length c.args.bag.now.items + c.args.n = subst (λ (e : BagError). Refuses g.T.PartialEq.eq c.args.bag.now.most c.args.bag.now.items c.args.value c.args.n e) c.in-Err-TooMany.field-0-is c.in-Err-TooMany.ensures.refused.why in
     row_kept g.met.T.Eq.laws _ _ c.args.bag.now c.insert_many.new.self c.len-len.ensures.bag (insert_row-passes g.met.T.Eq.laws c.args.bag.now.most c.args.value c.args.n c.args.bag.now.items passes) c.in-Err-TooMany.ensures.err
 
+what_asks : (g : _) (c : In-Err-Memory g) → (length c.args.bag.now.items + c.args.n ≤ c.args.bag.now.most) × (0 < c.args.n) × (count g.T.PartialEq.eq c.args.value c.args.bag.now.items ≡ 0)
+what_asks g c = refuses_memory g.met.T.Eq.laws c.args.bag.now.most c.args.bag.now.items c.args.value c.args.n c.in-Err-Memory.field-0 c.in-Err-Memory.field-0-is c.in-Err-Memory.ensures.refused.why
+
 pub returns-in-Err-Memory-clause-asked : goal.returns-in-Err-Memory-clause-asked
 returns-in-Err-Memory-clause-asked g c =
-    let asks = refuses_memory g.met.T.Eq.laws c.args.bag.now.most c.args.bag.now.items c.args.value c.args.n c.in-Err-Memory.field-0 c.in-Err-Memory.field-0-is c.in-Err-Memory.ensures.refused.why in
+    let asks = what_asks g (goal.at.returns-in-Err-Memory-clause-asked g c).In-Err-Memory in
     record { absent = asks.2; some = asks.1; fits = asks.0 }
 
 pub returns-in-Err-Memory-clause-takes : goal.returns-in-Err-Memory-clause-takes
 returns-in-Err-Memory-clause-takes g c = λ enough.
-    let asks = refuses_memory g.met.T.Eq.laws c.args.bag.now.most c.args.bag.now.items c.args.value c.args.n c.in-Err-Memory.field-0 c.in-Err-Memory.field-0-is c.in-Err-Memory.ensures.refused.why in
+    let asks = what_asks g (goal.at.returns-in-Err-Memory-clause-takes g c).In-Err-Memory in
     let one = one_inserted g.met.T.Eq.laws c.args.bag.now.most c.args.value c.args.n c.args.bag.now.items asks.2 asks.1 asks.0 in
     absurd (false≢true (c.in-Err-Memory.ensures.takes asks.0 (omega (arith, one, enough))))

@@ -8,8 +8,8 @@ use Rattle.hashbag_slots.proofs.live.drop_group.Goals as goal
 abbrev is_fingerprint : List ℕ → ℕ → Bool
 is_fingerprint ts p = leb 128 (get_or ts p 0)
 
-pub fingerprints-init : goal.fingerprints-init
-fingerprints-init g c = (
+pub live-init : goal.live-init
+live-init g c = (
   c.args.from,
   omega arith,
   omega arith,
@@ -19,16 +19,16 @@ fingerprints-init g c = (
 
 pub take-requires : goal.take-requires
 take-requires g c =
-    let ts = c.args.tags.now in let i = c.fingerprints.invariant in let test : ℕ → Bool = is_fingerprint ts in
+    let ts = c.args.tags.now in let i = c.live.invariant in let test : ℕ → Bool = is_fingerprint ts in
     let told = c.take_lowest-place.ensures in
     let first = told.first test i.0 (c.args.from + 16) i.1 i.3 in
     let high = leb-true _ _ (first.hit (told.before_until test i.0 (c.args.from + 16) i.3)) in
     let low = first.low in
     i.4.filled c.take_lowest-place.result.0 (omega arith) high
 
-pub fingerprints-preserved : goal.fingerprints-preserved
-fingerprints-preserved g c =
-    let ts = c.args.tags.now in let i = c.fingerprints.invariant in let test : ℕ → Bool = is_fingerprint ts in
+pub live-preserved : goal.live-preserved
+live-preserved g c =
+    let ts = c.args.tags.now in let i = c.live.invariant in let test : ℕ → Bool = is_fingerprint ts in
     let place = c.take_lowest-place.result.0 in
     let told = c.take_lowest-place.ensures in
     let first = told.first test i.0 (c.args.from + 16) i.1 i.3 in
@@ -39,14 +39,14 @@ fingerprints-preserved g c =
       omega arith,
       told.rest test i.0 (c.args.from + 16) i.3,
       subst (AgreeFrom (place + 1) ts) (sym c.take.ensures.after)
-          (one_taken ts c.fingerprints.cells i.0 place i.4 (omega arith) (omega arith) (λ p a b. leb-false _ _ (first.before p a b))),
+          (one_taken ts c.live.cells i.0 place i.4 (omega arith) (omega arith) (λ p a b. leb-false _ _ (first.before p a b))),
     )
 
-pub fingerprints-smaller : goal.fingerprints-smaller
-fingerprints-smaller g c = c.take_lowest-place.ensures.fewer
+pub live-smaller : goal.live-smaller
+live-smaller g c = c.take_lowest-place.ensures.fewer
 
 pub returns : goal.returns
 returns g c =
-    let ts = c.args.tags.now in let i = c.fingerprints.invariant in
-    let none = none_told (is_fingerprint ts) c.args.from i.0 (c.args.from + 16) c.fingerprints.ahead i.3 i.1 c.fingerprints-test.false in
-    none_after ts c.fingerprints.cells i.0 (c.args.from + 16) i.4 i.2 (λ p a b. leb-false _ _ (none p a b))
+    let ts = c.args.tags.now in let i = c.live.invariant in
+    let none = none_told (is_fingerprint ts) c.args.from i.0 (c.args.from + 16) c.live.ahead i.3 i.1 c.live-test.false in
+    none_after ts c.live.cells i.0 (c.args.from + 16) i.4 i.2 (λ p a b. leb-false _ _ (none p a b))

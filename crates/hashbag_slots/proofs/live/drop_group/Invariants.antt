@@ -4,8 +4,8 @@ use Rattle.hashbag_slots.specs.Group.{IsMaskFrom}
 use Rattle.hashbag_slots.proofs.live.drop_group.Given as goal
 
 -- what is left of the bits tells of the places from `at` on, before which all cells are empty
-abbrev pub invariant-fingerprints : goal.invariant-fingerprints
-invariant-fingerprints g l = (at : ℕ) × (l.from ≤ at) × (at ≤ l.from + 16) × IsMaskFrom (λ p. leb 128 (tag_at l.tags p)) l.from at (l.from + 16) l.ahead × AgreeFrom at l.tags l.cells
+abbrev pub invariant-live : goal.invariant-live
+invariant-live g l = (at : ℕ) × (l.from ≤ at) × (at ≤ l.from + 16) × IsMaskFrom (λ p. leb 128 (tag_at l.tags p)) l.from at (l.from + 16) l.ahead × AgreeFrom at l.tags l.cells
 
-abbrev pub decreases-fingerprints : goal.decreases-fingerprints
-decreases-fingerprints g l = l.ahead
+abbrev pub decreases-live : goal.decreases-live
+decreases-live g l = l.ahead

@@ -1,7 +1,11 @@
-use Rattle.std.proofs.Common.{◌≡◌, ◌<◌, get_or, subst, inl, inr, arith}
+use Rattle.std.proofs.Common.{◌≡◌, ℕ, ◌+◌, ◌<◌, ◌≤◌, get_or, subst, inl, inr, arith}
 use Rattle.std.proofs.lemmas.Bool.{cases_lt, leb-true, leb-false}
 use Rattle.std.proofs.lemmas.List.{get_or_past}
 use Rattle.hashbag_slots.proofs.live.next_live.Goals as goal
+
+-- what holds up to m, and from there up to r, holds up to r
+joined : (P : ℕ → Type 0) (from m r : ℕ) → ((q : ℕ) → from ≤ q → q < m → P q) → ((q : ℕ) → m ≤ q → q < r → P q) → (q : ℕ) → from ≤ q → q < r → P q
+joined P from m r before beyond q a b = elim (cases_lt q m) [ inl near ↦ before q a near | inr far ↦ beyond q far b ]
 
 pub places-init : goal.places-init
 places-init c = (omega arith, λ q a b. absurd (omega arith))
@@ -14,40 +18,28 @@ returns-then-lane-lt-GROUP_WIDTH-clause-some c =
       omega arith,
       omega arith,
       leb-true _ _ (c.first_live-lane.ensures.first.hit (omega arith)),
-      λ q a b.
-          elim (cases_lt q at) [
-            | inl before ↦ c.places.invariant.1 q a before
-            | inr beyond ↦ leb-false _ _ (c.first_live-lane.ensures.first.before q beyond b)
-          ],
+      joined (λ q. get_or ts q 0 < 128) c.args.from at (at + lane) c.places.invariant.1 (λ q beyond b. leb-false _ _ (c.first_live-lane.ensures.first.before q beyond b)),
     )
 
 pub places-preserved-then-at-count : goal.places-preserved-then-at-count
 places-preserved-then-at-count c =
     let at = c.places.at in let long = c.if-lane-lt-GROUP_WIDTH.false in let from = c.places.invariant.0 in (
       omega arith,
-      λ q a b.
-          elim (cases_lt q at) [
-            | inl before ↦ c.places.invariant.1 q a before
-            | inr beyond ↦ leb-false _ _ (c.first_live-lane.ensures.first.before q beyond (omega arith))
-          ],
+      joined (λ q. get_or c.args.tags.now q 0 < 128) c.args.from at (at + 16) c.places.invariant.1 (λ q beyond b. leb-false _ _ (c.first_live-lane.ensures.first.before q beyond (omega arith))),
     )
 
-pub returns-then-tags-at-ge-LEAST_MARK-clause-some :
-    goal.returns-then-tags-at-ge-LEAST_MARK-clause-some
-returns-then-tags-at-ge-LEAST_MARK-clause-some c = (c.places.invariant.0, c.places-test.true, c.if-tags-at-ge-LEAST_MARK.true, c.places.invariant.1)
+pub returns-then-tags-at-ge-LEAST_LIVE-clause-some :
+    goal.returns-then-tags-at-ge-LEAST_LIVE-clause-some
+returns-then-tags-at-ge-LEAST_LIVE-clause-some c = (c.places.invariant.0, c.places-test.true, c.if-tags-at-ge-LEAST_LIVE.true, c.places.invariant.1)
 
 pub places-preserved : goal.places-preserved
 places-preserved c =
-    let at = c.places.at in let from = c.places.invariant.0 in let low = c.if-tags-at-ge-LEAST_MARK.false in (
+    let at = c.places.at in let from = c.places.invariant.0 in let low = c.if-tags-at-ge-LEAST_LIVE.false in (
       omega arith,
-      λ q a b.
-          elim (cases_lt q at) [
-            | inl before ↦ c.places.invariant.1 q a before
-            | inr beyond ↦
-                let e : at ≡ q = omega arith in
-                let here : get_or c.args.tags.now at 0 < 128 = omega arith in
-                subst (λ p. get_or c.args.tags.now p 0 < 128) e here
-          ],
+      joined (λ q. get_or c.args.tags.now q 0 < 128) c.args.from at (at + 1) c.places.invariant.1 (λ q beyond b.
+          let e : at ≡ q = omega arith in
+          let here : get_or c.args.tags.now at 0 < 128 = omega arith in
+          subst (λ p. get_or c.args.tags.now p 0 < 128) e here),
     )
 
 pub returns-clause-none : goal.returns-clause-none

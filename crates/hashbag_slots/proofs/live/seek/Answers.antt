@@ -2,7 +2,7 @@ use Rattle.std.proofs.Common.{◌≡◌, ◌+◌, ◌-◌, ◌/◌, suc, ℕ, sy
 use Rattle.hashbag_slots.specs.Walks.{of_turn, IsNextGroup, NoneLive}
 use Rattle.hashbag_slots.proofs.GroupLemmas.{tells_fresh}
 use Rattle.hashbag_slots.proofs.Walking.{is_fingerprint, of_turn-odd, of_turn-even, next_on, next_on_earlier, left_skip, turn_ends, last_ends}
-use Rattle.hashbag_slots.proofs.live.seek.Goals.{then-turn-eq1, else-turn-eq1}
+use Rattle.hashbag_slots.proofs.live.seek.Goals.{then-turn-eq1, else-turn-eq1, In_default, Joined-turn-eq1}
 use Rattle.hashbag_slots.proofs.live.seek.Goals as goal
 
 pub overflow_add-course : goal.overflow_add-course
@@ -12,14 +12,20 @@ overflow_add-course c =
     let w = c.in-Some.ensures.some.fits in
     omega arith
 
+-- the tags that are read are those of the turn's table
+here : (c : goal.Joined-turn-eq1) → c.if-turn-eq1.tags.now ≡ of_turn c.turns.turn c.args.newer.now c.args.older.now
+here c = elim c.if-turn-eq1.branch [
+  | then-turn-eq1 w ↦ ap (λ t. t.now) w.tags-is ∙ sym (of_turn-odd c.turns.turn c.args.newer.now c.args.older.now w.if-turn-eq1.true)
+  | else-turn-eq1 w ↦ ap (λ t. t.now) w.tags-is ∙ sym (of_turn-even c.turns.turn c.args.newer.now c.args.older.now w.if-turn-eq1.false)
+]
+
+none : (c : goal.In_default) → NoneLive (of_turn c.turns.turn c.args.newer.now c.args.older.now) (c.turns.turn / 2) c.turns.from
+none c = subst (λ ts. NoneLive ts (c.turns.turn / 2) c.turns.from) (here (goal.at.In_default c).Joined-turn-eq1) c.in_default.ensures.none
+
 pub returns-in-Some-clause-some : goal.returns-in-Some-clause-some
 returns-in-Some-clause-some c =
     let ns = c.args.newer.now in let os = c.args.older.now in let turn = c.turns.turn in
-    let here : c.if-turn-eq1.tags.now ≡ of_turn turn ns os = elim c.if-turn-eq1.branch [
-      | then-turn-eq1 w ↦ ap (λ t. t.now) w.tags-is ∙ sym (of_turn-odd turn ns os w.if-turn-eq1.true)
-      | else-turn-eq1 w ↦ ap (λ t. t.now) w.tags-is ∙ sym (of_turn-even turn ns os w.if-turn-eq1.false)
-    ] in
-    let group : IsNextGroup (of_turn turn ns os) (turn / 2) c.turns.from (c.in-Some.at, c.in-Some.ahead) = subst (λ ts. IsNextGroup ts (turn / 2) c.turns.from (c.in-Some.at, c.in-Some.ahead)) here c.in-Some.ensures.some in
+    let group : IsNextGroup (of_turn turn ns os) (turn / 2) c.turns.from (c.in-Some.at, c.in-Some.ahead) = subst (λ ts. IsNextGroup ts (turn / 2) c.turns.from (c.in-Some.at, c.in-Some.ahead)) (here (goal.at.returns-in-Some-clause-some c).Joined-turn-eq1) c.in-Some.ensures.some in
     let live = is_fingerprint (of_turn turn ns os) in let at : ℕ = c.in-Some.at in let told = tells_fresh live at (at + 16) c.in-Some.ahead group.mask in
     let e = c.take_lowest-place.ensures in
     next_on_earlier ns os c.args.turn turn c.args.from at c.take_lowest-place.result.0 _ (c.turns.invariant.0 ∙ left_skip ns os turn c.turns.from at group.after group.none)
@@ -28,21 +34,9 @@ returns-in-Some-clause-some c =
 
 pub returns-then-turn-eq0-clause-none : goal.returns-then-turn-eq0-clause-none
 returns-then-turn-eq0-clause-none c =
-    let ns = c.args.newer.now in let os = c.args.older.now in let turn = c.turns.turn in
-    let here : c.if-turn-eq1.tags.now ≡ of_turn turn ns os = elim c.if-turn-eq1.branch [
-      | then-turn-eq1 w ↦ ap (λ t. t.now) w.tags-is ∙ sym (of_turn-odd turn ns os w.if-turn-eq1.true)
-      | else-turn-eq1 w ↦ ap (λ t. t.now) w.tags-is ∙ sym (of_turn-even turn ns os w.if-turn-eq1.false)
-    ] in
-    let none : NoneLive (of_turn turn ns os) (turn / 2) c.turns.from = subst (λ ts. NoneLive ts (turn / 2) c.turns.from) here c.in_default.ensures.none in
-    c.turns.invariant.0 ∙ last_ends ns os turn c.turns.from c.if-turn-eq0.true none
+    c.turns.invariant.0 ∙ last_ends c.args.newer.now c.args.older.now c.turns.turn c.turns.from c.if-turn-eq0.true (none (goal.at.returns-then-turn-eq0-clause-none c).In_default)
 
 pub turns-preserved : goal.turns-preserved
 turns-preserved c =
-    let ns = c.args.newer.now in let os = c.args.older.now in let turn = c.turns.turn in
-    let here : c.if-turn-eq1.tags.now ≡ of_turn turn ns os = elim c.if-turn-eq1.branch [
-      | then-turn-eq1 w ↦ ap (λ t. t.now) w.tags-is ∙ sym (of_turn-odd turn ns os w.if-turn-eq1.true)
-      | else-turn-eq1 w ↦ ap (λ t. t.now) w.tags-is ∙ sym (of_turn-even turn ns os w.if-turn-eq1.false)
-    ] in
-    let none : NoneLive (of_turn turn ns os) (turn / 2) c.turns.from = subst (λ ts. NoneLive ts (turn / 2) c.turns.from) here c.in_default.ensures.none in
-    let some = c.if-turn-eq0.false in let e : turn ≡ suc (turn - 1) = omega arith in
-    (c.turns.invariant.0 ∙ turn_ends ns os turn (turn - 1) c.turns.from e none, refl, omega arith)
+    let turn = c.turns.turn in let some = c.if-turn-eq0.false in let e : turn ≡ suc (turn - 1) = omega arith in
+    (c.turns.invariant.0 ∙ turn_ends c.args.newer.now c.args.older.now turn (turn - 1) c.turns.from e (none (goal.at.turns-preserved c).In_default), refl, omega arith)

@@ -29,13 +29,13 @@ steps-preserved-then-place-count c =
     further (λ p. 128 ≤ get_or c.args.tags.now p 0) (length c.args.tags.now) c.args.hash c.steps.step 16 (omega arith) c.steps.invariant
     (λ p a b. ltb-false _ _ (c.first_not_live-lane.ensures.first.before p (omega arith) (omega arith)))
 
-pub returns-then-tags-place-lt-LEAST_MARK-clause-path :
-    goal.returns-then-tags-place-lt-LEAST_MARK-clause-path
-returns-then-tags-place-lt-LEAST_MARK-clause-path c = (c.steps.step, c.steps-test.true, c.path_slot-place.ensures.value, c.steps.invariant)
+pub returns-then-tags-place-lt-LEAST_LIVE-clause-path :
+    goal.returns-then-tags-place-lt-LEAST_LIVE-clause-path
+returns-then-tags-place-lt-LEAST_LIVE-clause-path c = (c.steps.step, c.steps-test.true, c.path_slot-place.ensures.value, c.steps.invariant)
 
 pub steps-preserved : goal.steps-preserved
 steps-preserved c =
-    let high = c.if-tags-place-lt-LEAST_MARK.false in
+    let high = c.if-tags-place-lt-LEAST_LIVE.false in
     below_more _ _ c.steps.invariant (subst (λ p. 128 ≤ get_or c.args.tags.now p 0) c.path_slot-place.ensures.value (omega arith))
 
 pub unreachable-requires : goal.unreachable-requires

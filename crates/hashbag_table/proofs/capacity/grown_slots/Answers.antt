@@ -6,4 +6,4 @@ pub is_sparse-requires-clause-count : goal.is_sparse-requires-clause-count
 is_sparse-requires-clause-count g = count_bound _ g.requires.count
 
 pub returns-clause-slots : goal.returns-clause-slots
-returns-clause-slots g = IsSlotCount-double _ g.requires.count g.if-count-ge-MOST_SLOTS.false g.if-count-eq0.false
+returns-clause-slots g = IsSlotCount-double _ g.requires.count g.if-slots-ge-MOST_SLOTS.false g.if-slots-eq0.false

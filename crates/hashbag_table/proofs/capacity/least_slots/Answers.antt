@@ -5,27 +5,27 @@ use Rattle.hashbag_table.proofs.LeastLemmas.{below_first, below_double, least_fr
 use Rattle.hashbag_table.proofs.capacity.least_slots.Goals as goal
 
 pub most_used-requires : goal.most_used-requires
-most_used-requires c = count_bound _ c.count.invariant.count
+most_used-requires c = count_bound _ c.slots.invariant.count
 
-pub count-preserved-then-count-eq0 : goal.count-preserved-then-count-eq0
-count-preserved-then-count-eq0 c = record {
+pub slots-preserved-then-slots-eq0 : goal.slots-preserved-then-slots-eq0
+slots-preserved-then-slots-eq0 c = record {
   count = IsSlotCount-16;
-  from = let f = c.count.invariant.from in let z = c.if-count-eq0.true in omega (arith, f, z);
-  below = below_first c.args.from c.args.values c.count.count c.if-count-eq0.true (let t = c.count-test.true in let l = c.most_used.ensures in omega (arith, t, l));
+  from = let f = c.slots.invariant.from in let z = c.if-slots-eq0.true in omega (arith, f, z);
+  below = below_first c.args.from c.args.values c.slots.slots c.if-slots-eq0.true (let t = c.slots-test.true in let l = c.most_used.ensures in omega (arith, t, l));
 }
 
-pub count-preserved : goal.count-preserved
-count-preserved c = record {
-  count = IsSlotCount-double c.count.count c.count.invariant.count c.if-count-ge-MOST_SLOTS.false c.if-count-eq0.false;
-  from = let f = c.count.invariant.from in omega (arith, f);
-  below = below_double c.args.from c.args.values c.count.count c.count.invariant.count (let z = c.if-count-eq0.false in omega arith) (let t = c.count-test.true in let l = c.most_used.ensures in omega (arith, t, l)) c.count.invariant.below;
+pub slots-preserved : goal.slots-preserved
+slots-preserved c = record {
+  count = IsSlotCount-double c.slots.slots c.slots.invariant.count c.if-slots-ge-MOST_SLOTS.false c.if-slots-eq0.false;
+  from = let f = c.slots.invariant.from in omega (arith, f);
+  below = below_double c.args.from c.args.values c.slots.slots c.slots.invariant.count (let z = c.if-slots-eq0.false in omega arith) (let t = c.slots-test.true in let l = c.most_used.ensures in omega (arith, t, l)) c.slots.invariant.below;
 }
 
 pub returns-clause-least : goal.returns-clause-least
 returns-clause-least c =
-    least_from c.args.from c.args.values c.count.count c.count.invariant.count c.count.invariant.from (let e = c.count-test.false in let l = c.most_used.ensures in omega (arith, e, l)) c.count.invariant.below
+    least_from c.args.from c.args.values c.slots.slots c.slots.invariant.count c.slots.invariant.from (let e = c.slots-test.false in let l = c.most_used.ensures in omega (arith, e, l)) c.slots.invariant.below
 
-pub returns-then-count-ge-MOST_SLOTS-clause-past_most : goal.returns-then-count-ge-MOST_SLOTS-clause-past_most
-returns-then-count-ge-MOST_SLOTS-clause-past_most c err =
-    let b = count_bound c.count.count c.count.invariant.count in let a = c.if-count-ge-MOST_SLOTS.true in let short = c.count-test.true in let l = c.most_used.ensures in
+pub returns-then-slots-ge-MOST_SLOTS-clause-past_most : goal.returns-then-slots-ge-MOST_SLOTS-clause-past_most
+returns-then-slots-ge-MOST_SLOTS-clause-past_most c err =
+    let b = count_bound c.slots.slots c.slots.invariant.count in let a = c.if-slots-ge-MOST_SLOTS.true in let short = c.slots-test.true in let l = c.most_used.ensures in
     omega (arith, a, b, short, l)

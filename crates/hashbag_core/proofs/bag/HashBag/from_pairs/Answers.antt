@@ -4,7 +4,7 @@ use Rattle.std.proofs.lemmas.Result.{err_from_is_err_and}
 use Rattle.serde_json.specs.Data.{Data}
 use Rattle.serde_json.specs.View.{view}
 use Rattle.hashbag_core.proofs.InsertLemmas.{made_of}
-use Rattle.hashbag_core.proofs.JsonReadLemmas.{IsReadTo, left_at, read_to_start, read_to_next, fault_at, may_end_at, no_fault_at_end, pairs_at_end}
+use Rattle.hashbag_core.proofs.JsonReadLemmas.{IsReadTo, left_at, read_to_start, read_to_next, fault_at, may_run_out_at, no_fault_at_end, pairs_at_end}
 use Rattle.hashbag_core.proofs.bag.HashBag.from_pairs.Goals as goal
 
 pub loop-number-init : goal.loop-number-init
@@ -35,14 +35,14 @@ returns-in_err-read_pair-clause-fault g c =
     let so = subst (λ (l : List Data). IsReadTo g.met.T.Eq.laws c.args.most g.T.JsonItem.has_item g.T.JsonItem.reads c.with_limit-bag.result (map view c.deref-pair-items.result.now) l c.loop-number.number c.loop-number.bag) left c.loop-number.invariant.read in
     fault_at g.met.T.Eq.laws c.args.most g.T.JsonItem.has_item g.T.JsonItem.reads c.with_limit-bag.result _ _ (view c.pair-item.result) c.loop-number.number _ _ so (rw c.loop-number.invariant.limit at (c.in_err-read_pair.ensures.fault other)))
 
-pub returns-in_err-read_pair-clause-may_end : goal.returns-in_err-read_pair-clause-may_end
-returns-in_err-read_pair-clause-may_end g c =
+pub returns-in_err-read_pair-clause-may_run_out : goal.returns-in_err-read_pair-clause-may_run_out
+returns-in_err-read_pair-clause-may_run_out g c =
     let error = err_from_is_err_and c.from_residual.result c.from_residual.ensures.1 in
     rw (error.1, error.2, ← c.deref-pair-items.ensures.value) (λ memory.
     let inside = c.loop-number-test.true in
     let left = left_at c.deref-pair-items.result.now c.loop-number.number c.pair-item.result c.pair-item.is (omega arith) in
     let so = subst (λ (l : List Data). IsReadTo g.met.T.Eq.laws c.args.most g.T.JsonItem.has_item g.T.JsonItem.reads c.with_limit-bag.result (map view c.deref-pair-items.result.now) l c.loop-number.number c.loop-number.bag) left c.loop-number.invariant.read in
-    may_end_at g.met.T.Eq.laws c.args.most g.T.JsonItem.has_item g.T.JsonItem.reads c.with_limit-bag.result _ _ (view c.pair-item.result) c.loop-number.number _ so (c.in_err-read_pair.ensures.may_end memory))
+    may_run_out_at g.met.T.Eq.laws c.args.most g.T.JsonItem.has_item g.T.JsonItem.reads c.with_limit-bag.result _ _ (view c.pair-item.result) c.loop-number.number _ so (c.in_err-read_pair.ensures.may_run_out memory))
 
 -- all pairs were read
 at_end : (g : _) (c : goal.After-loop-number g) → IsReadTo g.met.T.Eq.laws c.args.most g.T.JsonItem.has_item g.T.JsonItem.reads c.with_limit-bag.result (map view c.deref-pair-items.result.now) [] c.loop-number.number c.loop-number.bag

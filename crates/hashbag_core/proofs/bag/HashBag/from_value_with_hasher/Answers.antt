@@ -28,12 +28,12 @@ pub returns-in-Ok-clause-fault : goal.returns-in-Ok-clause-fault
 returns-in-Ok-clause-fault g c =
     IfErr-weaker c.from_pairs.result _ _ (λ e found other. ap (opened_fault c.args.most g.T.JsonItem.has_item) (sym c.in-Ok.ensures) ∙ (rw c.min.ensures at (found other))) c.from_pairs.ensures.fault
 
-pub returns-in-Ok-clause-may_end : goal.returns-in-Ok-clause-may_end
-returns-in-Ok-clause-may_end g c =
-    IfErr-weaker c.from_pairs.result _ _ (λ e ends memory. record { limit = c.in-Ok.limit; trees = map view c.in-Ok.pairs.now.items; inside = sym c.in-Ok.ensures; among = rw c.min.ensures at (ends memory) }) c.from_pairs.ensures.may_end
+pub returns-in-Ok-clause-may_run_out : goal.returns-in-Ok-clause-may_run_out
+returns-in-Ok-clause-may_run_out g c =
+    IfErr-weaker c.from_pairs.result _ _ (λ e ends memory. record { limit = c.in-Ok.limit; trees = map view c.in-Ok.pairs.now.items; inside = sym c.in-Ok.ensures; among = rw c.min.ensures at (ends memory) }) c.from_pairs.ensures.may_run_out
 
 pub returns-in-Err-clause-fault : goal.returns-in-Err-clause-fault
 returns-in-Err-clause-fault g c = λ other. ap (opened_fault c.args.most g.T.JsonItem.has_item) (sym c.in-Err.ensures)
 
-pub returns-in-Err-clause-may_end : goal.returns-in-Err-clause-may_end
-returns-in-Err-clause-may_end g c = λ memory. absurd (not_memory (view c.args.tree.now) (rw memory at c.in-Err.ensures))
+pub returns-in-Err-clause-may_run_out : goal.returns-in-Err-clause-may_run_out
+returns-in-Err-clause-may_run_out g c = λ memory. absurd (not_memory (view c.args.tree.now) (rw memory at c.in-Err.ensures))

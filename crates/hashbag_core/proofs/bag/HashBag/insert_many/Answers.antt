@@ -5,9 +5,9 @@ use Rattle.hashbag_core.specs.Bag.{occurrences}
 use Rattle.hashbag_core.specs.Occurrences.{count}
 use Rattle.hashbag_core.proofs.InsertLemmas.{inserts_none}
 use Rattle.hashbag_core.proofs.KeyLemmas.{inserts_added}
-use Rattle.hashbag_core.proofs.OccurrenceLemmas.{add_occurrences, tally_added, count_occurrences, count_of_entry, count_in_tally}
+use Rattle.hashbag_core.proofs.OccurrenceLemmas.{add_occurrences, tally_added, count_occurrences, count_in_tally}
 use Rattle.std.proofs.lemmas.Bool.{false≢true}
-use Rattle.hashbag_core.proofs.HeldLemmas.{held_by, none_left}
+use Rattle.hashbag_core.proofs.HeldLemmas.{absent_from_table, held_by, none_left}
 use Rattle.hashbag_core.proofs.bag.HashBag.insert_many.Goals as goal
 
 pub add-requires-clause-fits : goal.add-requires-clause-fits
@@ -22,8 +22,7 @@ add-requires-clause-fits g c =
 pub returns-in_err-before-clause-refused : goal.returns-in_err-before-clause-refused
 returns-in_err-before-clause-refused g c =
     let error = err_from_is_err_and c.from_residual.result c.from_residual.ensures.1 in
-    let absent : count g.T.PartialEq.eq c.args.value (occurrences c.self.inside.table.entries) ≡ 0 =
-    count_occurrences g.met.T.Eq.laws c.args.value _ c.self.invariant.counted.distinct ∙ count_of_entry g.met.T.Eq.laws c.args.value _ _ (sym c.in_err-before.ensures.fails.absent) in
+    let absent = absent_from_table g.met.T.Eq.laws c.args.value c.self.inside.table.entries c.self.invariant.counted c.in_err-before.ensures.fails.absent in
     let sum = c.self.invariant.sum in
     let within = c.self.invariant.fits in
     let fits = c.if-n-self.false in
@@ -65,6 +64,6 @@ returns-clause-inserted g c =
 
 pub returns-in_err-before-clause-present : goal.returns-in_err-before-clause-present
 returns-in_err-before-clause-present g c = λ fits there.
-    let absent = count_occurrences g.met.T.Eq.laws c.args.value _ c.self.invariant.counted.distinct ∙ count_of_entry g.met.T.Eq.laws c.args.value _ _ (sym c.in_err-before.ensures.fails.absent) in
+    let none = absent_from_table g.met.T.Eq.laws c.args.value c.self.inside.table.entries c.self.invariant.counted c.in_err-before.ensures.fails.absent in
     let some : 0 < count g.T.PartialEq.eq c.args.value (occurrences c.self.inside.table.entries) = rw (← c.self.view_is) at there in
-    absurd (omega (arith, absent, some))
+    absurd (omega (arith, none, some))

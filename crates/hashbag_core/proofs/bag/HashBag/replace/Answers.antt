@@ -7,10 +7,9 @@ use Rattle.std.proofs.Common.{◌≡◌}
 use Rattle.std.proofs.lemmas.Bool.{false≢true}
 use Rattle.std.proofs.lemmas.Result.{err_from_is_err_and}
 use Rattle.hashbag_table.proofs.EntryLemmas.{OnErr-from}
-use Rattle.hashbag_core.proofs.OccurrenceLemmas.{count_of_entry}
 use Rattle.hashbag_core.proofs.DistinctLemmas.{distinct_put}
-use Rattle.hashbag_core.proofs.HeldLemmas.{absent_in_table, present_in_table, none_left}
-use Rattle.hashbag_core.proofs.bag.HashBag.replace.Goals.{else-self-via-then-self+else-contains-eq0, else-self-via-else-self}
+use Rattle.hashbag_core.proofs.HeldLemmas.{absent_from_table, absent_in_table, present_in_table, none_left}
+use Rattle.hashbag_core.proofs.bag.HashBag.replace.Goals.{Joined-else-self, else-self-via-then-self+else-contains-eq0, else-self-via-else-self}
 use Rattle.hashbag_core.proofs.bag.HashBag.replace.Goals as goal
 
 pub overflow_sub-self : goal.overflow_sub-self
@@ -19,20 +18,26 @@ overflow_sub-self g c =
     let before = c.in_ok-before.ensures.before in
     omega arith
 
+-- with one of the value in the place of all the total is within the limit
+one_fits : (g : _) (c : Joined-else-self g) → length (occurrences c.self.inside.table.entries) - count g.T.PartialEq.eq c.args.value (occurrences c.self.inside.table.entries) + 1 ≤ c.self.inside.most
+one_fits g c =
+    let sum = c.self.invariant.sum in
+    let within = c.self.invariant.fits in
+    elim c.else-self.branch [
+      | else-self-via-then-self+else-contains-eq0 w ↦
+          let often : w.contains.result ≡ count g.T.PartialEq.eq c.args.value (occurrences c.self.inside.table.entries) = rw (← c.self.view_is) at w.contains.ensures.count in
+          let some = w.if-contains-eq0.false in
+          let few = count_le g.met.T.Eq.laws c.args.value (occurrences c.self.inside.table.entries) in omega (arith, sum, within, often, some, few)
+      | else-self-via-else-self w ↦ let fewer = w.if-self.false in omega (arith, sum, within, fewer)
+    ]
+
 pub overflow_add-self : goal.overflow_add-self
 overflow_add-self g c =
     let es = c.self.inside.table.entries in
     let before = c.in_ok-before.ensures.before in
     let same = count_occurrences g.met.T.Eq.laws c.args.value es c.self.invariant.counted.distinct in
     let sum = c.self.invariant.sum in
-    let within = c.self.invariant.fits in
-    let fits : length (occurrences es) - count g.T.PartialEq.eq c.args.value (occurrences es) + 1 ≤ c.self.inside.most = elim c.else-self.branch [
-      | else-self-via-then-self+else-contains-eq0 w ↦
-          let often : w.contains.result ≡ count g.T.PartialEq.eq c.args.value (occurrences c.self.inside.table.entries) = rw (← c.self.view_is) at w.contains.ensures.count in
-          let some = w.if-contains-eq0.false in
-          let few = count_le g.met.T.Eq.laws c.args.value (occurrences c.self.inside.table.entries) in omega (arith, sum, within, often, some, few)
-      | else-self-via-else-self w ↦ let fewer = w.if-self.false in omega (arith, sum, within, fewer)
-    ] in
+    let fits = one_fits g (goal.at.overflow_add-self g c).Joined-else-self in
     omega arith
 
 pub invariant_of-self-2 : goal.invariant_of-self-2
@@ -42,14 +47,7 @@ invariant_of-self-2 g c =
     let es = c.self.inside.table.entries in
     let same = count_occurrences g.met.T.Eq.laws v es c.self.invariant.counted.distinct in
     let sum = c.self.invariant.sum in
-    let within = c.self.invariant.fits in
-    let fits : length (occurrences es) - count eq v (occurrences es) + 1 ≤ c.self.inside.most = elim c.else-self.branch [
-      | else-self-via-then-self+else-contains-eq0 w ↦
-          let often : w.contains.result ≡ count g.T.PartialEq.eq c.args.value (occurrences c.self.inside.table.entries) = rw (← c.self.view_is) at w.contains.ensures.count in
-          let some = w.if-contains-eq0.false in
-          let few = count_le g.met.T.Eq.laws c.args.value (occurrences c.self.inside.table.entries) in omega (arith, sum, within, often, some, few)
-      | else-self-via-else-self w ↦ let fewer = w.if-self.false in omega (arith, sum, within, fewer)
-    ] in
+    let fits = one_fits g (goal.at.invariant_of-self-2 g c).Joined-else-self in
     subst (λ (k : ℕ). IsTallied eq c.put_instance.new.self.entries (c.self.inside.len - k + 1) c.self.inside.most) (sym c.in_ok-before.ensures.before)
     (tally_put g.met.T.Eq.laws v 1 es c.put_instance.new.self.entries c.self.inside.len c.self.invariant c.put_instance.ensures.counted (omega arith)
     (put_occurrences g.met.T.Eq.laws v 1 es c.put_instance.new.self.entries c.self.invariant.counted c.in_ok-before.ensures.stored.map.means))
@@ -81,24 +79,14 @@ returns-clause-replaced g c =
 
 pub returns-in_err-before-clause-absent : goal.returns-in_err-before-clause-absent
 returns-in_err-before-clause-absent g c =
-    let absent : count g.T.PartialEq.eq c.args.value c.args.self.now.items ≡ 0 =
-    rw (← c.self.view_is) (count_occurrences g.met.T.Eq.laws c.args.value _ c.self.invariant.counted.distinct ∙ count_of_entry g.met.T.Eq.laws c.args.value _ _ (sym c.in_err-before.ensures.fails.absent)) in
+    let absent : count g.T.PartialEq.eq c.args.value c.args.self.now.items ≡ 0 = rw (← c.self.view_is) (absent_from_table g.met.T.Eq.laws c.args.value _ c.self.invariant.counted c.in_err-before.ensures.fails.absent) in
     OnErr-from _ absent
 
 pub returns-in_err-before-clause-refused : goal.returns-in_err-before-clause-refused
 returns-in_err-before-clause-refused g c =
     let error = err_from_is_err_and c.from_residual.result c.from_residual.ensures.1 in
-    let absent : count g.T.PartialEq.eq c.args.value (occurrences c.self.inside.table.entries) ≡ 0 =
-    count_occurrences g.met.T.Eq.laws c.args.value _ c.self.invariant.counted.distinct ∙ count_of_entry g.met.T.Eq.laws c.args.value _ _ (sym c.in_err-before.ensures.fails.absent) in
-    let sum = c.self.invariant.sum in
-    let within = c.self.invariant.fits in
-    let fits : length (occurrences c.self.inside.table.entries) - count g.T.PartialEq.eq c.args.value (occurrences c.self.inside.table.entries) + 1 ≤ c.self.inside.most = elim c.else-self.branch [
-      | else-self-via-then-self+else-contains-eq0 w ↦
-          let often : w.contains.result ≡ count g.T.PartialEq.eq c.args.value (occurrences c.self.inside.table.entries) = rw (← c.self.view_is) at w.contains.ensures.count in
-          let some = w.if-contains-eq0.false in
-          let few = count_le g.met.T.Eq.laws c.args.value (occurrences c.self.inside.table.entries) in omega (arith, sum, within, often, some, few)
-      | else-self-via-else-self w ↦ let fewer = w.if-self.false in omega (arith, sum, within, fewer)
-    ] in
+    let absent = absent_from_table g.met.T.Eq.laws c.args.value c.self.inside.table.entries c.self.invariant.counted c.in_err-before.ensures.fails.absent in
+    let fits = one_fits g (goal.at.returns-in_err-before-clause-refused g c).Joined-else-self in
     rw (error.1, error.2, ← c.self.view_is) (record {
       why = (omega (arith, absent, fits), omega arith, absent);
       full = λ _. none_left (room c.self.inside.table.tables) (λ space. false≢true (c.in_err-before.ensures.fails.takes space));
@@ -107,28 +95,12 @@ returns-in_err-before-clause-refused g c =
 pub returns-in_err-before-clause-too_many : goal.returns-in_err-before-clause-too_many
 returns-in_err-before-clause-too_many g c =
     let error = err_from_is_err_and c.from_residual.result c.from_residual.ensures.1 in
-    let sum = c.self.invariant.sum in
-    let within = c.self.invariant.fits in
-    let fits : length (occurrences c.self.inside.table.entries) - count g.T.PartialEq.eq c.args.value (occurrences c.self.inside.table.entries) + 1 ≤ c.self.inside.most = elim c.else-self.branch [
-      | else-self-via-then-self+else-contains-eq0 w ↦
-          let often : w.contains.result ≡ count g.T.PartialEq.eq c.args.value (occurrences c.self.inside.table.entries) = rw (← c.self.view_is) at w.contains.ensures.count in
-          let some = w.if-contains-eq0.false in
-          let few = count_le g.met.T.Eq.laws c.args.value (occurrences c.self.inside.table.entries) in omega (arith, sum, within, often, some, few)
-      | else-self-via-else-self w ↦ let fewer = w.if-self.false in omega (arith, sum, within, fewer)
-    ] in
+    let fits = one_fits g (goal.at.returns-in_err-before-clause-too_many g c).Joined-else-self in
     rw (error.1, error.2, ← c.self.view_is) ((λ is. absurd (cc)), (λ over. absurd (omega (arith, fits, over))))
 
 pub returns-clause-too_many : goal.returns-clause-too_many
 returns-clause-too_many g c =
-    let sum = c.self.invariant.sum in
-    let within = c.self.invariant.fits in
-    let fits : length (occurrences c.self.inside.table.entries) - count g.T.PartialEq.eq c.args.value (occurrences c.self.inside.table.entries) + 1 ≤ c.self.inside.most = elim c.else-self.branch [
-      | else-self-via-then-self+else-contains-eq0 w ↦
-          let often : w.contains.result ≡ count g.T.PartialEq.eq c.args.value (occurrences c.self.inside.table.entries) = rw (← c.self.view_is) at w.contains.ensures.count in
-          let some = w.if-contains-eq0.false in
-          let few = count_le g.met.T.Eq.laws c.args.value (occurrences c.self.inside.table.entries) in omega (arith, sum, within, often, some, few)
-      | else-self-via-else-self w ↦ let fewer = w.if-self.false in omega (arith, sum, within, fewer)
-    ] in
+    let fits = one_fits g (goal.at.returns-clause-too_many g c).Joined-else-self in
     rw (← c.self.view_is) ((λ is. absurd (cc)), (λ over. absurd (omega (arith, fits, over))))
 
 pub returns-in_err-before-clause-takes : goal.returns-in_err-before-clause-takes

@@ -3,30 +3,20 @@ use Rattle.std.proofs.lemmas.Bool.{false≢true}
 use Rattle.hashbag_table.specs.declared.table.TheConstants.{MOST_VALUES}
 use Rattle.hashbag_core.specs.Bag.{occurrences}
 use Rattle.hashbag_core.specs.Occurrences.{distinct_count}
-use Rattle.hashbag_core.proofs.OccurrenceLemmas.{bag_from_tally, occurrences_rearranged, tally_rearranged}
+use Rattle.hashbag_core.proofs.OccurrenceLemmas.{tally_rearranged}
 use Rattle.hashbag_core.proofs.DistinctLemmas.{distinct_count-occurrences}
 use Rattle.std.proofs.Common.{ap}
-use Rattle.hashbag_core.proofs.HeldLemmas.{shown}
+use Rattle.hashbag_core.proofs.HeldLemmas.{shown, items_stay}
 use Rattle.hashbag_core.proofs.bag.HashBag.reserve.Goals as goal
 
 pub returns-in_err-reserve-clause-items : goal.returns-in_err-reserve-clause-items
-returns-in_err-reserve-clause-items g c = rw (← c.self.view_is) (record {
-  means = occurrences_rearranged _ _ c.reserve.ensures.entries.means;
-  hasher = c.reserve.ensures.entries.hasher;
-  limit = refl;
-  bag = bag_from_tally g.met.T.Eq.laws _ _ (tally_rearranged g.met.T.Eq.laws _ _ _ c.self.invariant c.reserve.ensures.entries.counted c.reserve.ensures.entries.means);
-})
+returns-in_err-reserve-clause-items g c = rw (← c.self.view_is) (items_stay g.met.T.Eq.laws _ c.self.inside.table c.reserve.new.self c.self.invariant c.reserve.ensures.entries)
 
 pub invariant_of-self-2 : goal.invariant_of-self-2
 invariant_of-self-2 g c = tally_rearranged g.met.T.Eq.laws _ _ _ c.self.invariant c.reserve.ensures.entries.counted c.reserve.ensures.entries.means
 
 pub returns-clause-items : goal.returns-clause-items
-returns-clause-items g c = rw (← c.self.view_is) (record {
-  means = occurrences_rearranged _ _ c.reserve.ensures.entries.means;
-  hasher = c.reserve.ensures.entries.hasher;
-  limit = refl;
-  bag = bag_from_tally g.met.T.Eq.laws _ _ (invariant_of-self-2 g c);
-})
+returns-clause-items g c = rw (← c.self.view_is) (items_stay g.met.T.Eq.laws _ c.self.inside.table c.reserve.new.self c.self.invariant c.reserve.ensures.entries)
 
 pub returns-clause-beyond : goal.returns-clause-beyond
 returns-clause-beyond g c = λ some more.

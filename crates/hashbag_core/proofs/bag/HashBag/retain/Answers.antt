@@ -12,19 +12,16 @@ retain-self-inside-requires-clause-fits g c = total_fits g.met.T.Eq.laws g.F.FnM
 
 pub invariant_of-self : goal.invariant_of-self
 invariant_of-self g c =
-    let done = c.retain-self-inside.ensures in
-    tally_retained g.met.T.Eq.laws g.F.FnMut c.args.f c.self.inside.table.entries c.retain-self-inside.new.self.entries c.self.inside.len c.self.invariant done.counted done.kept c.retain-self-inside.result done.total
+    tally_retained g.met.T.Eq.laws g.F.FnMut c.args.f c.self.inside.table.entries c.retain-self-inside.new.self.entries c.self.inside.len c.self.invariant c.retain-self-inside.ensures.counted c.retain-self-inside.ensures.kept c.retain-self-inside.result c.retain-self-inside.ensures.total
 
 pub returns-clause-retained : goal.returns-clause-retained
 returns-clause-retained g c =
-    let done = c.retain-self-inside.ensures in
-    rw (← c.self.view_is) (is_retained g.met.T.Eq.laws g.F.FnMut c.args.f c.self.inside.table.entries c.retain-self-inside.new.self.entries c.self.inside.len c.self.invariant done.counted done.kept
-    c.self.inside.table.hasher c.retain-self-inside.new.self.hasher c.self.inside.table.tables c.retain-self-inside.new.self.tables c.retain-self-inside.result done.total done.hasher)
+    rw (← c.self.view_is) (is_retained g.met.T.Eq.laws g.F.FnMut c.args.f c.self.inside.table.entries c.retain-self-inside.new.self.entries c.self.inside.len c.self.invariant c.retain-self-inside.ensures.counted c.retain-self-inside.ensures.kept
+    c.self.inside.table.hasher c.retain-self-inside.new.self.hasher c.self.inside.table.tables c.retain-self-inside.new.self.tables c.retain-self-inside.result c.retain-self-inside.ensures.total c.retain-self-inside.ensures.hasher)
 
 pub returns-clause-len : goal.returns-clause-len
 returns-clause-len g c =
-    let done = c.retain-self-inside.ensures in
-    rw (← c.self.view_is) (fewer_retained g.met.T.Eq.laws g.F.FnMut c.args.f c.self.inside.table.entries c.retain-self-inside.new.self.entries c.self.inside.len c.self.invariant done.counted done.kept)
+    rw (← c.self.view_is) (fewer_retained g.met.T.Eq.laws g.F.FnMut c.args.f c.self.inside.table.entries c.retain-self-inside.new.self.entries c.self.inside.len c.self.invariant c.retain-self-inside.ensures.counted c.retain-self-inside.ensures.kept)
 
 pub returns-clause-waiting : goal.returns-clause-waiting
 returns-clause-waiting g c = rw (← c.self.view_is) c.retain-self-inside.ensures.waiting

@@ -1,29 +1,19 @@
 use Rattle.std.proofs.Common.{sym, ◌∙◌, refl}
-use Rattle.hashbag_core.proofs.OccurrenceLemmas.{bag_from_tally, occurrences_rearranged, tally_rearranged}
+use Rattle.hashbag_core.proofs.OccurrenceLemmas.{tally_rearranged}
 use Rattle.std.proofs.Common.{ap}
 use Rattle.std.proofs.lemmas.Bool.{false≢true}
 use Rattle.hashbag_core.proofs.DistinctLemmas.{distinct_count-occurrences}
-use Rattle.hashbag_core.proofs.HeldLemmas.{shown, no_entries, none_from_newer}
+use Rattle.hashbag_core.proofs.HeldLemmas.{shown, items_stay, no_entries, none_from_newer}
 use Rattle.hashbag_core.proofs.bag.HashBag.shrink_to_fit.Goals as goal
 
 pub returns-in_err-shrink_to_fit-clause-items : goal.returns-in_err-shrink_to_fit-clause-items
-returns-in_err-shrink_to_fit-clause-items g c = rw (← c.self.view_is) (record {
-  means = occurrences_rearranged _ _ c.shrink_to_fit.ensures.entries.means;
-  hasher = c.shrink_to_fit.ensures.entries.hasher;
-  limit = refl;
-  bag = bag_from_tally g.met.T.Eq.laws _ _ (tally_rearranged g.met.T.Eq.laws _ _ _ c.self.invariant c.shrink_to_fit.ensures.entries.counted c.shrink_to_fit.ensures.entries.means);
-})
+returns-in_err-shrink_to_fit-clause-items g c = rw (← c.self.view_is) (items_stay g.met.T.Eq.laws _ c.self.inside.table c.shrink_to_fit.new.self c.self.invariant c.shrink_to_fit.ensures.entries)
 
 pub invariant_of-self-2 : goal.invariant_of-self-2
 invariant_of-self-2 g c = tally_rearranged g.met.T.Eq.laws _ _ _ c.self.invariant c.shrink_to_fit.ensures.entries.counted c.shrink_to_fit.ensures.entries.means
 
 pub returns-clause-items : goal.returns-clause-items
-returns-clause-items g c = rw (← c.self.view_is) (record {
-  means = occurrences_rearranged _ _ c.shrink_to_fit.ensures.entries.means;
-  hasher = c.shrink_to_fit.ensures.entries.hasher;
-  limit = refl;
-  bag = bag_from_tally g.met.T.Eq.laws _ _ (invariant_of-self-2 g c);
-})
+returns-clause-items g c = rw (← c.self.view_is) (items_stay g.met.T.Eq.laws _ c.self.inside.table c.shrink_to_fit.new.self c.self.invariant c.shrink_to_fit.ensures.entries)
 
 pub returns-in_err-shrink_to_fit-clause-len : goal.returns-in_err-shrink_to_fit-clause-len
 returns-in_err-shrink_to_fit-clause-len g c = rw (← c.self.view_is) (sym (tally_rearranged g.met.T.Eq.laws _ _ _ c.self.invariant c.shrink_to_fit.ensures.entries.counted c.shrink_to_fit.ensures.entries.means).sum ∙ c.self.invariant.sum)

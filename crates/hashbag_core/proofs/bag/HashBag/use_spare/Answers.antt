@@ -1,8 +1,9 @@
-use Rattle.std.proofs.Common.{◌≤◌, sym, ◌∙◌, subst, refl, arith}
+use Rattle.std.proofs.Common.{◌≤◌, sym, ◌∙◌, subst, arith}
 use Rattle.hashbag_table.specs.Tables.{most_used}
 use Rattle.hashbag_core.specs.Occurrences.{distinct_count}
-use Rattle.hashbag_core.proofs.OccurrenceLemmas.{bag_from_tally, occurrences_rearranged, tally_rearranged}
+use Rattle.hashbag_core.proofs.OccurrenceLemmas.{tally_rearranged}
 use Rattle.hashbag_core.proofs.DistinctLemmas.{distinct_count-occurrences}
+use Rattle.hashbag_core.proofs.HeldLemmas.{items_stay}
 use Rattle.hashbag_core.proofs.bag.HashBag.use_spare.Goals as goal
 
 pub use_spare-requires : goal.use_spare-requires
@@ -17,12 +18,7 @@ pub invariant_of-self : goal.invariant_of-self
 invariant_of-self g c = tally_rearranged g.met.T.Eq.laws _ _ _ c.self.invariant c.use_spare.ensures.entries.counted c.use_spare.ensures.entries.means
 
 pub returns-clause-items : goal.returns-clause-items
-returns-clause-items g c = rw (← c.self.view_is) (record {
-  means = occurrences_rearranged _ _ c.use_spare.ensures.entries.means;
-  hasher = c.use_spare.ensures.entries.hasher;
-  limit = refl;
-  bag = bag_from_tally g.met.T.Eq.laws _ _ (invariant_of-self g c);
-})
+returns-clause-items g c = rw (← c.self.view_is) (items_stay g.met.T.Eq.laws _ c.self.inside.table c.use_spare.new.self c.self.invariant c.use_spare.ensures.entries)
 
 pub returns-clause-len : goal.returns-clause-len
 returns-clause-len g c = rw (← c.self.view_is) (sym (invariant_of-self g c).sum ∙ c.self.invariant.sum)

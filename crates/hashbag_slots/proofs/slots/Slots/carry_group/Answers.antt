@@ -6,8 +6,8 @@ use Rattle.hashbag_slots.proofs.Carrying.{CarriesInto-dead, CarriesInto-join, Ca
 use Rattle.hashbag_slots.proofs.GroupLemmas.{none_told, tells_fresh}
 use Rattle.hashbag_slots.proofs.slots.Slots.carry_group.Goals as goal
 
-pub fingerprints-init : goal.fingerprints-init
-fingerprints-init g c =
+pub live-init : goal.live-init
+live-init g c =
     let from = c.args.from in let room = c.requires.within in let live : ℕ → Bool = λ p. is_live (slot_at c.args.older.now.slots p) in (
       from,
       omega arith,
@@ -19,9 +19,9 @@ fingerprints-init g c =
 pub take_lowest-place-requires-clause-fits : goal.take_lowest-place-requires-clause-fits
 take_lowest-place-requires-clause-fits g c = let room = c.requires.within in let value = c.slots-slots.ensures.value in let most = c.slots-slots.ensures.bound in omega arith
 
-pub fingerprints-preserved : goal.fingerprints-preserved
-fingerprints-preserved g c =
-    let i = c.fingerprints.invariant in let from = c.args.from in let place = c.take_lowest-place.result.0 in
+pub live-preserved : goal.live-preserved
+live-preserved g c =
+    let i = c.live.invariant in let from = c.args.from in let place = c.take_lowest-place.result.0 in
     let live : ℕ → Bool = λ p. is_live (slot_at c.args.older.now.slots p) in
     let told = c.take_lowest-place.ensures in
     let first = told.first live i.0 (from + 16) i.1 i.3 in
@@ -31,19 +31,19 @@ fingerprints-preserved g c =
       omega arith,
       omega arith,
       told.rest live i.0 (from + 16) i.3,
-      CarriesInto-join g.T.PartialEq.eq _ from place 1 c.args.self.now c.args.older.now c.fingerprints.self c.fingerprints.older c.carry_slot.new.self c.carry_slot.new.older (omega arith)
-          (CarriesInto-skip g.T.PartialEq.eq _ from i.0 place c.args.self.now c.args.older.now c.fingerprints.self c.fingerprints.older begun low (omega arith) first.before i.4)
+      CarriesInto-join g.T.PartialEq.eq _ from place 1 c.args.self.now c.args.older.now c.live.self c.live.older c.carry_slot.new.self c.carry_slot.new.older (omega arith)
+          (CarriesInto-skip g.T.PartialEq.eq _ from i.0 place c.args.self.now c.args.older.now c.live.self c.live.older begun low (omega arith) first.before i.4)
           c.carry_slot.ensures,
     )
 
-pub fingerprints-smaller : goal.fingerprints-smaller
-fingerprints-smaller g c = c.take_lowest-place.ensures.fewer
+pub live-smaller : goal.live-smaller
+live-smaller g c = c.take_lowest-place.ensures.fewer
 
 pub returns : goal.returns
 returns g c =
-    let i = c.fingerprints.invariant in let from = c.args.from in let room = c.requires.within in
+    let i = c.live.invariant in let from = c.args.from in let room = c.requires.within in
     let live : ℕ → Bool = λ p. is_live (slot_at c.args.older.now.slots p) in
-    let none = none_told live from i.0 (from + 16) c.fingerprints.ahead i.3 i.1 c.fingerprints-test.false in
+    let none = none_told live from i.0 (from + 16) c.live.ahead i.3 i.1 c.live-test.false in
     let all : from + 16 - from ≡ 16 = omega arith in
-    subst (λ n. CarriesInto g.T.PartialEq.eq (hash_under g.T.Hash.hash_input g.S.BuildHasher g.S.Hasher.Hasher c.args.state.now) from n c.args.self.now c.args.older.now c.fingerprints.self c.fingerprints.older) all
-    (CarriesInto-skip g.T.PartialEq.eq _ from i.0 (from + 16) c.args.self.now c.args.older.now c.fingerprints.self c.fingerprints.older i.1 i.2 room none i.4)
+    subst (λ n. CarriesInto g.T.PartialEq.eq (hash_under g.T.Hash.hash_input g.S.BuildHasher g.S.Hasher.Hasher c.args.state.now) from n c.args.self.now c.args.older.now c.live.self c.live.older) all
+    (CarriesInto-skip g.T.PartialEq.eq _ from i.0 (from + 16) c.args.self.now c.args.older.now c.live.self c.live.older i.1 i.2 room none i.4)

@@ -13,7 +13,7 @@ use Rattle.hashbag_table.proofs.CarryLemmas.{arrives_from, ready_alone}
 use Rattle.hashbag_table.proofs.AddLemmas.{adds_raised, adds_stored, stores_arrived}
 use Rattle.hashbag_table.proofs.RaisedLemmas.{raised_fits, raised_before}
 use Rattle.hashbag_table.proofs.SpotLemmas.{count_absent}
-use Rattle.hashbag_table.proofs.table.Table.add.Goals.{in-Absent+else-can_place_at_once, in_default-first}
+use Rattle.hashbag_table.proofs.table.Table.add.Goals.{In-Found, In-Absent, in-Absent+else-can_place_at_once, in_default-first}
 use Rattle.hashbag_table.proofs.table.Table.add.Goals as goal
 
 -- a value that is in no slot of the one table is absent
@@ -40,40 +40,44 @@ add_slow-requires g c = record {
   fits = c.requires.fits;
 }
 
+-- a slot that holds the value was found, or that it is in none
+found : (g : _) (c : In-Found g) → slot_entry (slot_in c.args.self.now.tables (Newer c.in-Found.place)) ≡ named_entry (g.T.PartialEq.eq c.args.value) c.args.self.now.entries
+found g c = subst (λ r. IfFound r (λ p. slot_entry (slot_in c.args.self.now.tables (Newer p)) ≡ named_entry (g.T.PartialEq.eq c.args.value) c.args.self.now.entries)) c.in-Found.is c.probe_first_group-first.ensures.map
+
+held : (g : _) (c : In-Found g) → HoldsIn (g.T.PartialEq.eq c.args.value) c.args.self.now.tables (Newer c.in-Found.place)
+held g c = subst (λ r. IfFound r (λ p. HoldsIn (g.T.PartialEq.eq c.args.value) c.args.self.now.tables (Newer p))) c.in-Found.is c.probe_first_group-first.ensures.held
+
+apart : (g : _) (c : In-Absent g) → IsAbsent (g.T.PartialEq.eq c.args.value) c.args.self.now.tables.newer
+apart g c = subst (λ r. IfAbsent r (λ _. IsAbsent (g.T.PartialEq.eq c.args.value) c.args.self.now.tables.newer)) c.in-Absent.is c.probe_first_group-first.ensures.absent
+
 pub raise_spot-before-requires-clause-fits : goal.raise_spot-before-requires-clause-fits
 raise_spot-before-requires-clause-fits g c =
-    let is = subst (λ r. IfFound r (λ p. slot_entry (slot_in c.args.self.now.tables (Newer p)) ≡ named_entry (g.T.PartialEq.eq c.args.value) c.args.self.now.entries)) c.in-Found.is c.probe_first_group-first.ensures.map in
-    raised_fits g.T.PartialEq.eq g.met.T.Eq.laws c.args.value c.args.n c.args.self.now.entries c.args.self.now.tables (Newer c.in-Found.place) is c.requires.fits
+    raised_fits g.T.PartialEq.eq g.met.T.Eq.laws c.args.value c.args.n c.args.self.now.entries c.args.self.now.tables (Newer c.in-Found.place) (found g (goal.at.raise_spot-before-requires-clause-fits g c).In-Found) c.requires.fits
 
 pub returns-in-Found-clause-before : goal.returns-in-Found-clause-before
 returns-in-Found-clause-before g c =
-    let is = subst (λ r. IfFound r (λ p. slot_entry (slot_in c.args.self.now.tables (Newer p)) ≡ named_entry (g.T.PartialEq.eq c.args.value) c.args.self.now.entries)) c.in-Found.is c.probe_first_group-first.ensures.map in
-    let held = subst (λ r. IfFound r (λ p. HoldsIn (g.T.PartialEq.eq c.args.value) c.args.self.now.tables (Newer p))) c.in-Found.is c.probe_first_group-first.ensures.held in
-    raised_before g.T.PartialEq.eq g.met.T.Eq.laws c.args.value c.args.n c.args.self.now.entries c.args.self.now.tables (Newer c.in-Found.place) is held c.raise_spot-before.result c.raise_spot-before.ensures.before
+    let at = (goal.at.returns-in-Found-clause-before g c).In-Found in
+    raised_before g.T.PartialEq.eq g.met.T.Eq.laws c.args.value c.args.n c.args.self.now.entries c.args.self.now.tables (Newer c.in-Found.place) (found g at) (held g at) c.raise_spot-before.result c.raise_spot-before.ensures.before
 
 pub returns-in-Found-clause-added : goal.returns-in-Found-clause-added
 returns-in-Found-clause-added g c =
-    let is = subst (λ r. IfFound r (λ p. slot_entry (slot_in c.args.self.now.tables (Newer p)) ≡ named_entry (g.T.PartialEq.eq c.args.value) c.args.self.now.entries)) c.in-Found.is c.probe_first_group-first.ensures.map in
-    let held = subst (λ r. IfFound r (λ p. HoldsIn (g.T.PartialEq.eq c.args.value) c.args.self.now.tables (Newer p))) c.in-Found.is c.probe_first_group-first.ensures.held in
-    adds_raised g.T.PartialEq.eq g.met.T.Eq.laws c.args.value c.args.n c.args.self.now c.raise_spot-before.new.self (Newer c.in-Found.place) is held c.raise_spot-before.result c.raise_spot-before.ensures.before
+    let at = (goal.at.returns-in-Found-clause-added g c).In-Found in
+    adds_raised g.T.PartialEq.eq g.met.T.Eq.laws c.args.value c.args.n c.args.self.now c.raise_spot-before.new.self (Newer c.in-Found.place) (found g at) (held g at) c.raise_spot-before.result c.raise_spot-before.ensures.before
     c.probe_first_group-first.ensures.counted c.raise_spot-before.ensures.after c.raise_spot-before.ensures.map c.raise_spot-before.ensures.hasher c.raise_spot-before.ensures.counted
 
 pub place_absent-requires-clause-absent : goal.place_absent-requires-clause-absent
 place_absent-requires-clause-absent g c =
-    let apart = subst (λ r. IfAbsent r (λ _. IsAbsent (g.T.PartialEq.eq c.args.value) c.args.self.now.tables.newer)) c.in-Absent.is c.probe_first_group-first.ensures.absent in
-    absent g.T.PartialEq.eq g.met.T.Eq.laws c.args.value c.args.self.now.tables.newer c.args.self.now.entries (c.can_place_at_once.ensures.entries c.if-can_place_at_once.true) apart
+    absent g.T.PartialEq.eq g.met.T.Eq.laws c.args.value c.args.self.now.tables.newer c.args.self.now.entries (c.can_place_at_once.ensures.entries c.if-can_place_at_once.true) (apart g (goal.at.place_absent-requires-clause-absent g c).In-Absent)
 
 pub returns-then-can_place_at_once-clause-before : goal.returns-then-can_place_at_once-clause-before
 returns-then-can_place_at_once-clause-before g c =
-    let apart = subst (λ r. IfAbsent r (λ _. IsAbsent (g.T.PartialEq.eq c.args.value) c.args.self.now.tables.newer)) c.in-Absent.is c.probe_first_group-first.ensures.absent in
     let eq = g.T.PartialEq.eq in let v = c.args.value in let es = c.args.self.now.entries in
-    sym (count_absent eq v es (absent eq g.met.T.Eq.laws v c.args.self.now.tables.newer es (c.can_place_at_once.ensures.entries c.if-can_place_at_once.true) apart))
+    sym (count_absent eq v es (absent eq g.met.T.Eq.laws v c.args.self.now.tables.newer es (c.can_place_at_once.ensures.entries c.if-can_place_at_once.true) (apart g (goal.at.returns-then-can_place_at_once-clause-before g c).In-Absent)))
 
 pub returns-then-can_place_at_once-clause-added : goal.returns-then-can_place_at_once-clause-added
 returns-then-can_place_at_once-clause-added g c =
-    let apart = subst (λ r. IfAbsent r (λ _. IsAbsent (g.T.PartialEq.eq c.args.value) c.args.self.now.tables.newer)) c.in-Absent.is c.probe_first_group-first.ensures.absent in
     let eq = g.T.PartialEq.eq in let v = c.args.value in let t = c.args.self.now.tables in let at_once = c.if-can_place_at_once.true in
-    let none = absent eq g.met.T.Eq.laws v t.newer c.args.self.now.entries (c.can_place_at_once.ensures.entries at_once) apart in
+    let none = absent eq g.met.T.Eq.laws v t.newer c.args.self.now.entries (c.can_place_at_once.ensures.entries at_once) (apart g (goal.at.returns-then-can_place_at_once-clause-added g c).In-Absent) in
     adds_stored eq g.met.T.Eq.laws v c.args.n c.args.self.now c.place_absent.new.self none
     (stores_arrived eq g.met.T.Eq.laws v c.args.n c.args.self.now c.place_absent.new.self none c.place_absent.ensures.entries
     (arrives_from t t c.place_absent.new.self.tables v c.args.n (ready_alone t (c.can_place_at_once.ensures.none_waits at_once) (c.can_place_at_once.ensures.room at_once)) c.place_absent.ensures.placed c.place_absent.ensures.waiting c.place_absent.ensures.built))

@@ -7,6 +7,7 @@ use Rattle.hashbag_table.specs.Tables.{most_used, IsLeast}
 use Rattle.hashbag_table.proofs.CarryLemmas.{IsCounted-nil}
 use Rattle.hashbag_table.proofs.CloneLemmas.{IsCopy, next_is_new, next_is_some, copied, clones_reordered}
 use Rattle.hashbag_table.proofs.PackedLemmas.{IsFilled, filled_first, filled_next, filled_packed}
+use Rattle.hashbag_table.proofs.table.Table.clone_in.Goals.{In-Some}
 use Rattle.hashbag_table.proofs.table.Table.clone_in.Goals as goal
 
 pub loop-value-init : goal.loop-value-init
@@ -22,24 +23,26 @@ loop-value-init g c =
       subst (IsCounted g.T.PartialEq.eq) (sym none) (IsCounted-nil g.row.T.Denot g.T.PartialEq.eq),
     )
 
+-- the entries that were cloned, the next one, and those to come are all
+order_next : (g : _) (c : In-Some g) → IsPermutation c.args.self.now.entries (c.loop-value.invariant.0.0 ++ (c.in-Some.value.now, c.in-Some.count) ∷ c.next.new.self)
+order_next g c = subst (λ (l : List (g.row.T.Denot × ℕ)). IsPermutation c.args.self.now.entries (c.loop-value.invariant.0.0 ++ l)) c.in-Some.ensures.steps c.loop-value.invariant.0.1
+
 pub insert_new-requires-clause-absent : goal.insert_new-requires-clause-absent
 insert_new-requires-clause-absent g c =
-    let so_far = c.loop-value.invariant.0 in
-    let order = subst (λ (l : List (g.row.T.Denot × ℕ)). IsPermutation c.args.self.now.entries (so_far.0 ++ l)) c.in-Some.ensures.steps so_far.1 in
-    next_is_new g.met.T.Eq.laws g.T.Clone.is_clone c.args.self.now.entries so_far.0 c.next.new.self c.loop-value.table.entries (c.in-Some.value.now, c.in-Some.count) c.in_ok-clone.clone
-    c.requires.equal c.walk-value-items.ensures.counted.distinct order so_far.2 c.in_ok-clone.ensures.cases
+    let order = order_next g (goal.at.insert_new-requires-clause-absent g c).In-Some in
+    next_is_new g.met.T.Eq.laws g.T.Clone.is_clone c.args.self.now.entries c.loop-value.invariant.0.0 c.next.new.self c.loop-value.table.entries (c.in-Some.value.now, c.in-Some.count) c.in_ok-clone.clone
+    c.requires.equal c.walk-value-items.ensures.counted.distinct order c.loop-value.invariant.0.2 c.in_ok-clone.ensures.cases
 
 pub insert_new-requires-clause-positive : goal.insert_new-requires-clause-positive
 insert_new-requires-clause-positive g c =
-    let so_far = c.loop-value.invariant.0 in
-    let order = subst (λ (l : List (g.row.T.Denot × ℕ)). IsPermutation c.args.self.now.entries (so_far.0 ++ l)) c.in-Some.ensures.steps so_far.1 in
-    next_is_some c.args.self.now.entries so_far.0 c.next.new.self (c.in-Some.value.now, c.in-Some.count) c.walk-value-items.ensures.counted.positive order
+    let order = order_next g (goal.at.insert_new-requires-clause-positive g c).In-Some in
+    next_is_some c.args.self.now.entries c.loop-value.invariant.0.0 c.next.new.self (c.in-Some.value.now, c.in-Some.count) c.walk-value-items.ensures.counted.positive order
 
 pub loop-value-preserved : goal.loop-value-preserved
 loop-value-preserved g c =
     let so_far = c.loop-value.invariant.0 in
     let entry : g.row.T.Denot × ℕ = (c.in-Some.value.now, c.in-Some.count) in
-    let order = subst (λ (l : List (g.row.T.Denot × ℕ)). IsPermutation c.args.self.now.entries (so_far.0 ++ l)) c.in-Some.ensures.steps so_far.1 in
+    let order = order_next g (goal.at.loop-value-preserved g c).In-Some in
     let absent = next_is_new g.met.T.Eq.laws g.T.Clone.is_clone c.args.self.now.entries so_far.0 c.next.new.self c.loop-value.table.entries entry c.in_ok-clone.clone
     c.requires.equal c.walk-value-items.ensures.counted.distinct order so_far.2 c.in_ok-clone.ensures.cases in
     let all = length_permutation _ _ order in
@@ -59,9 +62,8 @@ loop-value-preserved g c =
 
 pub returns-clause-clones : goal.returns-clause-clones
 returns-clause-clones g c =
-    let so_far = c.loop-value.invariant.0 in
-    let order = subst (λ (l : List (g.row.T.Denot × ℕ)). IsPermutation c.args.self.now.entries l) (ap (λ (l : List (g.row.T.Denot × ℕ)). so_far.0 ++ l) c.in-None.ensures.steps.0 ∙ append-nil so_far.0) so_far.1 in
-    clones_reordered (IsCopy g.met.T.Eq.laws g.T.Clone.is_clone) c.args.self.now.entries so_far.0 c.loop-value.table.entries order so_far.2
+    let order = subst (λ (l : List (g.row.T.Denot × ℕ)). IsPermutation c.args.self.now.entries l) (ap (λ (l : List (g.row.T.Denot × ℕ)). c.loop-value.invariant.0.0 ++ l) c.in-None.ensures.steps.0 ∙ append-nil c.loop-value.invariant.0.0) c.loop-value.invariant.0.1 in
+    clones_reordered (IsCopy g.met.T.Eq.laws g.T.Clone.is_clone) c.args.self.now.entries c.loop-value.invariant.0.0 c.loop-value.table.entries order c.loop-value.invariant.0.2
 
 pub returns-clause-hasher : goal.returns-clause-hasher
 returns-clause-hasher g c =
@@ -70,15 +72,12 @@ returns-clause-hasher g c =
 
 pub returns-clause-least : goal.returns-clause-least
 returns-clause-least g c =
-    let so_far = c.loop-value.invariant.0 in
-    subst (IsLeast 0 (length c.args.self.now.entries)) (sym so_far.3.slots) (subst (λ n. IsLeast 0 n (length c.in_ok-table.table.tables.newer)) c.set_len.ensures.len c.in_ok-table.ensures.least)
+    subst (IsLeast 0 (length c.args.self.now.entries)) (sym c.loop-value.invariant.0.3.slots) (subst (λ n. IsLeast 0 n (length c.in_ok-table.table.tables.newer)) c.set_len.ensures.len c.in_ok-table.ensures.least)
 
 pub returns-clause-packed : goal.returns-clause-packed
 returns-clause-packed g c =
-    let so_far = c.loop-value.invariant.0 in
-    filled_packed c.loop-value.table.tables c.in_ok-table.table.tables (length so_far.0) so_far.3
+    filled_packed c.loop-value.table.tables c.in_ok-table.table.tables (length c.loop-value.invariant.0.0) c.loop-value.invariant.0.3
 
 pub returns-clause-built : goal.returns-clause-built
 returns-clause-built g c =
-    let so_far = c.loop-value.invariant.0 in
-    so_far.3.built ∙ c.in_ok-table.ensures.built ∙ sym so_far.3.slots
+    c.loop-value.invariant.0.3.built ∙ c.in_ok-table.ensures.built ∙ sym c.loop-value.invariant.0.3.slots

@@ -1,11 +1,12 @@
-use Rattle.std.proofs.Common.{◌≡◌, refl, Some, None, sym, ◌∙◌}
+use Rattle.std.proofs.Common.{◌≡◌, ℕ, refl, Some, None, sym, ◌∙◌}
 use Rattle.std.specs.Map.{lookup_entry}
-use Rattle.hashbag_table.specs.Entries.{count_of}
-use Rattle.hashbag_table.specs.Tables.{Rewrites}
+use Rattle.hashbag_table.specs.Tables.{Rewrites, slot_in}
 use Rattle.hashbag_table.proofs.SpotLemmas.{held_entry, count_present, count_absent, put_swapped}
+use Rattle.hashbag_slots.specs.Slots.{slot_entry}
 use Rattle.hashbag_slots.specs.Hashing.{hash_under}
 use Rattle.hashbag_slots.specs.declared.slots.Slot.TheVariants.{Live}
 use Rattle.hashbag_table.proofs.RoomKeptLemmas.{kept_Rewrites, keeps_more}
+use Rattle.hashbag_table.proofs.table.Table.put_instance.Goals.{In-Some}
 use Rattle.hashbag_table.proofs.table.Table.put_instance.Goals as goal
 
 pub spot_of-requires : goal.spot_of-requires
@@ -16,20 +17,19 @@ pub insert_hashed-requires-clause-hashed : goal.insert_hashed-requires-clause-ha
 unfolding hash_under
 insert_hashed-requires-clause-hashed g c = c.hash-hash.ensures
 
+-- the entry at the spot
+held_at : (g : _) (c : In-Some g) → (e : g.row.T.Denot × ℕ) × (slot_entry (slot_in c.args.self.now.tables c.in-Some.spot) ≡ Some e)
+held_at g c = held_entry (g.T.PartialEq.eq c.args.value) c.args.self.now.tables c.in-Some.spot c.in-Some.ensures.held
+
 pub returns-in-Some-clause-before : goal.returns-in-Some-clause-before
 returns-in-Some-clause-before g c =
-    let eq = g.T.PartialEq.eq in let v = c.args.value in let es = c.args.self.now.entries in
-    let held = held_entry (eq v) c.args.self.now.tables c.in-Some.spot c.in-Some.ensures.held in
-    let e = held.0 in
-    let found : lookup_entry (eq v) es ≡ Some e = sym c.in-Some.ensures.map ∙ held.1 in
-    let count : c.count_at-before.result ≡ e.1 = c.count_at-before.ensures.count e held.1 in
-    let before : c.count_at-before.result ≡ count_of eq v es = count ∙ sym (count_present eq v es e found) in
-    before
+    let held = held_at g (goal.at.returns-in-Some-clause-before g c).In-Some in
+    c.count_at-before.ensures.count held.0 held.1 ∙ sym (count_present g.T.PartialEq.eq c.args.value c.args.self.now.entries held.0 (sym c.in-Some.ensures.map ∙ held.1))
 
 pub returns-in-Some-clause-stored : goal.returns-in-Some-clause-stored
 returns-in-Some-clause-stored g c =
     let eq = g.T.PartialEq.eq in let v = c.args.value in let es = c.args.self.now.entries in
-    let held = held_entry (eq v) c.args.self.now.tables c.in-Some.spot c.in-Some.ensures.held in
+    let held = held_at g (goal.at.returns-in-Some-clause-stored g c).In-Some in
     let e = held.0 in
     let found : lookup_entry (eq v) es ≡ Some e = sym c.in-Some.ensures.map ∙ held.1 in
     let slot : Rewrites (eq v) (λ _. Live v 1) c.args.self.now.tables c.put_spot-former.new.self.tables = record { spot = c.in-Some.spot; held = c.in-Some.ensures.held; after = c.put_spot-former.ensures.after } in

@@ -1,24 +1,30 @@
-use Rattle.std.proofs.Common.{◌≡◌, ◌-◌, ◌∷◌, [], Some, refl, sym, ap, ◌∙◌, subst, arith}
+use Rattle.std.proofs.Common.{◌≡◌, ℕ, ◌-◌, ◌∷◌, [], Some, refl, sym, ap, ◌∙◌, subst, arith}
 use Rattle.hashbag_slots.specs.Slots.{slot_entry, recounted}
 use Rattle.hashbag_slots.specs.declared.slots.Slot.TheVariants.{Removed}
 use Rattle.hashbag_table.specs.Named.{named_entry}
-use Rattle.hashbag_table.specs.Tables.{Swaps}
+use Rattle.hashbag_table.specs.Tables.{Swaps, slot_in}
 use Rattle.hashbag_table.proofs.KeyLemmas.{named_present, named_absent, named_found, named_positive}
 use Rattle.hashbag_table.proofs.RoomKeptLemmas.{kept_Rewrites}
 use Rattle.hashbag_table.proofs.SpotLemmas.{held_entry, fewer_swapped, gone_swapped, fewer_absent}
+use Rattle.hashbag_table.proofs.table.Table.take.Goals.{In-Some, After-take_spot-former}
 use Rattle.hashbag_table.proofs.table.Table.take.Goals as goal
+
+-- the entry at the spot, which is that of the named value
+held_at : (g : _) (c : In-Some g) → (e : g.row.T.Denot × ℕ) × (slot_entry (slot_in c.args.self.now.tables c.in-Some.spot) ≡ Some e)
+held_at g c = held_entry (g.Q.Key.names c.args.key) c.args.self.now.tables c.in-Some.spot c.in-Some.ensures.held
+
+found_at : (g : _) (c : After-take_spot-former g) → named_entry (g.Q.Key.names c.args.key) c.args.self.now.entries ≡ Some (c.take_spot-former.result.0, c.take_spot-former.result.1)
+found_at g c = sym c.in-Some.ensures.map ∙ ap slot_entry c.take_spot-former.ensures.taken
 
 pub returns-then-n-before-clause-before : goal.returns-then-n-before-clause-before
 returns-then-n-before-clause-before g c =
-    let names = g.Q.Key.names c.args.key in let es = c.args.self.now.entries in
-    let held = held_entry names c.args.self.now.tables c.in-Some.spot c.in-Some.ensures.held in
+    let names = g.Q.Key.names c.args.key in let es = c.args.self.now.entries in let held = held_at g (goal.at.returns-then-n-before-clause-before g c).In-Some in
     let found : named_entry names es ≡ Some held.0 = sym c.in-Some.ensures.map ∙ held.1 in
     c.count_at-before.ensures.count held.0 held.1 ∙ sym (named_present names es held.0 found)
 
 pub returns-then-n-before-clause-taken : goal.returns-then-n-before-clause-taken
 returns-then-n-before-clause-taken g c v does =
-    let eq = g.T.PartialEq.eq in let names = g.Q.Key.names c.args.key in let es = c.args.self.now.entries in
-    let held = held_entry names c.args.self.now.tables c.in-Some.spot c.in-Some.ensures.held in
+    let eq = g.T.PartialEq.eq in let names = g.Q.Key.names c.args.key in let es = c.args.self.now.entries in let held = held_at g (goal.at.returns-then-n-before-clause-taken g c).In-Some in
     let e = held.0 in
     let found = sym (named_found eq g.met.T.Eq.laws names (g.met.Q.Key.names_one c.args.key) v does es) ∙ sym c.in-Some.ensures.map ∙ held.1 in
     let count : c.count_at-before.result ≡ e.1 = c.count_at-before.ensures.count e held.1 in
@@ -32,9 +38,8 @@ returns-then-n-before-clause-taken g c v does =
 
 pub returns-in-Some-clause-before : goal.returns-in-Some-clause-before
 returns-in-Some-clause-before g c =
-    let names = g.Q.Key.names c.args.key in let es = c.args.self.now.entries in let r = c.take_spot-former.result in
-    let found : named_entry names es ≡ Some (r.0, r.1) = sym c.in-Some.ensures.map ∙ ap slot_entry c.take_spot-former.ensures.taken in
-    sym (named_present names es (r.0, r.1) found)
+    let r = c.take_spot-former.result in
+    sym (named_present (g.Q.Key.names c.args.key) c.args.self.now.entries (r.0, r.1) (found_at g (goal.at.returns-in-Some-clause-before g c).After-take_spot-former))
 
 pub returns-in-Some-clause-taken : goal.returns-in-Some-clause-taken
 returns-in-Some-clause-taken g c v does =
@@ -51,9 +56,8 @@ returns-in-Some-clause-taken g c v does =
 
 pub returns-in-Some-clause-none : goal.returns-in-Some-clause-none
 returns-in-Some-clause-none g c none =
-    let names = g.Q.Key.names c.args.key in let es = c.args.self.now.entries in let r = c.take_spot-former.result in
-    let found : named_entry names es ≡ Some (r.0, r.1) = sym c.in-Some.ensures.map ∙ ap slot_entry c.take_spot-former.ensures.taken in
-    let pos = named_positive g.T.PartialEq.eq g.met.T.Eq.laws names (g.met.Q.Key.names_one c.args.key) es (r.0, r.1) c.in-Some.ensures.counted found in absurd (omega (arith, pos, none))
+    let r = c.take_spot-former.result in let found = found_at g (goal.at.returns-in-Some-clause-none g c).After-take_spot-former in
+    let pos = named_positive g.T.PartialEq.eq g.met.T.Eq.laws (g.Q.Key.names c.args.key) (g.met.Q.Key.names_one c.args.key) c.args.self.now.entries (r.0, r.1) c.in-Some.ensures.counted found in absurd (omega (arith, pos, none))
 
 pub returns-clause-before : goal.returns-clause-before
 returns-clause-before g c = sym (named_absent (g.Q.Key.names c.args.key) c.args.self.now.entries (sym c.in_default.ensures.map))

@@ -6,9 +6,7 @@ use Rattle.hashbag_core.proofs.bag.equality.HashBagPartialEq.eq.Goals as goal
 
 pub returns-then-self-other : goal.returns-then-self-other
 returns-then-self-other g c =
-    let es = c.self.inside.table.entries in
-    let fs = c.other.inside.table.entries in
-    rw (← c.self.view_is, ← c.other.view_is) (unequal_totals g.met.T.Eq.laws es fs c.self.invariant.counted c.other.invariant.counted
+    rw (← c.self.view_is, ← c.other.view_is) (unequal_totals g.met.T.Eq.laws _ _ c.self.invariant.counted c.other.invariant.counted
     (λ long. c.if-self-other.true (c.self.invariant.sum ∙ long ∙ sym c.other.invariant.sum)))
 
 pub returns-then-contains-count : goal.returns-then-contains-count

@@ -1,4 +1,4 @@
--- `from_row` takes the block back from places that hold nothing. Assumes `Logic`.
+-- `from_memory` takes the block back from places that hold nothing. Assumes `Logic`.
 use Rattle.std.proofs.Common.{◌≡◌, ℕ, ◌<◌, false, Bool, List, [], ◌∷◌, ◌++◌, refl, sym, ◌∙◌, subst}
 use lib.ListN.{get_or}
 use mir.Syntax.{Args, Fn, ty_array, a_type, given as dict_at}
@@ -35,13 +35,13 @@ use Rattle.std_alloc.proofs.vec.Blocks.{el, all}
 use Rattle.std_alloc.proofs.vec.Spares.{Row, Row-seen, parts_typed, Into, at_into, Into-goes, Into-gives}
 use Rattle.core.proofs.slots.Opens.{row_had, row_made}
 use Rattle.hashbag_slots.proofs.Blocks.{block_made}
-use Rattle.hashbag_slots.specs.contracts.block.Block.from_row.{ended, clauses}
-use Rattle.hashbag_slots.specs.contracts.block.Block.from_row.Key.{name as #self}
-use Rattle.hashbag_slots.proofs.block.Block.from_row.Statement.{statement}
-use Rattle.hashbag_slots.proofs.block.Block.from_row.Code as code
+use Rattle.hashbag_slots.specs.contracts.block.Block.from_memory.{ended, clauses}
+use Rattle.hashbag_slots.specs.contracts.block.Block.from_memory.Key.{name as #self}
+use Rattle.hashbag_slots.proofs.block.Block.from_memory.Statement.{statement}
+use Rattle.hashbag_slots.proofs.block.Block.from_memory.Code as code
 
-pub from_row_spec : {M : Type 1} → statement M
-from_row_spec 𝓤 𝓛 𝓜 𝓡 wired T L =
+pub from_memory_spec : {M : Type 1} → statement M
+from_memory_spec 𝓤 𝓛 𝓜 𝓡 wired T L =
     let H = 𝓛.H in let 𝓣 = tables 𝓤 H 𝓜 𝓡 𝓡.env in let R : RattleType = param 0 T in
     let E : El = record { row = T; laws = L; al = record { row = T; laws = L; g = record { dealloc_token = λ _ _ _. ftrue }; d = dict_at 0; drops = dict_at 0 } } in
     let En = ended T in let c = clauses T 𝓛 𝓜.mem 𝓡.returns in

@@ -1,4 +1,4 @@
--- `into_row` makes empty places of the block, each with the value that is lent. Assumes `Logic`.
+-- `into_memory` makes empty places of the block, each with the value that is lent. Assumes `Logic`.
 use Rattle.std.proofs.Common.{◌≡◌, ℕ, false, Bool, List, [], ◌∷◌, ◌++◌, replicate, refl, sym, ◌∙◌, subst}
 use lib.ListN.{length-replicate}
 use mir.Syntax.{Args, Fn, ty_array, a_type, given as dict_at}
@@ -33,13 +33,13 @@ use Rattle.std_alloc.proofs.VecSteps.El.{El}
 use Rattle.std_alloc.proofs.vec.Blocks.{el, all}
 use Rattle.std_alloc.proofs.vec.Spares.{Row, From, at_from, Made, from_goes, from_gives, row_Typed}
 use Rattle.hashbag_slots.proofs.Blocks.{Rr, block_had}
-use Rattle.hashbag_slots.specs.contracts.block.Block.into_row.{ended, clauses}
-use Rattle.hashbag_slots.specs.contracts.block.Block.into_row.Key.{name as #self}
-use Rattle.hashbag_slots.proofs.block.Block.into_row.Statement.{statement}
-use Rattle.hashbag_slots.proofs.block.Block.into_row.Code as code
+use Rattle.hashbag_slots.specs.contracts.block.Block.into_memory.{ended, clauses}
+use Rattle.hashbag_slots.specs.contracts.block.Block.into_memory.Key.{name as #self}
+use Rattle.hashbag_slots.proofs.block.Block.into_memory.Statement.{statement}
+use Rattle.hashbag_slots.proofs.block.Block.into_memory.Code as code
 
-pub into_row_spec : {M : Type 1} → statement M
-into_row_spec 𝓤 𝓛 𝓜 𝓡 wired T L =
+pub into_memory_spec : {M : Type 1} → statement M
+into_memory_spec 𝓤 𝓛 𝓜 𝓡 wired T L =
     let H = 𝓛.H in let 𝓣 = tables 𝓤 H 𝓜 𝓡 𝓡.env in let R : RattleType = param 0 T in
     let E : El = record { row = T; laws = L; al = record { row = T; laws = L; g = record { dealloc_token = λ _ _ _. ftrue }; d = dict_at 0; drops = dict_at 0 } } in
     let En = ended T in let c = clauses T 𝓛 𝓜.mem 𝓡.returns in
