@@ -2,7 +2,7 @@
 use Rattle.std.proofs.Common.{◌≡◌, ◌<◌, ◌≤◌, ℕ, Bool, Bor, List, [], ◌∷◌, ◌++◌, length, Option, Some, None, refl, sym, ◌∙◌, ap, subst, append_assoc, arith}
 use Rattle.std.proofs.lemmas.List.{length-append}
 use Rattle.std.specs.Prelude.{option_copied, option_map}
-use Rattle.hashbag_csv.specs.BadLines.{AreBadLines, AreBadUnder, AreSaidOf, IsSaidOf, errors_in}
+use Rattle.hashbag_csv.specs.BadLines.{AreBadLines, AreBadUnder, AreChecks, IsCheckOf, errors_in}
 use Rattle.hashbag_csv.specs.Lines.{place_of}
 use Rattle.hashbag_csv.specs.Readers.{Record}
 use Rattle.hashbag_csv.specs.declared.fault.Fault.{Fault}
@@ -14,7 +14,7 @@ use Rattle.hashbag_csv.specs.declared.scale.Scale.{Scale}
 
 -- one more record
 pub said_more : (says : Record → Option SheetError → Type 0) (rs : List Record) (vs : List (Option SheetError)) (r : Record) (v : Option SheetError)
-    → AreSaidOf says rs vs → says r v → AreSaidOf says (rs ++ r ∷ []) (vs ++ v ∷ [])
+    → AreChecks says rs vs → says r v → AreChecks says (rs ++ r ∷ []) (vs ++ v ∷ [])
 said_more says [] [] r v before here = (here, tt)
 said_more says [] (w ∷ vs) r v before here = absurd before
 said_more says (q ∷ rs) [] r v before here = absurd before
@@ -46,9 +46,9 @@ errors_fit errors errors' v most is below =
 
 -- what is said, by a header that has as many fields
 pub said_by : (scale : Scale) (form : NumberForm) (number : Option ℕ) (short short' : Bool) (width width' : ℕ) (r : Record) (v : Option SheetError) → short' ≡ short → width' ≡ width
-    → IsSaidOf scale form number short' width' r v → IsSaidOf scale form number short width r v
+    → IsCheckOf scale form number short' width' r v → IsCheckOf scale form number short width r v
 said_by scale form number short short' width width' r v same_short same_width is =
-    subst (λ (b : Bool). IsSaidOf scale form number b width r v) same_short (subst (λ (w : ℕ). IsSaidOf scale form number short' w r v) same_width is)
+    subst (λ (b : Bool). IsCheckOf scale form number b width r v) same_short (subst (λ (w : ℕ). IsCheckOf scale form number short' w r v) same_width is)
 
 pub not_memory : (line : ℕ) (fault : Fault) → ¬ (Line line fault ≡ Memory)
 not_memory line fault is = cc is
@@ -59,7 +59,7 @@ at_equal says f f' n n' s s' w w' a b c d h = subst (λ (x : NumberForm). says x
 
 -- the bad lines below the header
 pub under_header : (scale : Scale) (form : LineForm) (number : Option (List ℕ)) (most : ℕ) (all : List Record) (header : Record) (records : List Record) (errors : List SheetError) → all ≡ header ∷ records
-    → AreBadLines (IsSaidOf scale form.number (option_map (place_of header) number) form.allows_short (length header)) most records errors → AreBadUnder scale form number most all errors
+    → AreBadLines (IsCheckOf scale form.number (option_map (place_of header) number) form.allows_short (length header)) most records errors → AreBadUnder scale form number most all errors
 under_header scale form number most all header records errors is bad = subst (λ (l : List Record). AreBadUnder scale form number most l errors) (sym is) bad
 
 pub map_copied : (f : List ℕ → ℕ) (o : Option (Bor (List ℕ))) → option_map f (option_copied o) ≡ option_map (λ n. f n.now) o

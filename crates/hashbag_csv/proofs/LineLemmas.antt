@@ -1,8 +1,10 @@
 -- Columns and fields by their places.
-use Rattle.std.proofs.Common.{◌≡◌, ◌≢◌, ◌<◌, ℕ, Bool, true, false, List, [], get_or, length, bytes_eq, refl, sym, arith}
+use Rattle.std.proofs.Common.{◌≡◌, ◌≢◌, ◌<◌, ℕ, zero, suc, Bool, true, false, List, [], ◌∷◌, ◌∙◌, ap, get_or, length, bytes_eq, refl, sym, arith}
+use Rattle.std.specs.Prelude.{decimal}
+use Rattle.std.proofs.lemmas.List.{length-append}
 use Rattle.std.proofs.lemmas.List.Sums.{position_or_len_is}
 use Rattle.std.proofs.lemmas.Slice.Eq.{bytes_eq-Decides}
-use Rattle.hashbag_csv.specs.Lines.{place_of}
+use Rattle.hashbag_csv.specs.Lines.{column_numbers, headed, place_of}
 use Rattle.hashbag_csv.specs.Readers.{Record}
 use Rattle.hashbag_csv.specs.Sheets.{IsOnlyAt}
 
@@ -25,3 +27,11 @@ no_place name fields none =
     sym (position_or_len_is (bytes_eq name) fields (length fields) [] (omega arith)
     (λ k less. fails _ (λ yes. none k less (sym ((same (get_or fields k [])).0 yes))))
     (λ low. absurd (omega (arith, low))))
+
+pub numbers_long : (n : ℕ) → length (column_numbers n) ≡ n
+numbers_long zero = refl
+numbers_long (suc n) = let long = length-append (column_numbers n) (decimal (suc n) ∷ []) in let before = numbers_long n in omega (arith, long, before)
+
+-- what stands for the header of records without one
+pub numbered : (records : List Record) (first header : Record) (rest left : List Record) → records ≡ first ∷ rest → header ≡ column_numbers (length first) → records ≡ left → headed true records ≡ header ∷ left
+numbered records first header rest left is numbers same = ap (headed true) is ∙ (λ i. sym numbers i ∷ (sym is ∙ same) i)

@@ -26,7 +26,7 @@ use Rattle.hashbag.proofs.JoinLemmas.{in_walk, count_of_item}
 use Rattle.hashbag.proofs.JsonWriteLemmas.{set_walk_reordered, once_in_walk}
 use Rattle.hashbag.proofs.Laws.{count_added}
 use Rattle.hashbag.proofs.OccurrenceLemmas.{count_rearranged}
-use Rattle.hashbag_csv.specs.Quantities.{numbers, quantity, IsBalance}
+use Rattle.hashbag_csv.specs.Quantities.{number_sum, quantity, IsBalance}
 use Rattle.hashbag_csv.proofs.SortedLemmas.{keys_rise}
 
 module _ {T : Type 0} {eq : T → T → Bool} (laws : IsEquivalence eq) where
@@ -88,10 +88,10 @@ module _ {T : Type 0} {eq : T → T → Bool} (laws : IsEquivalence eq) where
 
   -- a bag that was made of a list is as long as its numbers say, so they fit
   module _ {S I : Type 0} {steps : I → Option (T × ℕ) → I → Type 0} {it : I} {all : List (T × ℕ)} (yields : YieldsList steps (λ e. e) it all) (hasher : S) (bag : Bag T S) (h : InsertsAll eq steps AsItIs it (empty_bag hasher) bag) where
-    pub length_made : length bag.items ≡ numbers all
+    pub length_made : length bag.items ≡ number_sum all
     length_made =
         let long : length bag.items ≡ 0 + sum_by number h.items = longer_by_numbers h number (λ x p is. ap number is) in
-        let came : sum_by number h.items ≡ numbers all = ap (sum_by number) (sym (map-id h.items) ∙ items_that_came h.items h.came yields) in
+        let came : sum_by number h.items ≡ number_sum all = ap (sum_by number) (sym (map-id h.items) ∙ items_that_came h.items h.came yields) in
         omega (arith, long, came)
 
     pub counts_made : (v : T) → count eq v bag.items ≡ quantity eq v all
@@ -101,7 +101,7 @@ module _ {T : Type 0} {eq : T → T → Bool} (laws : IsEquivalence eq) where
         let each = ap (λ (l : List (T × ℕ)). quantity eq v l) came in
         omega (arith, whole, each)
 
-    pub numbers_fit : numbers all ≤ greatest_total
+    pub numbers_fit : number_sum all ≤ greatest_total
     numbers_fit =
         let left = all_added laws h in
         let fits : length bag.items ≤ bag.most = left.bag.fits in

@@ -30,7 +30,7 @@ same_texts x y = pointwise string_eq x.items y.items
 abbrev pub HasLoosely : {A S : Type 0} → (A → Record) → HashMap (Vec (String Global)) (Bor A) S → Type 0
 HasLoosely fields m = (q : Vec (String Global)) → IfSome (get same_texts m q) (λ x. loosely (fields x.now) ≡ map string_bytes q.items)
 
--- if the argument `loose` is `loosely` of the article's fields, a step keeps `HasLoosely` of the map and `AreNear` of the pairs
+-- if `loose` is `loosely` of the article's fields, a step keeps two facts: `HasLoosely` of the map, and `AreNear` of the pairs
 abbrev pub KeepsNear : {A S : Type 0} → (A → Record) → A → Vec (String Global) → HashMap (Vec (String Global)) (Bor A) S → Vec (Bor A × Bor A) → HashMap (Vec (String Global)) (Bor A) S → Vec (Bor A × Bor A) → Type 0
 KeepsNear fields article loose seen pairs seen_after pairs_after =
     HasLoosely fields seen → AreNear fields pairs.items → loosely (fields article) ≡ map string_bytes loose.items

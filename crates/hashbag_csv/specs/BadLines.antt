@@ -1,8 +1,8 @@
 -- The bad lines of a text: records that aren't read as lines.
 use Rattle.std.specs.Prelude.{◌≡◌, ℕ, ◌<◌, ◌≤◌, ◌⊎◌, ◌++◌, Bool, true, false, List, [], ◌∷◌, length, get_or, Option, Some, None, IfSome, option_map, ⊤}
-use Rattle.hashbag_csv.specs.Lines.{place_of}
+use Rattle.hashbag_csv.specs.Lines.{list_in, place_of}
 use Rattle.hashbag_csv.specs.NumberForms.{IsErrorOfField, IsNumberField}
-use Rattle.hashbag_csv.specs.Readers.{Record, records_in}
+use Rattle.hashbag_csv.specs.Readers.{Record}
 use Rattle.hashbag_csv.specs.Sheets.{IsReadError, fits_header}
 use Rattle.hashbag_csv.specs.declared.counts.Reading.{Reading}
 use Rattle.hashbag_csv.specs.declared.fault.Fault.{Fault}
@@ -39,42 +39,42 @@ IsFieldError scale form number r e = IsTextError e ⊎ IsNumberError scale form 
 abbrev pub IsLineError : Scale → NumberForm → Option ℕ → Bool → Record → SheetError → Type 0
 IsLineError scale form number fits r e = IsReadError fits e ⊎ IsFieldError scale form number r e
 
--- what is said of a record below a header with `width` fields: `None` if the record is read as a line, else its error, which isn't `Memory`
-abbrev pub IsSaidOf : Scale → NumberForm → Option ℕ → Bool → ℕ → Record → Option SheetError → Type 0
-IsSaidOf scale form number short width r None = (fits_header short width r ≡ true) × HasNumber scale form number r
-IsSaidOf scale form number short width r (Some (Line line fault)) = IsLineError scale form number (fits_header short width r) r (Line line fault)
-IsSaidOf scale form number short width r (Some Memory) = ⊥
+-- the check of a record below a header with `width` fields: `None` if the record is read as a line, else its error, which isn't `Memory`
+abbrev pub IsCheckOf : Scale → NumberForm → Option ℕ → Bool → ℕ → Record → Option SheetError → Type 0
+IsCheckOf scale form number short width r None = (fits_header short width r ≡ true) × HasNumber scale form number r
+IsCheckOf scale form number short width r (Some (Line line fault)) = IsLineError scale form number (fits_header short width r) r (Line line fault)
+IsCheckOf scale form number short width r (Some Memory) = ⊥
 
--- the list of what is said, one of each record, in order
-abbrev pub AreSaidOf : (Record → Option SheetError → Type 0) → List Record → List (Option SheetError) → Type 0
-AreSaidOf says [] [] = ⊤
-AreSaidOf says [] (v ∷ vs) = ⊥
-AreSaidOf says (r ∷ rs) [] = ⊥
-AreSaidOf says (r ∷ rs) (v ∷ vs) = says r v × AreSaidOf says rs vs
+-- the list of the checks, one of each record, in order
+abbrev pub AreChecks : (Record → Option SheetError → Type 0) → List Record → List (Option SheetError) → Type 0
+AreChecks says [] [] = ⊤
+AreChecks says [] (v ∷ vs) = ⊥
+AreChecks says (r ∷ rs) [] = ⊥
+AreChecks says (r ∷ rs) (v ∷ vs) = says r v × AreChecks says rs vs
 
--- the errors in a list of what is said of records
+-- the errors in a list of checks of records
 abbrev pub errors_in : List (Option SheetError) → List SheetError
 errors_in [] = []
 errors_in (None ∷ vs) = errors_in vs
 errors_in (Some e ∷ vs) = e ∷ errors_in vs
 
--- `errors` are the errors of the bad ones among `records`, in their order: of all, or of the first `most`. The records `read` were read,
--- and `said` is what is said of each; `rest` are the other records
+-- `errors` are the errors of the bad records among `records`, in the order of the records, at most `most`. The records `read` were read, and `said`
+-- has the check of each of them; `rest` are the other records
 pub record AreBadLines (says : Record → Option SheetError → Type 0) (most : ℕ) (records : List Record) (errors : List SheetError) : Type 0 where
   pub read : List Record
   pub rest : List Record
   pub said : List (Option SheetError)
   pub all : records ≡ read ++ rest
-  pub each : AreSaidOf says read said
+  pub each : AreChecks says read said
   pub named : errors ≡ errors_in said
   pub few : length errors ≤ most
   pub ends : length errors < most → rest ≡ []
 
--- the same below a header, which is the first of these records; `number` names the column of numbers
+-- the same for the records after a header, which is the first of these records; `number` names the column of numbers
 abbrev pub AreBadUnder : Scale → LineForm → Option (List ℕ) → ℕ → List Record → List SheetError → Type 0
 AreBadUnder scale form number most [] errors = errors ≡ []
-AreBadUnder scale form number most (header ∷ records) errors = AreBadLines (IsSaidOf scale form.number (option_map (place_of header) number) form.allows_short (length header)) most records errors
+AreBadUnder scale form number most (header ∷ records) errors = AreBadLines (IsCheckOf scale form.number (option_map (place_of header) number) form.allows_short (length header)) most records errors
 
 -- the same for the records of a text
 abbrev pub AreBadLinesOf : Reading → LineForm → Option (List ℕ) → ℕ → List ℕ → List SheetError → Type 0
-AreBadLinesOf reading form number most text errors = AreBadUnder reading.scale form number most (records_in reading.delimiter text) errors
+AreBadLinesOf reading form number most text errors = AreBadUnder reading.scale form number most (list_in reading.delimiter form text) errors

@@ -6,9 +6,9 @@ use Rattle.hashbag_csv.specs.Readers.{Record}
 use Rattle.hashbag_csv.specs.declared.counts.Reading.{Reading}
 use Rattle.hashbag_csv.specs.declared.line_form.LineForm.{LineForm}
 
--- articles are compared as they are, and numbers are written out
+-- the plain form: articles are compared as they are, numbers aren't empty and have no group marks, and the list has a header
 abbrev pub plain_form : LineForm
-plain_form = record { key = record { trim = false; fold = false }; number = record { blank_is_zero = false; group = None }; allows_short = false }
+plain_form = record { key = record { trim = false; fold = false }; number = record { blank_is_zero = false; group = None }; allows_short = false; no_header = false }
 
 -- a line as bytes: its article, and its number
 abbrev pub count_line : String Global × ℕ → Record × ℕ

@@ -11,7 +11,7 @@ most_decimals = 9
 abbrev pub ArePartsOf : ℕ → List ℕ → List ℕ → Type 0
 ArePartsOf D whole part = IsNumeral 10 whole × IsNumeral 10 part × (length part ≤ D)
 
--- how many units of 10^-D a whole part and the decimals after it are
+-- the number of units of 10^-D of a whole part and the decimals after it
 abbrev pub units_of : ℕ → List ℕ → List ℕ → ℕ
 units_of D whole part = digits_value 10 whole * 10 ^ D + digits_value 10 part * 10 ^ (D - length part)
 
@@ -27,7 +27,7 @@ part_of mark text = after_first (λ c. c == mark) text
 abbrev pub IsDecimal : ℕ → ℕ → List ℕ → Type 0
 IsDecimal mark D text = IsNumeral 10 text ⊎ ((text ≡ whole_of mark text ++ mark ∷ part_of mark text) × ArePartsOf D (whole_of mark text) (part_of mark text))
 
--- how many units of 10^-D a text is: its part before the first mark, and the decimals after it
+-- the number of units of 10^-D of a text: of its part before the first mark, and of the decimals after the mark
 abbrev pub units : ℕ → ℕ → List ℕ → ℕ
 units mark D text = units_of D (whole_of mark text) (part_of mark text)
 

@@ -7,7 +7,7 @@ use Rattle.std.specs.Char.Escape.{escape_default}
 abbrev pub char_shown : ℕ → List ℕ
 char_shown c = if is_control c then escape_default c else c ∷ []
 
--- the bytes of that
+-- the bytes of a character as it is shown
 abbrev pub char_text : ℕ → List ℕ
 char_text c = encode_utf8_all (char_shown c)
 

@@ -19,7 +19,7 @@ next_line : escaped_text (194 ∷ 133 ∷ []) ≡ codes "\\u{85}"
 unfolding chars encode
 next_line = refl
 
--- sixty characters are shown, and of more the first sixty
+-- sixty characters are all shown; of more characters, only the first sixty are
 sixty : shown_text (replicate 60 97) ≡ replicate 60 97
 unfolding chars encode
 sixty = refl

@@ -23,11 +23,11 @@ abbrev pub is_grouped : ℕ → Bool → List ℕ → Bool
 is_grouped mark after [] = after
 is_grouped mark after (c ∷ cs) = if is_ascii_digit c then is_grouped mark true cs else (if after && (c == mark) then is_grouped mark false cs else false)
 
--- a number with decimals behind this mark, and the other one between groups of the digits before it
+-- the text is digits, `mark` and decimals; single marks `other` may be between the digits before `mark`
 unfoldable pub HasGroups : ℕ → ℕ → List ℕ → Type 0
 HasGroups mark other text = HasMark mark text × IsTrue (is_grouped other false (whole_of mark text)) × IsNumeral 10 (part_of mark text)
 
--- a number with decimals behind a point (46), perhaps with commas (44) between groups; or the other way round
+-- a number with decimals after a point (46), perhaps with commas (44) between groups; or with the two marks swapped
 unfoldable pub IsFraction : List ℕ → Type 0
 IsFraction text = HasGroups 46 44 text ⊎ HasGroups 44 46 text
 
@@ -39,15 +39,15 @@ IsFaultOf mark D most text (TooManyDecimals decimals field) = (decimals ≡ D) �
 IsFaultOf mark D most text (PastMost greatest field) = IsDecimal mark D text × (most < units mark D text) × IsDecimal mark D (string_bytes greatest) × (units mark D (string_bytes greatest) ≡ most)
 IsFaultOf mark D most text _ = ⊥
 
--- the error of such a text in this line; an allocation may fail instead
+-- the error, in this line, of a text that isn't such a number; or `Memory`
 abbrev pub IsErrorOf : ℕ → ℕ → ℕ → ℕ → List ℕ → SheetError → Type 0
 IsErrorOf mark D most line text (Line at fault) = (at ≡ line) × IsFaultOf mark D most text fault
 IsErrorOf mark D most line text Memory = ⊤
 
--- a text is cut at its first mark, into what is before and after it; or it has no mark
+-- `cut` has the text before the first mark and the text after it; `None` if the text has no mark
 abbrev pub IsCutAtMark : ℕ → List ℕ → Option (Bor (List ℕ) × Bor (List ℕ)) → Type 0
 IsCutAtMark mark text cut = MatchOption cut (¬ (HasMark mark text)) (λ x. HasMark mark text × (x.0.now ≡ whole_of mark text) × (x.1.now ≡ part_of mark text))
 
--- how many digits a text that is digits, the mark, and digits, has after the mark; or it is another text
+-- `decimals` is the number of digits after the mark, if the text is digits, the mark and digits; `None` for any other text
 abbrev pub IsNumberOfDecimals : ℕ → List ℕ → Option ℕ → Type 0
 IsNumberOfDecimals mark text decimals = MatchOption decimals (¬ (HasParts mark text)) (λ n. HasParts mark text × (n ≡ length (part_of mark text)))

@@ -24,10 +24,10 @@ trimmed text = end_trimmed (start_trimmed text)
 abbrev pub folded : List ℕ → List ℕ
 folded text = encode_utf8_all (default_case_fold (chars text))
 
--- a text, trimmed if that is asked for
+-- a text, trimmed if `trim` is true
 abbrev pub trimmed_if : Bool → List ℕ → List ℕ
 trimmed_if trim text = if trim then trimmed text else text
 
--- a field in this form: trimmed, and then folded, each if that is asked for
+-- a field in this form: trimmed if `form.trim`, and then folded if `form.fold`
 abbrev pub field_in : KeyForm → List ℕ → List ℕ
 field_in form field = let text = trimmed_if form.trim field in (if form.fold then folded text else text)

@@ -1,7 +1,7 @@
 -- The columns of a line, and a line that was read.
 use Rattle.std.specs.Prelude.{◌≡◌, ℕ, List, [], ◌∷◌, map, Option, MatchOption, option_map}
 use Rattle.std.specs.Borrow.{Bor}
-use Rattle.hashbag_csv.specs.BadLines.{AreBadLines, HasNumber, IsLineError, IsSaidOf}
+use Rattle.hashbag_csv.specs.BadLines.{AreBadLines, HasNumber, IsLineError, IsCheckOf}
 use Rattle.hashbag_csv.specs.Lines.{fields_at, line_of, place_of}
 use Rattle.hashbag_csv.specs.Readers.{Record}
 use Rattle.hashbag_csv.specs.Sheets.{ReadsOne, fits_sheet, is_short_allowed, left, place, read_last, width_of}
@@ -62,13 +62,13 @@ abbrev pub IsLineErrorBy : Scale → LineColumns → Sheet → Sheet → SheetEr
 IsLineErrorBy scale c old new e = IsLineError scale (form_of c).number (number_place c) (fits_sheet old (read_last new)) (read_last new) e
 
 -- `None` if a record is read as a line with these columns, else its error
-abbrev pub IsCheckOf : Scale → LineColumns → Sheet → Record → Option SheetError → Type 0
-IsCheckOf scale c sheet = IsSaidOf scale (form_of c).number (number_place c) (is_short_allowed sheet) (width_of sheet)
+abbrev pub IsLineCheck : Scale → LineColumns → Sheet → Record → Option SheetError → Type 0
+IsLineCheck scale c sheet = IsCheckOf scale (form_of c).number (number_place c) (is_short_allowed sheet) (width_of sheet)
 
--- `errors` are the errors of the bad ones among the records that aren't read: of all, or of the first `most`
+-- `errors` are the errors of the bad records among the records that aren't read, at most `most`
 abbrev pub AreBadLeft : Scale → LineColumns → ℕ → Sheet → List SheetError → Type 0
-AreBadLeft scale c most sheet errors = AreBadLines (IsCheckOf scale c sheet) most (left sheet) errors
+AreBadLeft scale c most sheet errors = AreBadLines (IsLineCheck scale c sheet) most (left sheet) errors
 
--- the next record was read, and `next` is what `IsCheckOf` says of it; or no record was left, and `next` is `None`
-abbrev pub SaysOfNext : Scale → LineColumns → Sheet → Option (Option SheetError) → Sheet → Type 0
-SaysOfNext scale c old next new = MatchOption next (left old ≡ []) (λ said. ReadsOne old new × IsCheckOf scale c old (read_last new) said)
+-- the next record was read, and `next` is its check; or no record was left, and `next` is `None`
+abbrev pub ChecksNext : Scale → LineColumns → Sheet → Option (Option SheetError) → Sheet → Type 0
+ChecksNext scale c old next new = MatchOption next (left old ≡ []) (λ said. ReadsOne old new × IsLineCheck scale c old (read_last new) said)

@@ -1,5 +1,5 @@
 -- The lines of a CSV text under its header: an article, which is the fields of the key columns, and a number.
-use Rattle.std.specs.Prelude.{ℕ, ◌^◌, ◌==◌, ◌&&◌, if◌then◌else◌, List, [], ◌∷◌, length, map, get_or, bytes_eq, Option, Some, None, option_map}
+use Rattle.std.specs.Prelude.{ℕ, zero, suc, ◌^◌, ◌==◌, ◌&&◌, Bool, true, false, if◌then◌else◌, List, [], ◌∷◌, ◌++◌, length, map, get_or, bytes_eq, Option, Some, None, option_map, decimal}
 use Rattle.std.specs.List.{position_or_len}
 use Rattle.hashbag_csv.specs.Decimals.{units}
 use Rattle.hashbag_csv.specs.Groups.{ungrouped_if}
@@ -7,6 +7,7 @@ use Rattle.hashbag_csv.specs.KeyForms.{field_in}
 use Rattle.hashbag_csv.specs.Marks.{code_of}
 use Rattle.hashbag_csv.specs.Readers.{Record, records_in}
 use Rattle.hashbag_csv.specs.declared.counts.Reading.{Reading}
+use Rattle.hashbag_csv.specs.declared.delimiter.Delimiter.{Delimiter}
 use Rattle.hashbag_csv.specs.declared.key_form.KeyForm.{KeyForm}
 use Rattle.hashbag_csv.specs.declared.line_form.LineForm.{LineForm}
 use Rattle.hashbag_csv.specs.declared.number_form.NumberForm.{NumberForm}
@@ -42,6 +43,21 @@ abbrev pub lines_under : Scale → LineForm → List (List ℕ) → Option (List
 lines_under scale form keys number [] = []
 lines_under scale form keys number (header ∷ records) = map (line_of scale form (map (place_of header) keys) (option_map (place_of header) number)) records
 
+-- the numbers of `n` columns, from 1. They replace the header of a list that has none
+abbrev pub column_numbers : ℕ → Record
+column_numbers zero = []
+column_numbers (suc n) = column_numbers n ++ decimal (suc n) ∷ []
+
+-- the records of a list, the header first. The flag `true` says that there is no header; then the numbers of the first record's columns come first
+abbrev pub headed : Bool → List Record → List Record
+headed false records = records
+headed true [] = []
+headed true (first ∷ records) = column_numbers (length first) ∷ first ∷ records
+
+-- the records of a list, the header first
+abbrev pub list_in : Delimiter → LineForm → List ℕ → List Record
+list_in delimiter form text = headed form.no_header (records_in delimiter text)
+
 -- the lines of a text; `keys` and `number` name its columns; without `number`, each line has the number 1
 abbrev pub lines_in : Reading → LineForm → List (List ℕ) → Option (List ℕ) → List ℕ → List (Record × ℕ)
-lines_in reading form keys number text = lines_under reading.scale form keys number (records_in reading.delimiter text)
+lines_in reading form keys number text = lines_under reading.scale form keys number (list_in reading.delimiter form text)

@@ -1,6 +1,7 @@
 -- The definition of the lines of a text computes.
 use Rattle.std.specs.Prelude.{◌≡◌, ◌^◌, ◌-◌, true, false, [], ◌∷◌, Some, None, codes, refl}
 use Rattle.std.proofs.Common.{arith}
+use Rattle.std.specs.Fmt.{digits}
 use Rattle.csv.proofs.OnLiterals.{csv_on_literals}
 use Rattle.hashbag_csv.specs.Lines.{lines_in}
 use Rattle.hashbag_csv.specs.NumberForms.{grouped_number_in}
@@ -17,7 +18,7 @@ abbrev hundredths : Reading
 hundredths = record { delimiter = Semicolon; scale = record { decimals = 2; mark = comma_mark; most = 2 ^ 64 - 1; few = omega arith } }
 
 abbrev as_is : LineForm
-as_is = record { key = record { trim = false; fold = false }; number = record { blank_is_zero = false; group = None }; allows_short = false }
+as_is = record { key = record { trim = false; fold = false }; number = record { blank_is_zero = false; group = None }; allows_short = false; no_header = false }
 
 abbrev trimming : LineForm
 trimming = record as_is { key = record { trim = true; fold = false } }
@@ -51,6 +52,18 @@ header = refl
 nothing : lines_in whole as_is (codes "a" ∷ []) (Some (codes "n")) (codes "") ≡ []
 unfolding csv_on_literals
 nothing = refl
+
+-- without a header the first record is a line, and columns are named by their places, from 1
+abbrev without_header : LineForm
+without_header = record as_is { no_header = true }
+
+first_line : lines_in whole without_header (codes "2" ∷ []) (Some (codes "1")) (codes "5,nut\n7,bolt\n") ≡ (codes "nut" ∷ [], 5) ∷ (codes "bolt" ∷ [], 7) ∷ []
+unfolding csv_on_literals digits
+first_line = refl
+
+no_line : lines_in whole without_header (codes "2" ∷ []) (Some (codes "1")) (codes "") ≡ []
+unfolding csv_on_literals digits
+no_line = refl
 
 -- without a column of numbers each line has the number 1, which is 100 hundredths
 named : lines_in whole as_is (codes "a" ∷ []) None (codes "a,n\nx,7\ny,no number\nx,\n") ≡ (codes "x" ∷ [], 1) ∷ (codes "y" ∷ [], 1) ∷ (codes "x" ∷ [], 1) ∷ []

@@ -3,7 +3,7 @@ use Rattle.std.specs.Prelude.{◌≡◌, ℕ, ◌⊎◌, Bool, true, false, List
 use Rattle.hashbag_csv.specs.Decimals.{IsDecimal}
 use Rattle.hashbag_csv.specs.Faults.{IsFaultOf}
 use Rattle.hashbag_csv.specs.Groups.{fits_groups, ungrouped_if}
-use Rattle.hashbag_csv.specs.Lines.{number_in}
+use Rattle.hashbag_csv.specs.Lines.{number_by, number_in}
 use Rattle.hashbag_csv.specs.Marks.{code_of}
 use Rattle.hashbag_csv.specs.declared.fault.Fault.{Fault}
 use Rattle.hashbag_csv.specs.declared.fault.Fault.TheVariants.{BadGroups}
@@ -24,6 +24,10 @@ IsGroupedNumber scale group field = let mark = code_of scale.mark in (fits_group
 -- a field is a number in this form
 abbrev pub IsNumberField : Scale → NumberForm → List ℕ → Type 0
 IsNumberField scale form field = IsBlankZero form field ⊎ IsGroupedNumber scale form.group field
+
+-- a field is a number of n units in this form
+abbrev pub ReadsField : Scale → NumberForm → List ℕ → ℕ → Type 0
+ReadsField scale form field n = IsNumberField scale form field × (n ≡ number_by scale form field)
 
 -- whether a fault is that digits aren't in groups of three
 abbrev pub is_group_fault : Fault → Bool

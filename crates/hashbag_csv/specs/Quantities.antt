@@ -7,11 +7,11 @@ use Rattle.std.specs.declared.cmp.Ordering.{Ordering}
 use Rattle.hashbag.specs.Occurrences.{count}
 
 -- the sum of all numbers of a list
-abbrev pub numbers : {T : Type 0} → List (T × ℕ) → ℕ
-numbers L = sum_by (λ e. e.1) L
+abbrev pub number_sum : {T : Type 0} → List (T × ℕ) → ℕ
+number_sum L = sum_by (λ e. e.1) L
 
 module _ {T : Type 0} (eq : T → T → Bool) where
-  -- the sum of the numbers that a list has for v
+  -- the sum of the numbers of v in a list
   abbrev pub quantity : T → List (T × ℕ) → ℕ
   quantity v L = sum_by (λ e. if eq v e.0 then e.1 else 0) L
 

@@ -15,7 +15,7 @@ byte_of Comma = 44
 byte_of Semicolon = 59
 byte_of Tab = 9
 
--- fields may be in quotes, two quotes in such a field are one, and `\n`, `\r` or both are between records
+-- the settings of the parser: fields may be in quotes, two quotes in such a field are one, and `\n`, `\r` or both are between records
 abbrev pub config_of : Delimiter → Config
 config_of d = record default_config { delimiter = byte_of d }
 

@@ -14,9 +14,9 @@ IsWidestScale decimals mark scale = (scale.decimals ≡ decimals) × (scale.mark
 abbrev pub IsNumberIn : Scale → List ℕ → Type 0
 IsNumberIn scale text = IsDecimal (code_of scale.mark) scale.decimals text
 
--- a text is a number, and has the value n in units of the scale
-abbrev pub IsTextOf : Scale → ℕ → List ℕ → Type 0
-IsTextOf scale n text = IsNumberIn scale text × (number_in scale text ≡ n)
+-- a text is read as the number of n units of the scale
+abbrev pub ReadsAs : Scale → ℕ → List ℕ → Type 0
+ReadsAs scale n text = IsNumberIn scale text × (number_in scale text ≡ n)
 
 -- the text of a number of units: with all decimals of the scale, and no zeros before the digits of the whole part
 abbrev pub number_text : Scale → ℕ → List ℕ

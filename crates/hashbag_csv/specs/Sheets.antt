@@ -1,5 +1,5 @@
 -- The record that a sheet read last, and the records that it hasn't read.
-use Rattle.std.specs.Prelude.{◌≡◌, ◌≢◌, ◌<◌, ◌==◌, ◌⊎◌, nat_le, if◌then◌else◌, ℕ, Bool, true, false, List, [], ◌∷◌, length, get_or, All, ⊤}
+use Rattle.std.specs.Prelude.{◌≡◌, ◌≢◌, ◌<◌, ◌==◌, ◌⊎◌, nat_le, if◌then◌else◌, ℕ, Bool, true, false, List, [], ◌∷◌, length, get_or, All, Option, MatchOption, ⊤}
 use Rattle.csv.specs.Records.{fields_of}
 use Rattle.hashbag_csv.specs.Readers.{Record, records_left}
 use Rattle.hashbag_csv.specs.declared.fault.Fault.{Fault}
@@ -60,6 +60,10 @@ KeepsHeader old new = (width_of new ≡ width_of old) × (is_short_allowed new �
 abbrev pub IsAtHeader : Bool → Sheet → Type 0
 IsAtHeader short s = (width_of s ≡ length (read_last s)) × (is_short_allowed s ≡ short)
 
+-- a list with these records was opened: the header was read last, and the other records are left; or the list has no record, and `opened` is `None`
+abbrev pub IsOpened : List Record → Option Sheet → Type 0
+IsOpened records opened = MatchOption opened (records ≡ []) (λ s. records ≡ read_last s ∷ left s)
+
 -- whether a record has `width` fields, as the header has, or fewer if `short`
 abbrev pub fits_header : Bool → ℕ → Record → Bool
 fits_header short width r = if short then nat_le (length r) width else length r == width
@@ -89,7 +93,7 @@ is_quote_fault TextAfterQuote = true
 is_quote_fault StrayQuote = true
 is_quote_fault _ = false
 
--- `read` fails with this: a quote is misplaced, or the record doesn't fit the header (`fits` is false), or an allocation failed
+-- an error of `read`: a quote is misplaced, or the record doesn't fit the header (`fits` is false), or an allocation failed
 abbrev pub IsReadError : Bool → SheetError → Type 0
 IsReadError fits (Line line fault) = (is_quote_fault fault ≡ true) ⊎ ((is_fields_fault fault ≡ true) × (fits ≡ false))
 IsReadError fits Memory = ⊤

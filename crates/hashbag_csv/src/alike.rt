@@ -52,8 +52,8 @@ fn pair_or_note<'a, A: Article, S: BuildHasher + Drop>(
     }
 }
 
-/// Pairs each article with the first of the list from which it differs only in case, in white space at the ends of fields, or in normal
-/// form. Returns at most `most` pairs. Each article should be in the list once.
+/// Returns pairs of articles that differ only in case, in white space at the ends of fields, or in normal form: the first such article of the list,
+/// and a later one. Returns at most `most` pairs. Each article should be in the list once.
 ///
 /// # Errors
 ///
@@ -68,6 +68,8 @@ pub fn alike<'a, A: Article, S: BuildHasher + Drop>(
     articles: &[&'a A],
     most: usize,
 ) -> Result<Vec<(&'a A, &'a A)>, AllocError>
+    // Both articles of a pair have the same fields in normal form C, with case folded and no white space at their ends. Which articles are paired
+    // isn't stated.
     ensures near { IfOk result (λ pairs. AreNear A.fields pairs.items) }
     ensures few { IfOk result (λ pairs. length pairs.items ≤ most) }
 {

@@ -1,7 +1,7 @@
 //! All bad lines of a text, not only the first one.
 ghost use Rattle.std.specs.Prelude.{◌≡◌, ◌∷◌, ◌++◌, [], option_copied, IfOk, OnOk};
 ghost use Rattle.hashbag_csv.specs.BadLines.{AreBadLinesOf, errors_in};
-ghost use Rattle.hashbag_csv.specs.LineColumns.{AreBadLeft, SaysOfNext};
+ghost use Rattle.hashbag_csv.specs.LineColumns.{AreBadLeft, ChecksNext};
 ghost use Rattle.hashbag_csv.specs.Sheets.{KeepsHeader};
 
 use crate::article::Article;
@@ -13,15 +13,14 @@ use crate::scale::Scale;
 use crate::sheet::Sheet;
 use std::alloc::{AllocError, Global};
 
-// Reads the next record, and returns what is said of it: nothing if it is read as a line, and else its error. Returns `None` if no record is
-// left.
-fn said_of_next<A: Article + Drop>(
+// Checks the next record: returns `Some(None)` if it is a line, `Some(Some(error))` if not, and `None` if no record is left.
+fn check_next<A: Article + Drop>(
     alloc: Global,
     sheet: &mut Sheet<'_>,
     columns: &LineColumns<'_>,
     scale: Scale,
 ) -> Result<Option<Option<SheetError>>, SheetError>
-    ensures said { IfOk result (λ next. SaysOfNext scale columns.now sheet.old next sheet.new) }
+    ensures said { IfOk result (λ next. ChecksNext scale columns.now sheet.old next sheet.new) }
     ensures same { KeepsHeader sheet.old sheet.new }
 {
     match columns.read::<A>(alloc, sheet, scale) {
@@ -32,8 +31,8 @@ fn said_of_next<A: Article + Drop>(
     }
 }
 
-// Appends the error that is said of a record, if one is.
-fn push_said(errors: &mut Vec<SheetError>, said: Option<SheetError>) -> Result<(), SheetError>
+// Appends the error of a record, if it has one.
+fn push_error(errors: &mut Vec<SheetError>, said: Option<SheetError>) -> Result<(), SheetError>
     ensures { OnOk result (errors.new.items ≡ errors.old.items ++ errors_in (said ∷ [])) }
 {
     let Some(error) = said else {
@@ -43,7 +42,7 @@ fn push_said(errors: &mut Vec<SheetError>, said: Option<SheetError>) -> Result<(
     Ok(())
 }
 
-// The errors of the bad lines that are left of a sheet, at most this many.
+// Returns the errors of the bad lines that are left of a sheet, at most `max_errors`.
 fn bad_lines_left<A: Article + Drop>(
     alloc: Global,
     sheet: &mut Sheet<'_>,
@@ -55,16 +54,16 @@ fn bad_lines_left<A: Article + Drop>(
 {
     let mut errors = Vec::new(alloc);
     'lines: while errors.len() < max_errors {
-        let Some(said) = said_of_next::<A>(alloc, sheet, columns, scale)? else {
+        let Some(said) = check_next::<A>(alloc, sheet, columns, scale)? else {
             return Ok(errors);
         };
-        push_said(&mut errors, said)?;
+        push_error(&mut errors, said)?;
     }
     Ok(errors)
 }
 
-/// Returns the errors of the bad lines of a text, in the order of the lines: of all, or of the first `max_errors`. A line is bad if it isn't read as
-/// a line with these columns, in this form. That a total is too large is no error of a line here.
+/// Returns the errors of the bad lines of a text, in the order of the lines, at most `max_errors`. A line is bad if [`LineColumns::read`] fails for
+/// its record. A total that is too large isn't an error here.
 ///
 /// # Errors
 ///
@@ -82,9 +81,13 @@ pub fn bad_lines<A: Article + Drop>(
     form: LineForm,
     max_errors: usize,
 ) -> Result<Vec<SheetError>, SheetError>
+    // Lines were checked in order, all of them unless there are `max_errors` errors. `e.items` are the errors of the bad ones; any other fits the
+    // header, and its field in the column `number`, if that is `Some`, is a number.
     ensures { IfOk result (λ e. AreBadLinesOf reading form (option_copied number.entry) max_errors text.now e.items) }
 {
-    let mut sheet = Sheet::open_lines(alloc, text, reading.delimiter, form.allows_short)?;
+    let Some(mut sheet) = Sheet::open_list(alloc, text, reading.delimiter, form)? else {
+        return Ok(Vec::new(alloc));
+    };
     let columns = LineColumns::named(alloc, &sheet, keys, number, form)?;
     let errors = bad_lines_left::<A>(alloc, &mut sheet, &columns, reading.scale, max_errors)?;
     Ok(errors)

@@ -3,7 +3,7 @@ ghost use Rattle.std.specs.Prelude.{◌≡◌, ◌+◌, ◌≤◌, [], ◌∷◌
 ghost use Rattle.hashbag_csv.specs.Counts.{AreCountsIn, plain_form};
 ghost use Rattle.hashbag_csv.specs.LineColumns.{form_of, key_places, number_place};
 ghost use Rattle.hashbag_csv.specs.Lines.{place_of};
-ghost use Rattle.hashbag_csv.specs.Quantities.{numbers};
+ghost use Rattle.hashbag_csv.specs.Quantities.{number_sum};
 ghost use Rattle.hashbag_csv.specs.Sheets.{read_last};
 
 use crate::delimiter::Delimiter;
@@ -25,7 +25,7 @@ pub struct Reading {
 }
 
 impl Reading {
-    /// Returns the reading of commas between fields, and of whole numbers up to `usize::MAX`.
+    /// Returns the reading with commas between fields, and whole numbers up to `usize::MAX`.
     pub fn plain() -> Reading
         ensures delimiter { result.delimiter ≡ Delimiter.Comma }
         ensures decimals { result.scale.decimals ≡ 0 }
@@ -37,8 +37,8 @@ impl Reading {
         }
     }
 
-    /// Returns the reading that words ask for: a delimiter by one of its names, how many decimals numbers have, and the mark before
-    /// them. An unknown word is taken as `,`, as `0` and as `.`.
+    /// Returns the reading that these words name: the delimiter by one of its names, the number of decimals, and the mark before decimals. An unknown
+    /// word counts as the default: `,` or `0` or `.`.
     pub fn named(delimiter: &str, decimals: &str, mark: &str) -> Reading {
         let decimals = decimals.parse().unwrap_or(0);
         let mark = if mark == "," {
@@ -70,7 +70,7 @@ fn columns_of<'n>(
     Ok(columns)
 }
 
-// Returns a total with the number of the record that was read last, if that is at most the greatest of the scale.
+// Returns `total + number`, if the sum is at most `scale.most`. Else the error is at the record that was read last.
 fn sum_of(
     alloc: Global,
     sheet: &Sheet<'_>,
@@ -87,8 +87,8 @@ fn sum_of(
     }
 }
 
-/// Reads the articles of a text, each with its number, in the order of the lines. An article is the field of one column, and may occur
-/// more than once. Numbers are in units of the scale, and all together are at most its greatest number.
+/// Reads the articles of a text, each with its number, in the order of the lines. An article is the field of one column, and may occur more than
+/// once. Numbers are in units of the scale. Their sum is at most `scale.most`.
 ///
 /// # Errors
 ///
@@ -100,9 +100,9 @@ pub fn read_counts_as(
     number: &str,
     reading: Reading,
 ) -> Result<Vec<(String, usize)>, SheetError>
-    // Its lines are those that the text has.
+    // There is an entry for each line, in their order: its field in the column `article`, and its number in the column `number`.
     ensures lines { IfOk result (λ counts. AreCountsIn reading article.now number.now text.now counts.items) }
-    ensures fits { IfOk result (λ counts. numbers counts.items ≤ reading.scale.most) }
+    ensures fits { IfOk result (λ counts. number_sum counts.items ≤ reading.scale.most) }
 {
     let mut sheet = Sheet::open_with(alloc, text, reading.delimiter)?;
     let columns = columns_of(alloc, &sheet, article, number)?;

@@ -5,7 +5,7 @@ ghost use Rattle.std.specs.String.{string_bytes};
 ghost use Rattle.std.specs.Str.Parse.{IsNumeral, digits_value};
 ghost use Rattle.hashbag_csv.specs.Decimals.{ArePartsOf, IsSomeIfFits, padded_digits, units_of};
 ghost use Rattle.hashbag_csv.specs.Lines.{number_in};
-ghost use Rattle.hashbag_csv.specs.Scales.{IsNumberIn, IsTextOf, number_text};
+ghost use Rattle.hashbag_csv.specs.Scales.{IsNumberIn, ReadsAs, number_text};
 
 use crate::scale::Scale;
 use std::alloc::{AllocError, Global};
@@ -28,8 +28,9 @@ pub(crate) fn unit_of(decimals: u32) -> usize
     10usize.pow(decimals)
 }
 
-// Returns how many units a whole number is. Returns `None` for any other text, or if the units are above `usize::MAX`.
-fn alone(digits: &str, decimals: u32) -> Option<usize>
+// Returns the number of units of a text of digits, which is a whole number. Returns `None` for any other text, or if there are more than `usize::MAX`
+// units.
+fn units_of_digits(digits: &str, decimals: u32) -> Option<usize>
     requires { decimals ≤ 9 }
     ensures { IsSomeIfFits result (IsNumeral 10 digits.now) (digits_value 10 digits.now * 10 ^ decimals) }
 {
@@ -39,8 +40,8 @@ fn alone(digits: &str, decimals: u32) -> Option<usize>
     number.checked_mul(unit_of(decimals))
 }
 
-// Returns how many units a whole part and the decimals after it are. Returns `None` if one isn't digits, if `part` has more than `decimals`
-// digits, or if the units are above `usize::MAX`.
+// Returns the number of units of a whole part and the decimals after it. Returns `None` if `whole` or `part` isn't digits, if `part` has more than
+// `decimals` digits, or if there are more than `usize::MAX` units.
 fn joined(whole: &str, part: &str, decimals: u32) -> Option<usize>
     requires { decimals ≤ 9 }
     ensures { IsSomeIfFits result (ArePartsOf decimals whole.now part.now) (units_of decimals whole.now part.now) }
@@ -48,25 +49,25 @@ fn joined(whole: &str, part: &str, decimals: u32) -> Option<usize>
     if part.len() > decimals as usize {
         return None;
     }
-    let Some(ones) = alone(whole, decimals) else {
+    let Some(ones) = units_of_digits(whole, decimals) else {
         return None;
     };
-    let Some(parts) = alone(part, decimals - part.len() as u32) else {
+    let Some(parts) = units_of_digits(part, decimals - part.len() as u32) else {
         return None;
     };
     ones.checked_add(parts)
 }
 
-/// Returns the number that a text is, in units of the scale. The text is digits; or digits, the mark, and at least one decimal.
+/// Returns the number of a text, in units of the scale. The text is digits; or digits, the mark, and at least one decimal.
 ///
 /// Returns `None` for another text, for more decimals than the scale has, and for a number of more than `usize::MAX` units.
 pub fn read_decimal(text: &str, scale: Scale) -> Option<usize>
-    // The result is `None` exactly if the text is no such number, or a number of more than `usize::MAX` units.
+    // The result is `None` if the text is no such number, or has more than `usize::MAX` units; else it is `Some` of the number of units.
     ensures { IsSomeIfFits result (IsNumberIn scale text.now) (number_in scale text.now) }
 {
     match text.split_once(scale.mark.character()) {
         Some((whole, part)) => joined(whole, part, scale.decimals),
-        None => alone(text, scale.decimals),
+        None => units_of_digits(text, scale.decimals),
     }
 }
 
@@ -87,7 +88,7 @@ fn padded(alloc: Global, number: usize, width: u32) -> Result<String, AllocError
 /// Returns a number of units as text, with all decimals of the scale. From that text [`read_decimal`] returns the number.
 pub fn write_decimal(alloc: Global, number: usize, scale: Scale) -> Result<String, AllocError>
     ensures text { IfOk result (λ text. string_bytes text ≡ number_text scale number) }
-    ensures reads { IfOk result (λ text. IsTextOf scale number (string_bytes text)) }
+    ensures reads { IfOk result (λ text. ReadsAs scale number (string_bytes text)) }
 {
     let unit = unit_of(scale.decimals);
     let mut text = format!(in alloc; "{}", number / unit)?;

@@ -73,7 +73,7 @@ pub enum Fault {
     /// A field names no kind of movement.
     #[error("neither `in` nor `out`: `{0}`")]
     NoKind(String),
-    /// With this line the total is above the greatest number that is read. The text is that number, with all decimals of the scale.
+    /// With this line the total is above the greatest number that is read. The text is the greatest number, with all decimals of the scale.
     #[error("total past {0}")]
     TotalPastMost(String),
 }

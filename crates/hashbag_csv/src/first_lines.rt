@@ -1,7 +1,6 @@
 //! For each article, the fields that its first line has in other columns.
-ghost use Rattle.std.specs.Prelude.{◌≡◌, List, map, IfOk, OnOk};
-ghost use Rattle.std.specs.String.{string_bytes};
-ghost use Rattle.hashbag_csv.specs.FirstLines.{AddsFirsts, Carried, HasFirsts, carried_last, carried_left, carried_named, first_of};
+ghost use Rattle.std.specs.Prelude.{◌≡◌, map, IfOk, OnOk};
+ghost use Rattle.hashbag_csv.specs.FirstLines.{AddsFirsts, AddsFirstsOf, AreFirstFields, carried_last, carried_left};
 ghost use Rattle.hashbag_csv.specs.LineColumns.{place_named};
 ghost use Rattle.hashbag_csv.specs.Sheets.{place};
 
@@ -9,6 +8,7 @@ use crate::article::Article;
 use crate::delimiter::Delimiter;
 use crate::fault::SheetError;
 use crate::key_form::KeyForm;
+use crate::line_form::LineForm;
 use crate::lines::{columns_of, fields_of};
 use crate::sheet::{Column, Sheet};
 use std::alloc::{AllocError, Global};
@@ -24,6 +24,15 @@ pub struct Names<'n> {
     pub carried: &'n [&'n str],
     /// Whether the header may lack columns of `carried`. Their fields are then empty.
     pub may_lack: bool,
+}
+
+// The columns that are read of each record.
+#[derive(Drop)]
+struct CarriedColumns<'n> {
+    // The key columns.
+    keys: Vec<Column<'n>>,
+    // The columns whose fields are kept with the article.
+    carried: Vec<Column<'n>>,
 }
 
 // Returns the columns with these names in the header. A column that the header lacks is empty in each record. Call it before the first
@@ -63,14 +72,13 @@ fn carried_columns<'n>(
 fn add_line<A: Article + Drop, S: BuildHasher + Drop>(
     alloc: Global,
     sheet: &Sheet<'_>,
-    keys: &[Column<'_>],
-    carried: &[Column<'_>],
+    columns: &CarriedColumns<'_>,
     form: KeyForm,
     firsts: &mut HashMap<A, Vec<String>, S>,
 ) -> Result<(), SheetError>
-    ensures { OnOk result (AddsFirsts A.eq A.fields (carried_last form keys.now carried.now sheet.now) firsts.old firsts.new) }
+    ensures { OnOk result (AddsFirsts A.eq A.fields (carried_last form columns.now sheet.now) firsts.old firsts.new) }
 {
-    let article = A::read(alloc, sheet, keys, form)?;
+    let article = A::read(alloc, sheet, &columns.keys, form)?;
     if firsts.contains_key(&article) {
         return Ok(());
     }
@@ -78,43 +86,42 @@ fn add_line<A: Article + Drop, S: BuildHasher + Drop>(
         trim: false,
         fold: false,
     };
-    let fields = fields_of(alloc, sheet, carried, as_it_is)?;
+    let fields = fields_of(alloc, sheet, &columns.carried, as_it_is)?;
     match firsts.insert(article, fields) {
         Ok(_) => Ok(()),
         Err(_) => Err(SheetError::Memory),
     }
 }
 
-// Does what `add_line` does for each record that hasn't been read.
+// Reads the records that are left, and calls `add_line` after each.
 fn add_lines<A: Article + Drop, S: BuildHasher + Drop>(
     alloc: Global,
     sheet: &mut Sheet<'_>,
-    keys: &[Column<'_>],
-    carried: &[Column<'_>],
+    columns: &CarriedColumns<'_>,
     form: KeyForm,
     firsts: &mut HashMap<A, Vec<String>, S>,
 ) -> Result<(), SheetError>
-    ensures { OnOk result (AddsFirsts A.eq A.fields (carried_left form keys.now carried.now sheet.old) firsts.old firsts.new) }
+    ensures { OnOk result (AddsFirsts A.eq A.fields (carried_left form columns.now sheet.old) firsts.old firsts.new) }
 {
     'lines: while sheet.read()? {
-        add_line(alloc, sheet, keys, carried, form, firsts)?;
+        add_line(alloc, sheet, columns, form, firsts)?;
     }
     Ok(())
 }
 
-/// Inserts each article of a text that `firsts` lacks, with the carried fields of the first line that has the article. Articles are read in
-/// the form `form`, carried fields as they are.
+/// Inserts into `firsts` each article of a text that isn't in `firsts` yet, with the carried fields of the first line that has the article. Lines are
+/// read in the form `form`; carried fields are read as they are.
 ///
 /// # Errors
 ///
 /// `Line` for the first of these:
 ///
-/// - the text is UTF-16, or has no header;
-/// - more than one column of the header has one of the names, or none has it (a carried name: only without `may_lack`);
+/// - the text is UTF-16, or has no header, though `form` says that there is one;
+/// - a name is of more than one column of the header, or of none; with `may_lack`, a carried column may be absent;
 /// - a quote is misplaced, or a record has the wrong number of fields;
 /// - a key field, or a carried field of a new article, isn't UTF-8.
 ///
-/// `Memory` if an allocation fails. After an error the lines before it have been added.
+/// `Memory` if an allocation fails. After an error, the lines before the bad line have been added.
 ///
 /// # Complexity
 ///
@@ -124,16 +131,20 @@ pub fn add_first_lines<A: Article + Drop, S: BuildHasher + Drop>(
     text: &[u8],
     names: Names<'_>,
     delimiter: Delimiter,
-    form: KeyForm,
-    allows_short: bool,
+    form: LineForm,
     firsts: &mut HashMap<A, Vec<String>, S>,
 ) -> Result<(), SheetError>
-    ensures { OnOk result (AddsFirsts A.eq A.fields (carried_named names.entry delimiter form text.now) firsts.old firsts.new) }
+    // If `firsts` had exactly the articles of lines K, with the carried fields of each one's first line, it now has those of K followed by the text's
+    // lines.
+    ensures { OnOk result (AddsFirstsOf A.eq A.fields names.entry delimiter form text.now firsts.old firsts.new) }
 {
-    let mut sheet = Sheet::open_lines(alloc, text, delimiter, allows_short)?;
+    let Some(mut sheet) = Sheet::open_list(alloc, text, delimiter, form)? else {
+        return Ok(());
+    };
     let keys = columns_of(alloc, &sheet, names.keys)?;
     let carried = carried_columns(alloc, &sheet, names)?;
-    add_lines(alloc, &mut sheet, &keys, &carried, form, firsts)?;
+    let columns = CarriedColumns { keys, carried };
+    add_lines(alloc, &mut sheet, &columns, form.key, firsts)?;
     Ok(())
 }
 
@@ -142,9 +153,8 @@ pub fn first_fields<'f, A: Article + Drop, S: BuildHasher + Drop>(
     firsts: &'f HashMap<A, Vec<String>, S>,
     article: &A,
 ) -> &'f [String]
-    // `K` lists the lines that were added.
-    ensures { (K : List Carried) → HasFirsts A.eq A.fields K firsts.now
-        → map string_bytes result.now ≡ first_of (A.fields article.now) K }
+    // If `firsts` has the first carried fields of the articles of lines K, the result has those of the first line of K with `article`, or none.
+    ensures { AreFirstFields A.eq A.fields firsts.now article.now result.now }
 {
     match firsts.get(article) {
         Some(fields) => fields.as_slice(),

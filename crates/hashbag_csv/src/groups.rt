@@ -54,7 +54,7 @@ fn has_none(text: &[u8], group: u8) -> bool
     text.iter().all(|byte| *byte != group)
 }
 
-// Returns whether a byte is right with `behind` bytes after it: the mark if a whole number of groups follows, else a digit.
+// Returns whether a byte may come before `behind` more bytes: it has to be the mark if whole groups follow, else a digit.
 fn fits(byte: u8, behind: usize, group: u8) -> bool
     ensures { result ≡ fits_place group byte behind }
 {
@@ -75,7 +75,7 @@ fn push_digit(digits: &mut String, byte: u8, group: u8) -> Result<(), AllocError
     digits.push(char::from(byte))
 }
 
-// Returns the digits of groups of three with the mark between them, or `None` if a byte isn't right at its place (`fits`).
+// Returns the digits of groups of three with the mark between them, or `None` if a byte may not be at its place (`fits`).
 fn digits_of_groups(alloc: Global, whole: &[u8], group: u8) -> Result<Option<String>, AllocError>
     requires ascii { group < 128 }
     ensures { IfOk result (λ digits. IsTextIf (marks_fit group whole.now) (without group whole.now) digits) }
@@ -114,6 +114,7 @@ pub fn ungrouped_text(
     mark: Mark,
     group: GroupMark,
 ) -> Result<Option<String>, AllocError>
+    // `digits` is `text` without `group` before the first `mark`, if that part is in groups or has no `group`; else it is `None`.
     ensures { IfOk result (λ digits. IsUngrouped (code_of mark) group text.now digits) }
 {
     let Some((whole, part)) = text.split_once(mark.character()) else {

@@ -33,7 +33,7 @@ pub struct LineColumns<'n> {
 ///
 /// `Line` if no column of the header, or more than one, has the name. `Memory` if an allocation fails.
 pub fn column_of<'n>(sheet: &Sheet<'_>, name: &'n str) -> Result<Column<'n>, SheetError>
-    // `place_of` is the first place with the name. Here that is the only one.
+    // `place_of` is the index of the first field equal to `name` in the record read last, here the header; the number of its fields if none is.
     ensures { IfOk result (λ column. place column ≡ place_of (read_last sheet.now) name.now) }
 {
     let column = sheet.column(name)?;
@@ -115,8 +115,8 @@ pub(crate) fn fields_of(
     Ok(fields)
 }
 
-// Returns the number in this column of the record that was read last, in units of the scale. Without a column it is 10^decimals units,
-// which is 1.
+// Returns the number in this column of the record that was read last, in units of the scale. If `column` is `None`, the number is 1: 10^decimals
+// units.
 fn number_of(
     alloc: Global,
     sheet: &Sheet<'_>,
@@ -151,6 +151,8 @@ impl<'n> LineColumns<'n> {
         number: Option<&'n str>,
         form: LineForm,
     ) -> Result<LineColumns<'n>, SheetError>
+        // `key_places` and `number_place` are the indexes of the columns. `place_named` is the index of the first field with a name in the record read
+        // last, here the header; the number of its fields if none has it.
         ensures keys { IfOk result (λ c. key_places c ≡ map (place_named sheet.now) keys.now) }
         ensures number { IfOk result (λ c. number_place c ≡ option_map (place_named sheet.now) number.entry) }
         ensures form { IfOk result (λ columns. form_of columns ≡ form) }
@@ -176,17 +178,23 @@ impl<'n> LineColumns<'n> {
         sheet: &mut Sheet<'_>,
         scale: Scale,
     ) -> Result<Option<(A, usize)>, SheetError>
-        // `next` is the line of the first record that hadn't been read, or `None` if all had been.
+        // `next` is the first unread record's line, its article and number by these columns, and the records after it are left; `None` if none was.
         ensures line { IfOk result (λ next. ReadsNextLine A.fields (line_by scale self.now) sheet.old next sheet.new) }
 
         // The record that was read has as many fields as the header, or fewer if that is allowed.
         ensures fits { IfOk result (λ next. IfSome next (λ _. ReadsFitting sheet.old sheet.new)) }
+
+        // The record's field in the column of the number, if there is such a column, is a number.
         ensures number { IfOk result (λ next. IfSome next (λ _. HasNumberBy scale self.now (read_last sheet.new))) }
 
-        // `fault`: the error is of the record that was read. `reads_on`: after any error but `Memory` the record has been read, so the next
-        // call reads the one after it.
+        // A quote is misplaced, the record doesn't fit the header, a field isn't UTF-8, or the field of the number is no number; or the error is
+        // `Memory`.
         ensures fault { IfErr result (λ e. IsLineErrorBy scale self.now sheet.old sheet.new e) }
+
+        // After any error but `Memory` the record has been read, so the next call reads the one after it.
         ensures reads_on { IfErr result (λ e. e ≢ SheetError.Memory → ReadsOne sheet.old sheet.new) }
+
+        // The header's number of fields, and whether a record may have fewer, are unchanged.
         ensures same { KeepsHeader sheet.old sheet.new }
     {
         if !sheet.read()? {

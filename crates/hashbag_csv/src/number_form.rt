@@ -1,7 +1,6 @@
 //! Fields that are numbers.
-ghost use Rattle.std.specs.Prelude.{◌≡◌, ◌≤◌, IfErr, IfOk};
-ghost use Rattle.hashbag_csv.specs.Lines.{number_by};
-ghost use Rattle.hashbag_csv.specs.NumberForms.{IsErrorOfField, IsGroupedError, IsNumberField, ReadsGrouped};
+ghost use Rattle.std.specs.Prelude.{◌≤◌, IfErr, IfOk};
+ghost use Rattle.hashbag_csv.specs.NumberForms.{IsErrorOfField, IsGroupedError, ReadsField, ReadsGrouped};
 
 use crate::escaped::shown;
 use crate::fault::{Fault, SheetError};
@@ -48,7 +47,7 @@ fn grouped_number(
 /// `Line` with this line, unless the field is empty and an empty field is 0:
 ///
 /// - `BadGroups` exactly if the whole part has the form's mark, but isn't groups of three digits with the mark between them;
-/// - else the fault that [`scaled_number`] returns for the text without these marks.
+/// - else `PastMost`, `TooManyDecimals`, `NotWhole` or `NoNumber`, as [`scaled_number`] returns for the text without these marks.
 ///
 /// `Memory` if a text can't be allocated.
 pub fn field_number(
@@ -59,10 +58,10 @@ pub fn field_number(
     form: NumberForm,
 ) -> Result<usize, SheetError>
     // The field is a number of n units in this form, and n is at most the greatest number of the scale.
-    ensures number { IfOk result (λ n. IsNumberField scale form field.now × (n ≡ number_by scale form field.now)) }
+    ensures number { IfOk result (λ n. ReadsField scale form field.now n) }
     ensures most { IfOk result (λ n. n ≤ scale.most) }
 
-    // The error has this line and the field's fault, or is `Memory`.
+    // The error has this line and the fault that is listed above, or is `Memory`. An empty field that is 0 has no error.
     ensures fault { IfErr result (λ e. IsErrorOfField scale form line field.now e) }
 {
     if form.blank_is_zero && field.is_empty() {

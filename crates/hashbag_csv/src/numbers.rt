@@ -7,7 +7,7 @@ ghost use Rattle.hashbag_csv.specs.Decimals.{IsDecimal, units};
 ghost use Rattle.hashbag_csv.specs.Faults.{HasGroups, IsCutAtMark, IsErrorOf, IsFaultOf, IsFraction, IsNumberOfDecimals, is_grouped};
 ghost use Rattle.hashbag_csv.specs.Lines.{number_in};
 ghost use Rattle.hashbag_csv.specs.Marks.{code_of};
-ghost use Rattle.hashbag_csv.specs.Scales.{IsNumberIn, IsTextOf};
+ghost use Rattle.hashbag_csv.specs.Scales.{IsNumberIn, ReadsAs};
 ghost use Rattle.hashbag_csv.specs.Totals.{IsTotalPast};
 
 use crate::decimals::{read_decimal, write_decimal};
@@ -73,7 +73,7 @@ fn are_groups(text: &[u8], mark: u8) -> bool
     after_digit
 }
 
-// Whether a text is a number with decimals after `mark`, and with single marks `other`, or none, between the digits before `mark`.
+// Returns whether a text is digits, `mark` and decimals. Single marks `other` may be between the digits before `mark`.
 #[tactic(auto, unfolding(crate::specs::Faults::HasGroups))]
 fn has_groups(text: &str, mark: Mark, other: u8) -> bool
     ensures { IsTrue result ↔ HasGroups (code_of mark) other text.now }
@@ -87,7 +87,8 @@ fn has_groups(text: &str, mark: Mark, other: u8) -> bool
     are_digits(part)
 }
 
-// Whether a text is a number with decimals after a point or a comma, such as `1,234.5` or `1.234,5`. Only the error depends on this.
+// Whether a text is a number with decimals after a point or a comma, such as `1,234.5` or `1.234,5`. Only which error is returned depends on the
+// result.
 #[tactic(auto, unfolding(crate::specs::Faults::IsFraction))]
 fn is_fraction(text: &str) -> bool
     ensures { IsTrue result ↔ IsFraction text.now }
@@ -129,7 +130,7 @@ fn fault_of(alloc: Global, digits: &str, field: &str, scale: Scale) -> Result<Fa
     })
 }
 
-/// Returns the number that `digits` are, in units of this scale. `field` is the text that an error shows.
+/// Returns the number of the text `digits`, in units of this scale. `field` is the text that an error shows.
 ///
 /// # Errors
 ///
@@ -137,8 +138,8 @@ fn fault_of(alloc: Global, digits: &str, field: &str, scale: Scale) -> Result<Fa
 ///
 /// - `PastMost` exactly if the text is a number of more than `scale.most` units;
 /// - `TooManyDecimals` exactly if the scale has decimals, and the text is digits, the mark, and more decimals than the scale has;
-/// - `NotWhole` exactly if the scale has no decimals, and the text is a number with decimals after a point or a comma. Single marks of the
-///   other kind may be between the digits before;
+/// - `NotWhole` exactly if the scale has no decimals, and the text is a number with decimals after a point or a comma. Single marks of the other kind
+///   may be between the digits of its whole part;
 /// - `NoNumber` for any other text.
 ///
 /// `Memory` if the message can't be allocated.
@@ -150,10 +151,10 @@ pub fn scaled_number(
     scale: Scale,
 ) -> Result<usize, SheetError>
     // `digits` is a number of n units in the scale, and n is at most the greatest number of the scale.
-    ensures number { IfOk result (λ n. IsTextOf scale n digits.now) }
+    ensures number { IfOk result (λ n. ReadsAs scale n digits.now) }
     ensures most { IfOk result (λ n. n ≤ scale.most) }
 
-    // The error has this line and the text's fault, or is `Memory`.
+    // The error has this line and the fault of `digits` that is listed above, or is `Memory`.
     ensures fault { IfErr result (λ e. IsErrorOf (code_of scale.mark) scale.decimals scale.most line digits.now e) }
 {
     match read_decimal(digits, scale) {
@@ -165,14 +166,16 @@ pub fn scaled_number(
     }
 }
 
-/// Returns the whole number that `digits` are. `field` is the text that an error shows.
+/// Returns the number of the text `digits`, which has to be a whole number. `field` is the text that an error shows.
 ///
 /// # Errors
 ///
 /// Same as [`scaled_number`].
 pub fn number(alloc: Global, line: u64, digits: &str, field: &str) -> Result<usize, SheetError>
-    // 46 is the point, and 0 the number of decimals.
+    // `digits` is digits alone, and n is their number: 46 is the point, and 0 the number of decimals.
     ensures number { IfOk result (λ n. IsDecimal 46 0 digits.now × (units 46 0 digits.now ≡ n)) }
+
+    // The error has this line and the fault of `digits` that `scaled_number` lists, or is `Memory`.
     ensures fault { IfErr result (λ e. IsErrorOf 46 0 usize.MAX line digits.now e) }
 {
     scaled_number(alloc, line, digits, field, Scale::whole())
@@ -180,6 +183,7 @@ pub fn number(alloc: Global, line: u64, digits: &str, field: &str) -> Result<usi
 
 /// Returns the fault of a line that takes a total past the greatest number of the scale.
 pub fn total_too_large(alloc: Global, scale: Scale) -> Result<Fault, AllocError>
+    // The fault is `TotalPastMost`, and its text is a number of `scale.most` units.
     ensures { IfOk result (λ fault. IsTotalPast (code_of scale.mark) scale.decimals scale.most fault) }
 {
     Ok(Fault::TotalPastMost(write_decimal(alloc, scale.most, scale)?))

@@ -1,7 +1,7 @@
 //! Conversions between a list of articles with quantities and a bag.
 ghost use Rattle.std.specs.Prelude.{◌≡◌, ◌≤◌, [], length, IfOk, IfErr, OnOk};
 ghost use Rattle.hashbag.specs.Occurrences.{count};
-ghost use Rattle.hashbag_csv.specs.Quantities.{numbers, quantity, IsBalance};
+ghost use Rattle.hashbag_csv.specs.Quantities.{number_sum, quantity, IsBalance};
 
 use hashbag::{BagError, HashBag};
 use std::alloc::{AllocError, Global};
@@ -23,10 +23,12 @@ pub fn bag_of<T: Eq + Hash + Drop, S: BuildHasher + Drop>(
     list: Vec<(T, usize)>,
 ) -> Result<HashBag<T, S>, BagError>
     ensures counts { IfOk result (λ bag. (v : T) → count T.eq v bag.items ≡ quantity T.eq v list.items) }
-    ensures len { IfOk result (λ bag. length bag.items ≡ numbers list.items) }
-    ensures fits { OnOk result (numbers list.items ≤ usize.MAX) }
-    ensures carried { IfOk result (λ bag. bag.tables.waiting ≡ []) }
-    ensures only_memory { numbers list.items ≤ usize.MAX → IfErr result (λ e. e ≡ BagError.Memory) }
+    ensures len { IfOk result (λ bag. length bag.items ≡ number_sum list.items) }
+    ensures fits { OnOk result (number_sum list.items ≤ usize.MAX) }
+
+    // No slot of an older table waits.
+    ensures none_waits { IfOk result (λ bag. bag.tables.waiting ≡ []) }
+    ensures only_memory { number_sum list.items ≤ usize.MAX → IfErr result (λ e. e ≡ BagError.Memory) }
 {
     let mut bag = HashBag::with_hasher(alloc, state);
     bag.extend_many(list.into_iter())?;

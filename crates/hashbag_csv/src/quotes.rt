@@ -31,7 +31,7 @@ pub enum Misplaced {
 }
 
 impl Misplaced {
-    /// Returns the fault of a line with this quote.
+    /// Returns the fault of a line with a quote that is misplaced in this way.
     pub fn fault(self) -> Fault
         ensures { is_quote_fault result ≡ true }
     {
@@ -57,8 +57,8 @@ fn next_place(place: Place, byte: u8, delimiter: u8) -> Result<Place, Misplaced>
     }
 }
 
-/// Returns the index of a record's first misplaced quote, and why it is misplaced, or `None`. If a field in quotes isn't closed, or text
-/// follows its end, the index is that of its opening quote.
+/// Returns the index of a record's first misplaced quote, and why it is misplaced, or `None`. If a field in quotes isn't closed, or text follows its
+/// closing quote, the index is of the field's opening quote.
 pub fn misplaced_quote(record: &[u8], delimiter: u8) -> Option<(usize, Misplaced)> {
     let mut place = Place::Start;
     // The quote that opens the present field, or a stray one.

@@ -1,11 +1,14 @@
 //! The records of a CSV text under its header.
-ghost use Rattle.std.specs.Prelude.{◌≡◌, false};
+ghost use Rattle.std.specs.Prelude.{◌≡◌, false, IfOk};
 ghost use Rattle.csv.specs.Reading.{has_failed};
+ghost use Rattle.csv.specs.Records.{fields_of};
+ghost use Rattle.hashbag_csv.specs.Lines.{column_numbers};
 ghost use Rattle.hashbag_csv.specs.Readers.{IsReader};
 
 use crate::delimiter::Delimiter;
 use crate::escaped::shown;
 use crate::fault::{Fault, SheetError};
+use crate::line_form::LineForm;
 use crate::quotes::misplaced_quote;
 use crate::trims::trim;
 use csv::{ByteRecord, Position, Reader, ReaderBuilder};
@@ -68,6 +71,18 @@ fn line_of(text: &[u8], position: Position) -> u64 {
     line
 }
 
+// Returns the record of the numbers from 1 to `columns`.
+fn numbers_to(alloc: Global, columns: usize) -> Result<ByteRecord, AllocError>
+    ensures { IfOk result (λ numbers. fields_of numbers ≡ column_numbers columns) }
+{
+    let mut record = ByteRecord::new(alloc);
+    'columns: for before in 0..columns {
+        let number = (before + 1).to_string(alloc)?;
+        record.push_field(number.as_bytes())?;
+    }
+    Ok(record)
+}
+
 /// A column of a sheet.
 #[derive(Clone, Copy)]
 pub struct Column<'n> {
@@ -78,8 +93,9 @@ pub struct Column<'n> {
 
 /// A CSV text whose records are read one after the other.
 ///
-/// The first record is the header. Each other record has as many fields, or fewer if that is allowed. A byte order mark, the ends of lines
-/// as `\n` or `\r\n`, fields in quotes and empty lines are read as most programs write them. A misplaced quote is an error.
+/// The first record is the header, unless the text has none. Each other record has as many fields as the header, or fewer if that is allowed. A byte
+/// order mark, the ends of lines as `\n` or `\r\n`, fields in quotes and empty lines are read as most programs write them. A misplaced quote is an
+/// error.
 #[derive(Drop)]
 pub struct Sheet<'a> {
     alloc: Global,
@@ -99,9 +115,9 @@ impl<'a> Sheet<'a> {
     ghost use Rattle.std.specs.Prelude.{ℕ, ◌≢◌, ◌∷◌, [], Bool, get_or, true, IfErr, IfOk, IfSome, IsTrue, IsUtf8, ◌↔◌};
     ghost use Rattle.hashbag_csv.specs.BadLines.{IsTextError};
     ghost use Rattle.hashbag_csv.specs.KeyForms.{trimmed};
-    ghost use Rattle.hashbag_csv.specs.Lines.{place_of};
+    ghost use Rattle.hashbag_csv.specs.Lines.{headed, list_in, place_of};
     ghost use Rattle.hashbag_csv.specs.Readers.{IsNext, records_in};
-    ghost use Rattle.hashbag_csv.specs.Sheets.{IsAtHeader, IsColumnError, IsOnlyAt, IsReadError, KeepsHeader, ReadsOne, fits_sheet, last_field, left, place, read_last};
+    ghost use Rattle.hashbag_csv.specs.Sheets.{IsAtHeader, IsColumnError, IsOnlyAt, IsOpened, IsReadError, KeepsHeader, ReadsOne, fits_sheet, is_short_allowed, last_field, left, place, read_last};
 
     /// Opens the sheet of a text with commas between fields, and reads its header.
     pub fn open(alloc: Global, text: &'a [u8]) -> Result<Sheet<'a>, SheetError>
@@ -124,6 +140,28 @@ impl<'a> Sheet<'a> {
         Ok(sheet)
     }
 
+    /// Opens the sheet of a list whose lines are in the form `form`, and reads its header. If the form has no header, the columns are named
+    /// `1`, `2` and so on, one for each field of the first record. Returns `None` if such a list has no record.
+    pub fn open_list(
+        alloc: Global,
+        text: &'a [u8],
+        delimiter: Delimiter,
+        form: LineForm,
+    ) -> Result<Option<Sheet<'a>>, SheetError>
+        // The header, or the numbers that replace a missing one, was read last, and `left` are the records after it; or there is no record, and the
+        // result is `None`.
+        ensures records { IfOk result (IsOpened (list_in delimiter form text.now)) }
+
+        // The header's number of fields is that of the record read last. Records may have fewer exactly if `form.allows_short`.
+        ensures width { IfOk result (λ opened. IfSome opened (IsAtHeader form.allows_short)) }
+    {
+        if form.no_header {
+            return Sheet::open_numbered(alloc, text, delimiter, form.allows_short);
+        }
+        let sheet = Sheet::open_lines(alloc, text, delimiter, form.allows_short)?;
+        Ok(Some(sheet))
+    }
+
     /// Opens the sheet of a text with this delimiter between fields, and reads its header. If `allows_short`, a record may have fewer
     /// fields than the header.
     pub fn open_lines(
@@ -134,14 +172,57 @@ impl<'a> Sheet<'a> {
     ) -> Result<Sheet<'a>, SheetError>
         // The header was read last. `left` are the records after it.
         ensures records { IfOk result (λ sheet. records_in delimiter text.now ≡ read_last sheet ∷ left sheet) }
-        ensures width { IfOk result (λ sheet. IsAtHeader allows_short sheet) }
+
+        // The header's number of fields is that of the record read last. Records may have fewer exactly if `allows_short`.
+        ensures width { IfOk result (IsAtHeader allows_short) }
+    {
+        let mut sheet = Sheet::unread(alloc, text, delimiter, allows_short)?;
+        if sheet.read_next()? {
+            sheet.width = sheet.record.len();
+            Ok(sheet)
+        } else {
+            let fault = Fault::NoHeader;
+            Err(SheetError::Line { line: 1, fault })
+        }
+    }
+
+    // Opens the sheet of a text without a header. The numbers of the first record's fields replace the header. Returns `None` if the text has no
+    // record.
+    fn open_numbered(
+        alloc: Global,
+        text: &'a [u8],
+        delimiter: Delimiter,
+        allows_short: bool,
+    ) -> Result<Option<Sheet<'a>>, SheetError>
+        ensures records { IfOk result (IsOpened (headed true (records_in delimiter text.now))) }
+        ensures width { IfOk result (λ opened. IfSome opened (IsAtHeader allows_short)) }
+    {
+        let mut first = Sheet::unread(alloc, text, delimiter, allows_short)?;
+        if !first.take_record()? {
+            return Ok(None);
+        }
+        let mut sheet = Sheet::unread(alloc, text, delimiter, allows_short)?;
+        sheet.width = first.record.len();
+        sheet.record = numbers_to(alloc, sheet.width)?;
+        Ok(Some(sheet))
+    }
+
+    // Opens the sheet of a text, and reads nothing of it.
+    fn unread(
+        alloc: Global,
+        text: &'a [u8],
+        delimiter: Delimiter,
+        allows_short: bool,
+    ) -> Result<Sheet<'a>, SheetError>
+        ensures left { IfOk result (λ sheet. records_in delimiter text.now ≡ left sheet) }
+        ensures short { IfOk result (λ sheet. is_short_allowed sheet ≡ allows_short) }
     {
         if is_utf16(text) {
             let fault = Fault::Utf16;
             return Err(SheetError::Line { line: 1, fault });
         }
         let text = text.strip_prefix(BYTE_ORDER_MARK).unwrap_or(text);
-        let mut sheet = Sheet {
+        Ok(Sheet {
             alloc,
             text,
             delimiter,
@@ -153,14 +234,7 @@ impl<'a> Sheet<'a> {
             record: ByteRecord::new(alloc),
             width: 0,
             allows_short,
-        };
-        if sheet.read_next()? {
-            sheet.width = sheet.record.len();
-            Ok(sheet)
-        } else {
-            let fault = Fault::NoHeader;
-            Err(SheetError::Line { line: 1, fault })
-        }
+        })
     }
 
     /// Reads the next record, and returns whether there was one.
@@ -168,12 +242,16 @@ impl<'a> Sheet<'a> {
         // If `found`, the first record of `left` was read; else `left` was empty.
         ensures next { IfOk result (λ found. IsNext found (read_last self.new) (left self.old) (left self.new)) }
 
-        // `fits`: the record has as many fields as the header, or fewer if that is allowed. `fault`: an error about the number of fields is
-        // returned only if it hasn't. `reads_on`: after any error but `Memory` the record has been read, so the next call reads the one
-        // after it.
+        // The record has as many fields as the header, or fewer if that is allowed.
         ensures fits { IfOk result (λ found. found ≡ true → fits_sheet self.old (read_last self.new) ≡ true) }
+
+        // A quote is misplaced, or the record doesn't have that number of fields; or the error is `Memory`.
         ensures fault { IfErr result (λ e. IsReadError (fits_sheet self.old (read_last self.new)) e) }
+
+        // After any error but `Memory` the record has been read, so the next call reads the one after it.
         ensures reads_on { IfErr result (λ e. e ≢ SheetError.Memory → ReadsOne self.old self.new) }
+
+        // The header's number of fields, and whether a record may have fewer, are unchanged.
         ensures same { KeepsHeader self.old self.new }
     {
         let found = self.read_next()?;
@@ -194,7 +272,7 @@ impl<'a> Sheet<'a> {
         found == self.width
     }
 
-    // Returns the error that the record that was read last doesn't fit the header.
+    // Returns the error of the record that was read last, which doesn't fit the header.
     fn fields_error(&self) -> SheetError
         ensures { (fits : Bool) → fits ≡ false → IsReadError fits result }
     {
@@ -351,6 +429,7 @@ impl<'a> Sheet<'a> {
     /// Returns the column with this name in the header. If the header lacks it, returns a column whose field is empty in each record. Call
     /// it before the first [`Sheet::read`], which replaces the header.
     pub fn column_or_empty<'n>(&self, name: &'n str) -> Result<Column<'n>, SheetError>
+        // `place_of` is the index of the first field equal to `name` in the record read last, here the header; the number of its fields if none is.
         ensures { IfOk result (λ column. place column ≡ place_of (read_last self.now) name.now) }
     {
         match self.column(name) {
@@ -368,7 +447,7 @@ impl<'a> Sheet<'a> {
         }
     }
 
-    // Returns `bytes` as text. An error names `column`, whose field they are from.
+    // Returns `bytes` as text. The bytes are of the field of `column`. An error names this column.
     fn text_of<'s>(&'s self, column: Column<'_>, bytes: &'s [u8]) -> Result<&'s str, SheetError>
         ensures value { IfOk result (λ text. text.now ≡ bytes.now) }
         ensures fault { IfErr result (λ e. IsTextError e) }
@@ -384,6 +463,7 @@ impl<'a> Sheet<'a> {
 
     /// Returns the field of a column in the record that was read last, as text.
     pub fn field(&self, column: Column<'_>) -> Result<&str, SheetError>
+        // The text is the field; it is empty if the record has no such field. The error is that a field isn't UTF-8, or `Memory`.
         ensures value { IfOk result (λ text. text.now ≡ last_field self.now column.entry) }
         ensures fault { IfErr result (λ e. IsTextError e) }
     {
@@ -392,6 +472,7 @@ impl<'a> Sheet<'a> {
 
     /// Returns the field of a column in the record that was read last, as text, without the spaces and tabs at both ends.
     pub fn trimmed_field(&self, column: Column<'_>) -> Result<&str, SheetError>
+        // The text is the field without these ends; it is empty if the record has no such field. The error is that a field isn't UTF-8, or `Memory`.
         ensures value { IfOk result (λ text. text.now ≡ trimmed (last_field self.now column.entry)) }
         ensures fault { IfErr result (λ e. IsTextError e) }
     {
@@ -400,6 +481,7 @@ impl<'a> Sheet<'a> {
 
     /// Returns an error with this fault, at the line on which the record that was read last begins.
     pub fn bad_line(&self, fault: Fault) -> SheetError
+        // The error is `Line` with this fault. Which line it has isn't stated.
         ensures { (line : ℕ) × (result ≡ SheetError.Line line fault) }
     {
         let line = self.line();

@@ -2,7 +2,8 @@
 use clap::{Arg, ArgAction, Command, value_parser};
 use hashbag_shell::VERSION;
 use hashbag_shell::options::{
-    CommandResult, encoding_arg, with, with_heading, with_output, with_progress, with_reading,
+    CommandResult, DELIMITERS, MARKS, encoding_arg, with, with_heading, with_output, with_progress,
+    with_reading,
 };
 use std::alloc::Global;
 
@@ -12,12 +13,12 @@ pub const PROGRAM: &str = "hashbag_match";
 const ABOUT: &str = "Matches what was ordered with what was delivered, article by article.";
 
 const AFTER: &str = "\
-Both files are CSV with a header; their columns are found by name. An article may be on several lines; its numbers add up.
+Both files are CSV with a header, or without one; their columns are found by name. An article may be on several lines; its numbers add up.
 `-` is standard input.
 
 Example: hashbag_match --only differing ordered.csv delivered.csv
          hashbag_match --key sku,lot --number qty --delivered-number Menge --scale 2 ordered.csv delivered.csv
-         hashbag_match --each-line --trim --fold ordered.csv delivered.csv
+         hashbag_match --each-line --no-header --trim --fold ordered.txt delivered.txt
          hashbag_match --encoding UTF-16 --delimiter tab ordered.txt delivered.txt
 
 Status: 0 they agree, 1 they differ, 2 bad arguments or a bad line (FILE:LINE is said), 3 no memory, 4 a file can't be opened, or a
@@ -35,13 +36,13 @@ fn with_columns<'a>(alloc: Global, command: CommandResult<'a>) -> CommandResult<
         .short('k')
         .long("key")
         .value_name("COLUMNS")
-        .default_value("article")
-        .help("The columns of an article, separated by commas");
+        .help(
+            "The columns of an article, separated by commas [default: article; 1 with --no-header]",
+        );
     let number = Arg::new(alloc, "number")
         .long("number")
         .value_name("COLUMN")
-        .default_value("number")
-        .help("The column of numbers");
+        .help("The column of numbers [default: number; 2 with --no-header]");
     let delivered_key = Arg::new(alloc, "delivered-key")
         .long("delivered-key")
         .value_name("COLUMNS")
@@ -52,17 +53,18 @@ fn with_columns<'a>(alloc: Global, command: CommandResult<'a>) -> CommandResult<
         .help("The name of the column of numbers in DELIVERED.csv, if it is another");
     let command = with(with(command, key), number);
     let command = with(with(command, delivered_key), delivered_number);
-    let command = with_short(alloc, with_lines(alloc, command));
+    let command = with_header(alloc, with_lines(alloc, command));
+    let command = with_short(alloc, command);
     let command = with_number_form(alloc, command);
     with_key_form(alloc, command)
 }
 
-// Adds `--each-line`, which no option about numbers may be given with.
+// Adds `--each-line`, which conflicts with each option about numbers.
 fn with_lines<'a>(alloc: Global, command: CommandResult<'a>) -> CommandResult<'a> {
     let each_line = Arg::new(alloc, "each-line")
         .long("each-line")
         .action(ArgAction::SetTrue)
-        .help("Read no column of numbers: each line below the header counts as one")
+        .help("Read no column of numbers: each line counts as one")
         .conflicts_with("number")?
         .conflicts_with("delivered-number")?
         .conflicts_with("scale")?
@@ -71,7 +73,16 @@ fn with_lines<'a>(alloc: Global, command: CommandResult<'a>) -> CommandResult<'a
     with(command, each_line)
 }
 
-// Adds whether fields may be missing.
+// Adds `--no-header`: whether the lists have headers.
+fn with_header<'a>(alloc: Global, command: CommandResult<'a>) -> CommandResult<'a> {
+    let no_header = Arg::new(alloc, "no-header")
+        .long("no-header")
+        .action(ArgAction::SetTrue)
+        .help("Read files without a header; their columns are named 1, 2 and so on");
+    with(command, no_header)
+}
+
+// Adds `--allow-short`: whether fields may be missing.
 fn with_short<'a>(alloc: Global, command: CommandResult<'a>) -> CommandResult<'a> {
     let allow_short = Arg::new(alloc, "allow-short")
         .long("allow-short")
@@ -80,7 +91,7 @@ fn with_short<'a>(alloc: Global, command: CommandResult<'a>) -> CommandResult<'a
     with(command, allow_short)
 }
 
-// Adds what a field of numbers may be.
+// Adds `--blank-is-zero` and `--group-mark`: what a field of numbers may be.
 fn with_number_form<'a>(alloc: Global, command: CommandResult<'a>) -> CommandResult<'a> {
     let blank_is_zero = Arg::new(alloc, "blank-is-zero")
         .long("blank-is-zero")
@@ -94,7 +105,7 @@ fn with_number_form<'a>(alloc: Global, command: CommandResult<'a>) -> CommandRes
     with(with(command, blank_is_zero), group_mark)
 }
 
-// Adds the form in which the fields of an article are compared, and shown.
+// Adds `--trim` and `--fold`: in which form the fields of an article are compared, and shown.
 fn with_key_form<'a>(alloc: Global, command: CommandResult<'a>) -> CommandResult<'a> {
     let trim = Arg::new(alloc, "trim")
         .long("trim")
@@ -121,6 +132,21 @@ fn with_messages<'a>(alloc: Global, command: CommandResult<'a>) -> CommandResult
     with_progress(alloc, with(command, max_errors), help)
 }
 
+// Adds the options for DELIVERED.csv, if it isn't written as ORDERED.csv is.
+fn with_delivered_form<'a>(alloc: Global, command: CommandResult<'a>) -> CommandResult<'a> {
+    let delimiter = Arg::new(alloc, "delivered-delimiter")
+        .long("delivered-delimiter")
+        .value_name("DELIMITER")
+        .value_parser(DELIMITERS.as_slice())
+        .help("What is between fields in DELIVERED.csv, if it is another");
+    let mark = Arg::new(alloc, "delivered-mark")
+        .long("delivered-mark")
+        .value_name("MARK")
+        .value_parser(MARKS.as_slice())
+        .help("What is before decimals in DELIVERED.csv, if it is another");
+    with(with(command, delimiter), mark)
+}
+
 // Adds the encodings of the files.
 fn with_encodings<'a>(alloc: Global, command: CommandResult<'a>) -> CommandResult<'a> {
     let help = "The encoding of both files; what is written is UTF-8";
@@ -143,7 +169,7 @@ fn with_writing<'a>(alloc: Global, command: CommandResult<'a>) -> CommandResult<
         .value_name("FORM")
         .value_parser(FORMS.as_slice())
         .default_value("table")
-        .help("How they are written");
+        .help("How rows are written");
     let carry = Arg::new(alloc, "carry")
         .long("carry")
         .value_name("COLUMNS")
@@ -172,6 +198,6 @@ pub fn command<'a>(alloc: Global) -> CommandResult<'a> {
     let command = with(with(Ok(command), ordered), delivered);
     let command = with_columns(alloc, with_heading(command, "Columns"));
     let command = with_reading(alloc, with_heading(command, "Numbers and fields"));
-    let command = with_encodings(alloc, command);
+    let command = with_encodings(alloc, with_delivered_form(alloc, command));
     with_writing(alloc, with_heading(command, "Output"))
 }

@@ -8,7 +8,9 @@ use crate::command::{PROGRAM, command};
 use crate::settings::Settings;
 use hashbag_csv::fault::{SheetError, in_file};
 use hashbag_match_lib::files::{Unmatched, match_files};
+use hashbag_match_lib::hints::{hint_of, with_hint};
 use hashbag_match_lib::texts::Findings;
+use hashbag_shell::input::shown_name;
 use hashbag_shell::inputs::HostInputs;
 use hashbag_shell::output::Output;
 use hashbag_shell::program::{given_to, program};
@@ -18,25 +20,42 @@ use hashbag_shell::trouble::Trouble;
 use std::hash::RandomState;
 use std::process::ExitCode;
 
-// Names the bad lines of a file on standard error.
+// Names the bad lines of a file on standard error, each with the option that would read it. Says so if there may be more of them.
 fn name_lines<'a>(
     rt: &HostRuntime,
     settings: &Settings<'a>,
     file: &'a str,
     errors: Vec<SheetError>,
 ) {
+    let (alloc, ask) = (rt.alloc(), &settings.ask);
+    let columns = if file == settings.files.ordered {
+        &ask.ordered
+    } else {
+        &ask.delivered
+    };
+    let most = ask.max_errors;
+    let is_cut = most > 1 && errors.len() == most;
     for error in errors {
-        if let Err(trouble) = in_file::<()>(rt.alloc(), file, Err(error)) {
-            of_either(rt, settings, trouble).report(rt, PROGRAM);
+        let hint = hint_of(&error, ask.line_form, columns.reading.scale.mark);
+        if let Err(trouble) = in_file::<()>(alloc, file, Err(error)) {
+            of_either(rt, settings, with_hint(alloc, trouble, hint)).report(rt, PROGRAM);
         }
+    }
+    if is_cut {
+        let _ = eprintln!(rt;
+            "{PROGRAM}: {}: no more than {most} bad lines are named; `--max-errors 0` names all",
+            shown_name(file)
+        );
     }
 }
 
-// Returns the trouble. If it is of the second file alone, it names the option for that file's encoding.
+// Returns the trouble. If it is about the second file alone, its message names `--delivered-encoding`.
 fn of_either<'a>(rt: &HostRuntime, settings: &Settings<'a>, trouble: Trouble<'a>) -> Trouble<'a> {
     match &trouble {
-        Trouble::BadLine { file, .. } if *file == settings.delivered && *file != settings.ordered =>
-            { with_option(rt.alloc(), trouble, "--delivered-encoding") }
+        Trouble::BadLine { file, .. }
+            if *file == settings.files.delivered && *file != settings.files.ordered => {
+            with_option(rt.alloc(), trouble, "--delivered-encoding")
+        }
         _ => trouble,
     }
 }
@@ -47,17 +66,9 @@ fn matched<'a>(
     settings: &Settings<'a>,
 ) -> Result<(Vec<u8>, Findings), Trouble<'a>> {
     let state = RandomState::new(rt).map_err(|error| Trouble::Random(error))?;
-    let files = [settings.ordered, settings.delivered];
+    let files = [settings.files.ordered, settings.files.delivered];
     let inputs = HostInputs::new(rt, settings.reports, &files);
-    let made = match_files(
-        rt.alloc(),
-        state,
-        &inputs,
-        &settings.ask,
-        settings.ordered,
-        settings.delivered,
-        settings.encodings,
-    );
+    let made = match_files(rt.alloc(), state, &inputs, &settings.ask, settings.files);
     inputs.end();
     match made {
         Ok(made) => Ok(made),

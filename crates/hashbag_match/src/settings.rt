@@ -6,6 +6,7 @@ use hashbag_csv::key_form::KeyForm;
 use hashbag_csv::line_form::LineForm;
 use hashbag_csv::number_form::NumberForm;
 use hashbag_match_lib::ask::{Ask, Columns};
+use hashbag_match_lib::files::TwoFiles;
 use hashbag_match_lib::keys::names_in;
 use hashbag_match_lib::output::Form;
 use hashbag_match_lib::shown::Only;
@@ -20,12 +21,8 @@ use std::rt::Files;
 /// The files, and what is asked of them.
 #[derive(Drop)]
 pub struct Settings<'a> {
-    /// The file of what was ordered.
-    pub ordered: &'a str,
-    /// The file of what was delivered.
-    pub delivered: &'a str,
-    /// The encodings of the two files, each `None` for UTF-8.
-    pub encodings: (Option<Encoding>, Option<Encoding>),
+    /// The two files.
+    pub files: TwoFiles<'a>,
     /// The file that is written, or standard output.
     pub output: Option<&'a str>,
     /// When progress is reported.
@@ -34,7 +31,7 @@ pub struct Settings<'a> {
     pub ask: Ask<'a>,
 }
 
-// How many bad lines are named: 0 on the command line means all.
+// Returns how many bad lines are named at most. On the command line 0 means all.
 fn max_errors_of(given: &ArgMatches<'_>) -> usize {
     match given.get_one::<usize>("max-errors") {
         Some(0) => usize::MAX,
@@ -43,7 +40,7 @@ fn max_errors_of(given: &ArgMatches<'_>) -> usize {
     }
 }
 
-// The column of numbers, which has this name, or `None` if each line counts as one.
+// Returns this name of the column of numbers, or `None` if each line counts as one.
 fn number_column<'a>(given: &ArgMatches<'a>, name: &'a str) -> Option<&'a str> {
     if given.get_flag("each-line") {
         return None;
@@ -51,7 +48,7 @@ fn number_column<'a>(given: &ArgMatches<'a>, name: &'a str) -> Option<&'a str> {
     Some(name)
 }
 
-// How lines are read.
+// Returns how lines are read.
 fn line_form_of(given: &ArgMatches<'_>) -> LineForm {
     LineForm {
         key: KeyForm {
@@ -63,26 +60,40 @@ fn line_form_of(given: &ArgMatches<'_>) -> LineForm {
             group: GroupMark::named(word(given, "group-mark", "")),
         },
         allows_short: given.get_flag("allow-short"),
+        no_header: given.get_flag("no-header"),
     }
 }
 
-// What the words ask for.
+// Returns what the words ask for.
 fn ask_of<'a>(alloc: Global, given: &ArgMatches<'a>) -> Result<Ask<'a>, AllocError> {
-    let key = word(given, "key", "article");
-    let number = word(given, "number", "number");
+    let line_form = line_form_of(given);
+    let (key, number) = if line_form.no_header {
+        ("1", "2")
+    } else {
+        ("article", "number")
+    };
+    let key = word(given, "key", key);
+    let number = word(given, "number", number);
+    let delimiter = word(given, "delimiter", ",");
+    let (decimals, mark) = (word(given, "scale", "0"), word(given, "mark", "."));
     Ok(Ask {
-        ordered: Columns::named(alloc, key, number_column(given, number))?,
+        ordered: Columns::named(
+            alloc,
+            key,
+            number_column(given, number),
+            Reading::named(delimiter, decimals, mark),
+        )?,
         delivered: Columns::named(
             alloc,
             word(given, "delivered-key", key),
             number_column(given, word(given, "delivered-number", number)),
+            Reading::named(
+                word(given, "delivered-delimiter", delimiter),
+                decimals,
+                word(given, "delivered-mark", mark),
+            ),
         )?,
-        reading: Reading::named(
-            word(given, "delimiter", ","),
-            word(given, "scale", "0"),
-            word(given, "mark", "."),
-        ),
-        line_form: line_form_of(given),
+        line_form,
         carried: match given.get_str("carry") {
             Some(names) => names_in(alloc, names)?,
             None => Vec::new(alloc),
@@ -94,7 +105,7 @@ fn ask_of<'a>(alloc: Global, given: &ArgMatches<'a>) -> Result<Ask<'a>, AllocErr
     })
 }
 
-// The encodings of the two files.
+// Returns the encodings of the two files.
 fn encodings_of(given: &ArgMatches<'_>) -> (Option<Encoding>, Option<Encoding>) {
     let ordered = encoding(given, "encoding");
     let delivered = match given.get_str("delivered-encoding") {
@@ -109,15 +120,17 @@ impl<'a> Settings<'a> {
     ///
     /// # Errors
     ///
-    /// `Arguments` if they don't fit together, `Memory` if an allocation fails.
+    /// `Arguments` if the words don't fit together, `Memory` if an allocation fails.
     pub fn of<R: Files + AllocGlobal>(
         rt: &R,
         given: &ArgMatches<'a>,
     ) -> Result<Settings<'a>, Trouble<'a>> {
         let settings = Settings {
-            ordered: given.get_str("ORDERED.csv").unwrap_or("-"),
-            delivered: given.get_str("DELIVERED.csv").unwrap_or("-"),
-            encodings: encodings_of(given),
+            files: TwoFiles {
+                ordered: given.get_str("ORDERED.csv").unwrap_or("-"),
+                delivered: given.get_str("DELIVERED.csv").unwrap_or("-"),
+                encodings: encodings_of(given),
+            },
             output: given.get_str("output"),
             reports: reports(given),
             ask: ask_of(rt.alloc(), given)?,
@@ -126,17 +139,22 @@ impl<'a> Settings<'a> {
         Ok(settings)
     }
 
-    // Whether the words fit together.
+    // Returns an error if the words don't fit together.
     fn check<R: Files + AllocGlobal>(&self, rt: &R) -> Result<(), Trouble<'a>> {
         let alloc = rt.alloc();
-        if self.ordered == "-" && self.delivered == "-" {
+        let TwoFiles {
+            ordered,
+            delivered,
+            ..
+        } = self.files;
+        if ordered == "-" && delivered == "-" {
             return Err(Trouble::Arguments(format!(in alloc; "both files are standard input")?));
         }
         if let Err(bad) = self.ask.fits() {
             return Err(Trouble::Arguments(format!(in alloc; "{bad}")?));
         }
         if let Some(file) = self.output
-            && (is_one_file(rt, self.ordered, file) || is_one_file(rt, self.delivered, file))
+            && (is_one_file(rt, ordered, file) || is_one_file(rt, delivered, file))
         {
             return Err(Trouble::Arguments(format!(in alloc; "the output is one of the inputs")?));
         }

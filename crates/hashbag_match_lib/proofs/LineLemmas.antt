@@ -10,7 +10,8 @@ use Rattle.hashbag_csv.specs.declared.scale.Scale.{Scale}
 use Rattle.hashbag_csv.proofs.BadLineLemmas.{map_copied}
 use Rattle.hashbag.specs.Bag.{Bag}
 use Rattle.hashbag.proofs.MemberLemmas.{map-map}
-use Rattle.hashbag_match_lib.specs.Fields.{HasLineMore, IsTallyOfLines}
+use Rattle.hashbag_match_lib.specs.Fields.{IsTallyOfLines}
+use Rattle.hashbag_match_lib.specs.Tallies.{IsTallyOf}
 
 module _ {A : Type 0} (eq : A → A → Bool) (fields : A → Record) where
   -- the lines before are those so far
@@ -19,7 +20,7 @@ module _ {A : Type 0} (eq : A → A → Bool) (fields : A → Record) where
 
   -- one line more
   pub more_lines : {S : Type 0} (K D : List (Record × ℕ)) (article : A) (number : ℕ) (bag none bag' none' : Bag A S)
-      → HasLineMore eq article number bag none bag' none' → IsTallyOfLines eq fields (K ++ D) bag none → IsTallyOfLines eq fields (K ++ (D ++ line_bytes fields (article, number) ∷ [])) bag' none'
+      → ((L : List (A × ℕ)) → IsTallyOf eq L bag none → IsTallyOf eq (L ++ (article, number) ∷ []) bag' none') → IsTallyOfLines eq fields (K ++ D) bag none → IsTallyOfLines eq fields (K ++ (D ++ line_bytes fields (article, number) ∷ [])) bag' none'
   more_lines K D article number bag none bag' none' more (L, are, is) = (
     L ++ (article, number) ∷ [],
     map-append (line_bytes fields) L ((article, number) ∷ []) ∙ ap (λ (l : List (Record × ℕ)). l ++ line_bytes fields (article, number) ∷ []) are ∙ append_assoc K D (line_bytes fields (article, number) ∷ []),

@@ -6,7 +6,7 @@ use Rattle.std.proofs.lemmas.Bool.{false≢true}
 use Rattle.std.proofs.lemmas.List.Sums.{sum_by-cons, sum_by_push}
 use Rattle.hashbag.specs.Bag.{Bag}
 use Rattle.hashbag.specs.Occurrences.{count, greatest_total}
-use Rattle.hashbag_csv.specs.Quantities.{numbers, quantity, times}
+use Rattle.hashbag_csv.specs.Quantities.{number_sum, quantity, times}
 use Rattle.hashbag_match_lib.specs.Tallies.{zeros_of, IsTallyOf}
 
 -- ---- a line
@@ -69,7 +69,7 @@ module _ {T : Type 0} (eq : T → T → Bool) where
     longer_zeros : (v : T) → zeros_of eq v (L ++ (x, n) ∷ []) ≡ zeros_of eq v L + cond {A = ℕ} (eq v x) (cond (n == 0) 1 0) 0
     longer_zeros v = sum_by_push (λ (p : T × ℕ). cond {A = ℕ} (eq v p.0) (cond (p.1 == 0) 1 0) 0) L (x, n)
 
-    longer_numbers : numbers (L ++ (x, n) ∷ []) ≡ numbers L + n
+    longer_numbers : number_sum (L ++ (x, n) ∷ []) ≡ number_sum L + n
     longer_numbers = sum_by_push (λ (p : T × ℕ). p.1) L (x, n)
 
     pub one_with_number : {S : Type 0} (bag bag' none : Bag T S) → 0 < n → ((v : T) → count eq v bag'.items ≡ count eq v bag.items + cond (eq v x) n 0) → length bag'.items ≡ length bag.items + n → bag'.most ≡ bag.most

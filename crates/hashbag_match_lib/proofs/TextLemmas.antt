@@ -20,12 +20,14 @@ use Rattle.hashbag_csv.specs.Readers.{Record}
 use Rattle.hashbag_match_lib.specs.Forms.{text_of}
 use Rattle.hashbag_match_lib.specs.Matching.{AreRows, AreTotals, agrees, lent_rows, missing_of, surplus_of, totals_in}
 use Rattle.hashbag_match_lib.specs.Asks.{Lines}
-use Rattle.hashbag_match_lib.specs.Files.{AreMatchedFiles, Encodings, Gives}
+use Rattle.hashbag_match_lib.specs.Files.{AreMatchedFiles, Gives}
 use Rattle.hashbag_match_lib.specs.Shown.{Entry, bytes_row, shown_rows, with_first}
 use Rattle.hashbag_match_lib.specs.Texts.{AreRowsOfLines, IsTextOfLines, Rise, RiseAs, look_asked}
 use Rattle.hashbag_match_lib.specs.Written.{Look}
 use Rattle.hashbag_match_lib.specs.declared.ask.Ask.{Ask}
+use Rattle.hashbag_match_lib.specs.declared.files.TwoFiles.{TwoFiles}
 use Rattle.hashbag_match_lib.specs.declared.matching.Row.{Row}
+use Rattle.hashbag_match_lib.specs.declared.texts.Findings.{Findings}
 use Rattle.hashbag_match_lib.specs.declared.totals.Totals.{Totals}
 use Rattle.hashbag_match_lib.proofs.ByteLemmas.{articles_decide, named_times, quantity_of, times_of}
 use Rattle.hashbag_match_lib.proofs.RowLemmas.{lent_row}
@@ -140,8 +142,8 @@ lists_rise articles h = subst Rise (sym h.2)
     (strictly_mapped (λ (x y : Vec (String Global)). slice_cmp (string_cmp {Z = Global}) x.items y.items) (slice_cmp (slice_cmp nat_cmp)) (λ (v : Vec (String Global)). map string_bytes v.items) (λ x y. texts_alike x.items y.items) h.0 h.1)
 
 -- what was matched, in another order that articles are in too
-pub matched_in_order : {R S : List Record → Type 0} {gives : Gives} {encodings : Encodings} {ask : Ask} {ordered delivered text : List ℕ} {status : ℕ} → ((articles : List Record) → R articles → S articles)
-    → AreMatchedFiles R gives encodings ask ordered delivered text status → AreMatchedFiles S gives encodings ask ordered delivered text status
+pub matched_in_order : {R S : List Record → Type 0} {gives : Gives} {files : TwoFiles} {ask : Ask} {made : Vec ℕ × Findings} → ((articles : List Record) → R articles → S articles)
+    → AreMatchedFiles R gives files ask made → AreMatchedFiles S gives files ask made
 matched_in_order also m = record {
   first = m.first;
   second = m.second;

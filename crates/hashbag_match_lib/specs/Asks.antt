@@ -1,4 +1,4 @@
--- What a request names, and the lines of both texts.
+-- What an `Ask` names, and the lines of both texts.
 use Rattle.std.specs.Prelude.{ℕ, ◌==◌, if◌then◌else◌, List, [], map, vec_len, Option, option_copied}
 use Rattle.std.specs.Borrow.{Bor}
 use Rattle.hashbag_csv.specs.FirstLines.{Carried, carried_in}
@@ -17,13 +17,9 @@ Lines = List (Record × ℕ)
 abbrev pub names_of : Columns → List (List ℕ)
 names_of c = map (λ k. k.now) c.keys.items
 
--- the lines of a text, whose columns have these names
-abbrev pub lines_of : Reading → LineForm → Columns → List ℕ → Lines
-lines_of reading form c text = lines_in reading form (names_of c) (option_copied c.number) text
-
--- the lines of a text, read as is asked for
+-- the lines of a text with these columns, read as `ask` says
 abbrev pub lines_asked : Ask → Columns → List ℕ → Lines
-lines_asked ask c text = lines_of ask.reading ask.line_form c text
+lines_asked ask c text = lines_in c.reading ask.line_form (names_of c) (option_copied c.number) text
 
 -- the lines of a text of what was ordered
 abbrev pub ordered_in : Ask → List ℕ → Lines
@@ -39,8 +35,8 @@ lines_named reading form keys number text = lines_in reading form (map (λ k. k.
 
 -- articles with the fields that are carried along, of the lines of a text with these columns
 abbrev pub carried_of : Ask → Columns → List ℕ → List Carried
-carried_of ask c text = carried_in ask.reading.delimiter ask.line_form.key (names_of c) (map (λ k. k.now) ask.carried.items) text
+carried_of ask c text = carried_in c.reading.delimiter ask.line_form (names_of c) (map (λ k. k.now) ask.carried.items) text
 
--- the same if columns are named whose fields are carried along, and else none
+-- the same if `ask` names carried columns, else nothing
 abbrev pub carried_along : Ask → Columns → List ℕ → List Carried
 carried_along ask c text = if vec_len ask.carried == 0 then [] else carried_of ask c text

@@ -1,32 +1,36 @@
 -- Articles as the fields of their key columns.
-use Rattle.std.specs.Prelude.{◌≡◌, ℕ, Bool, List, [], ◌∷◌, ◌++◌, map}
+use Rattle.std.specs.Prelude.{◌≡◌, ℕ, Bool, List, ◌++◌, map}
 use Rattle.hashbag.specs.Bag.{Bag}
-use Rattle.hashbag_csv.specs.LineColumns.{line_bytes}
+use Rattle.hashbag_csv.specs.LineColumns.{line_by, line_bytes}
 use Rattle.hashbag_csv.specs.Readers.{Record}
+use Rattle.hashbag_csv.specs.Sheets.{left}
+use Rattle.hashbag_csv.specs.declared.lines.LineColumns.{LineColumns}
+use Rattle.hashbag_csv.specs.declared.scale.Scale.{Scale}
+use Rattle.hashbag_csv.specs.declared.sheet.Sheet.{Sheet}
 use Rattle.hashbag_match_lib.specs.Asks.{Lines}
 use Rattle.hashbag_match_lib.specs.Matched.{HaveSameQuantities, IsStatusOf}
 use Rattle.hashbag_match_lib.specs.Tallies.{IsTallyOf}
 use Rattle.hashbag_match_lib.specs.declared.tally.Tally.{Tally}
 
+-- the lines of the records that a sheet hasn't read, by these columns
+abbrev pub lines_left : Scale → LineColumns → Sheet → Lines
+lines_left scale columns sheet = map (line_by scale columns) (left sheet)
+
 module _ {A : Type 0} (eq : A → A → Bool) where
   -- the bags are the tally of these lines, which are given as bytes
   abbrev pub IsTallyOfLines : {S : Type 0} → (A → Record) → List (Record × ℕ) → Bag A S → Bag A S → Type 0
-  IsTallyOfLines fields lines bag none = (L : List (A × ℕ)) × (map (line_bytes fields) L ≡ lines) × IsTallyOf eq L bag none
+  IsTallyOfLines fields lines bag zeros = (L : List (A × ℕ)) × (map (line_bytes fields) L ≡ lines) × IsTallyOf eq L bag zeros
 
-  -- the bags have a line more
-  abbrev pub HasLineMore : {S : Type 0} → A → ℕ → Bag A S → Bag A S → Bag A S → Bag A S → Type 0
-  HasLineMore article number bag none bag' none' = (L : List (A × ℕ)) → IsTallyOf eq L bag none → IsTallyOf eq (L ++ (article, number) ∷ []) bag' none'
-
-  -- a tally is that of these lines, which are given as bytes
+  -- a tally is of these lines, which are given as bytes
   abbrev pub TalliesLines : {S H : Type 0} → (A → Record) → List (Record × ℕ) → Tally A S H → Type 0
   TalliesLines fields lines tally = IsTallyOfLines fields lines tally.counts tally.zeros
 
-  -- whatever lines the old tally is of, the new one is of those and these
+  -- if the old tally is of lines K, the new tally is of K and then `lines`
   abbrev pub TalliesMore : {S H : Type 0} → (A → Record) → List (Record × ℕ) → Tally A S H → Tally A S H → Type 0
   TalliesMore fields lines old new =
       (K : List (Record × ℕ)) → IsTallyOfLines fields K old.counts old.zeros → IsTallyOfLines fields (K ++ lines) new.counts new.zeros
 
-  -- the status is 0 exactly if the lines of two tallies, as bytes, name as many of each article; else it is 1
+  -- the status is 0 exactly if the lines of two tallies, as bytes, name the same quantity of each article; else it is 1
   abbrev pub IsStatusOfLines : {S H : Type 0} → (A → Record) → Tally A S H → Tally A S H → ℕ → Type 0
   IsStatusOfLines fields ordered delivered status =
       (L M : Lines) → IsTallyOfLines fields L ordered.counts ordered.zeros → IsTallyOfLines fields M delivered.counts delivered.zeros → IsStatusOf (HaveSameQuantities L M) status

@@ -1,4 +1,4 @@
--- The bytes that are written of rows, in each form.
+-- The text of rows, in each form.
 use Rattle.std.specs.Prelude.{ℕ, List}
 use Rattle.hashbag_match_lib.specs.Shown.{Entry}
 use Rattle.hashbag_match_lib.specs.Tables.{table_text}

@@ -29,7 +29,7 @@ module _ {T : Type 0} where
     surplus = sum_by surplus_of rows;
   }
 
-  -- the same, one by one
+  -- `totals` has the same sums, one in each field
   pub record AreTotals (rows : List (Row T)) (totals : Totals) : Type 0 where
     pub articles : totals.articles ≡ length rows
     pub differing : totals.differing ≡ count_by (λ row. not (agrees row)) rows
@@ -40,7 +40,7 @@ module _ {T : Type 0} where
 abbrev pub lent_rows : {T : Type 0} → List (Row (Bor T)) → List (Row T)
 lent_rows rows = map (λ row. record { article = row.article.now; ordered = row.ordered; delivered = row.delivered }) rows
 
--- the rows of the articles that are named: each in one row, with both its numbers, articles in ascending order
+-- each article v for which `named v` isn't 0 has one row, with the numbers `ordered v` and `delivered v`; articles are in ascending order
 pub record AreRows {T : Type 0} (eq : T → T → Bool) (cmp : T → T → Ordering) (named ordered delivered : T → ℕ) (rows : List (Row T)) : Type 0 where
   pub rising : IsStrictlySortedBy cmp (map (λ row. row.article) rows)
   pub counts : All (λ row. (row.ordered ≡ ordered row.article) × (row.delivered ≡ delivered row.article) × (0 < named row.article)) rows

@@ -28,7 +28,7 @@ module _ {T : Type 0} where
 abbrev pub bytes_row : {A : Type 0} → (A → Record) → Row (Bor A) → Row Record
 bytes_row fields row = record { article = fields row.article.now; ordered = row.ordered; delivered = row.delivered }
 
--- a row of fields, as bytes: those of its article, and those that are carried along
+-- a row of fields, as bytes: the fields of its article, and the carried fields
 abbrev pub Entry : Type 0
 Entry = Row Carried
 
@@ -44,16 +44,16 @@ entry_of row = record {
 abbrev pub entries_of : List (Row Fields) → List Entry
 entries_of rows = map entry_of rows
 
--- a row with what the first line with its article carries along
+-- a row with the carried fields of the first line with its article
 abbrev pub with_first : List Carried → Row Record → Entry
 with_first K row = record { article = (row.article, first_of row.article K); ordered = row.ordered; delivered = row.delivered }
 
 module _ {A S : Type 0} (eq : A → A → Bool) (fields : A → Record) (firsts : HashMap A (Vec (String Global)) S) where
-  -- texts are the fields that the first line with an article carries along, whatever lines the map has the first fields of
+  -- if the map has the first fields of lines K, `texts` are the carried fields of the first line of K with this article
   abbrev pub AreFieldsAlong : A → List (String Global) → Type 0
   AreFieldsAlong article texts = (K : List Carried) → HasFirsts eq fields K firsts → map string_bytes texts ≡ first_of (fields article) K
 
-  -- rows are those that are written, each with what the first line with its article carries along
+  -- `shown` are the rows that are written, each with the carried fields of the first line with its article
   abbrev pub AreShownRows : Only → List (Row (Bor A)) → List (Row Fields) → Type 0
   AreShownRows which rows shown =
       (K : List Carried) → HasFirsts eq fields K firsts → entries_of shown ≡ map (with_first K) (shown_rows which (map (bytes_row fields) rows))

@@ -1,5 +1,5 @@
--- The table that is written of rows.
-use Rattle.std.specs.Prelude.{ℕ, ◌+◌, ◌-◌, ◌==◌, Bool, List, [], ◌∷◌, ◌++◌, String, codes, decimal, flat_map, if◌then◌else◌, length, map, nat_lt, replicate}
+-- Rows as a table.
+use Rattle.std.specs.Prelude.{◌≡◌, ℕ, ◌+◌, ◌-◌, ◌==◌, Bool, List, [], ◌∷◌, ◌++◌, String, codes, decimal, flat_map, get_or, if◌then◌else◌, length, map, nat_lt, replicate}
 use Rattle.std.specs.Global.{Global, Vec}
 use Rattle.std.specs.String.{string_bytes}
 use Rattle.std.specs.StrCase.Upper.{str_to_uppercase}
@@ -77,6 +77,18 @@ line_from width fields k (cell ∷ cells) = gap k ++ (cell_text (nat_lt k fields
 -- a line, by the widths of its columns
 abbrev pub line_text : (ℕ → ℕ) → ℕ → Record → List ℕ
 line_text width fields cells = line_from width fields 0 cells
+
+-- the width of the column k; 0 if there is none
+abbrev pub width_in : Vec ℕ → ℕ → ℕ
+width_in widths k = get_or widths.items k 0
+
+-- a line with these cells is appended to a table, whose columns have these widths
+abbrev pub AppendsLine : Vec ℕ → ℕ → Vec (String Global) → String Global → String Global → Type 0
+AppendsLine widths fields cells old new = string_bytes new ≡ string_bytes old ++ line_text (width_in widths) fields (cell_bytes cells)
+
+-- a table has a line of titles, and a line of each of these cells, in columns of these widths
+abbrev pub HasLines : Vec ℕ → ℕ → Vec (String Global) → List Record → String Global → Type 0
+HasLines widths fields titles cells table = string_bytes table ≡ flat_map (line_text (width_in widths) fields) (cell_bytes titles ∷ cells)
 
 -- the last line: how many articles differ, and what is missing and surplus in all
 abbrev pub sums_text : Scale → Totals → List ℕ

@@ -16,6 +16,6 @@ column_width (line ∷ lines) k = max (width_of (get_or line k [])) (column_widt
 abbrev pub AreWidths : List Record → List ℕ → Type 0
 AreWidths lines widths = (k : ℕ) → get_or widths k 0 ≡ column_width lines k
 
--- the widths of columns that have these cells too
+-- the widths that the columns have once these cells are in them, too
 abbrev pub AreWidened : List ℕ → Record → List ℕ → Type 0
 AreWidened widths cells wide = (k : ℕ) → get_or wide k 0 ≡ max (get_or widths k 0) (width_of (get_or cells k []))

@@ -1,4 +1,4 @@
--- The bytes that are written of rows, in each form.
+-- The bytes of rows as CSV and as JSON.
 use Rattle.std.specs.Prelude.{◌≡◌, ℕ, ◌==◌, false, List, [], ◌∷◌, ◌++◌, codes, decimal, flat_map, String, if◌then◌else◌, map, Some}
 use Rattle.std.specs.Borrow.{Bor}
 use Rattle.std.specs.Global.{Global, Vec}
@@ -33,7 +33,7 @@ pub record Look : Type 0 where
   pub scale : Scale
   pub delimiter : Delimiter
 
--- the bytes of the names
+-- the look of a layout, with names as bytes
 abbrev pub look_of : Layout → Look
 look_of layout = record {
   keys = map (λ n. n.now) layout.keys.now;
@@ -56,7 +56,7 @@ record_of scale row = row.article.0 ++ (row.article.1 ++ numbers_text scale row)
 abbrev pub field_bytes : Vec (Bor (List ℕ)) → Record
 field_bytes fields = map (λ f. f.now) fields.items
 
--- fields between this delimiter, in quotes where they have to be
+-- the settings of the writer: this delimiter between fields, and quotes around a field that needs them
 abbrev pub writer_of : Delimiter → WriterBuilder
 writer_of d = with_delimiter default_writer (byte_of d)
 
@@ -95,7 +95,7 @@ members (name ∷ names) (value ∷ values) = key name ∷ value ∷ members nam
 abbrev pub member_tokens : Record → Record → List Token
 member_tokens names fields = members names (map string fields)
 
--- the same of texts
+-- the same for borrowed names and the texts of fields
 abbrev pub field_tokens : List (Bor (List ℕ)) → List (String Global) → List Token
 field_tokens names fields = member_tokens (map (λ n. n.now) names) (map string_bytes fields)
 

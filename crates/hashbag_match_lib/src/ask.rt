@@ -1,4 +1,4 @@
-//! What is asked for: how two lists are read, and what is written of them.
+//! What is asked for: how two lists are read, and which of their rows are written, and how.
 use crate::keys::{names_in, repeated};
 use crate::output::{Form, is_reserved};
 use crate::shown::Only;
@@ -9,47 +9,51 @@ use hashbag_csv::line_form::LineForm;
 use std::alloc::{AllocError, Global};
 use thiserror::Error;
 
-/// The columns of a list, by their names.
+/// The columns of a list, by their names, and how its fields and numbers are written.
 #[derive(Drop)]
 pub struct Columns<'a> {
-    /// Those of an article.
+    /// The names of the key columns, which have the fields of an article.
     pub keys: Vec<&'a str>,
-    /// That of numbers, or `None` if each line counts as one.
+    /// The name of the column of numbers, or `None` if each line counts as one.
     pub number: Option<&'a str>,
+    /// What is between fields, and how numbers are written. The numbers of both lists of an [`Ask`] have the same number of decimals.
+    pub reading: Reading,
 }
 
 impl<'a> Columns<'a> {
-    /// Returns the columns of these names; those of an article have commas between them.
+    /// Returns the columns of these names. `keys` has the names of the key columns, with commas between them.
     pub fn named(
         alloc: Global,
         keys: &'a str,
         number: Option<&'a str>,
+        reading: Reading,
     ) -> Result<Columns<'a>, AllocError> {
-        let keys = names_in(alloc, keys)?;
-        Ok(Columns { keys, number })
+        Ok(Columns {
+            keys: names_in(alloc, keys)?,
+            number,
+            reading,
+        })
     }
 }
 
 /// What is asked for.
 #[derive(Drop)]
 pub struct Ask<'a> {
-    /// The columns of what was ordered. The key columns have these names in what is written, too.
+    /// The columns of what was ordered. The output has the same names of key columns, and the same form of numbers and of CSV.
     pub ordered: Columns<'a>,
     /// The columns of what was delivered.
     pub delivered: Columns<'a>,
-    /// How both texts are read, and how numbers and CSV are written.
-    pub reading: Reading,
-    /// How the lines of both are read.
+    /// How the lines of both lists are read.
     pub line_form: LineForm,
     /// The columns whose fields are carried along with an article, by their names. The text of what was delivered may lack some.
     pub carried: Vec<&'a str>,
     /// Which rows are written.
     pub only: Only,
-    /// How they are written.
+    /// How the rows are written.
     pub form: Form,
     /// How many bad lines of a file are named.
     pub max_errors: usize,
-    /// Whether articles that are perhaps one aren't named.
+    /// Whether articles that are perhaps the same (`alike`) are left out of the messages.
     pub quiet: bool,
 }
 
@@ -71,10 +75,10 @@ pub enum BadAsk<'a> {
     /// The lists have a different number of key columns.
     #[error("--key and --delivered-key name a different number of columns")]
     Unequal,
-    /// The mark between groups of digits is that before decimals.
+    /// The mark between groups of digits is also the mark before decimals.
     #[error("--group-mark is the mark before decimals")]
     GroupsAsDecimals,
-    /// The mark between groups of digits is between fields, too.
+    /// The mark between groups of digits is also the delimiter of fields.
     #[error("--group-mark is the delimiter")]
     GroupsAsFields,
 }
@@ -103,7 +107,7 @@ fn carried_once<'a>(carried: &Vec<&'a str>, keys: &Vec<&'a str>) -> Result<(), B
     Ok(())
 }
 
-// Returns an error if the mark between groups of digits is another mark, too.
+// Returns an error if the mark between groups of digits is also the mark before decimals or the delimiter.
 fn other_mark<'a>(group: GroupMark, reading: Reading) -> Result<(), BadAsk<'a>> {
     if char::from(group.byte()) == reading.scale.mark.character() {
         return Err(BadAsk::GroupsAsDecimals);
@@ -129,7 +133,10 @@ impl<'a> Ask<'a> {
         }
         carried_once(&self.carried, &self.ordered.keys)?;
         match self.line_form.number.group {
-            Some(group) => other_mark(group, self.reading),
+            Some(group) => {
+                other_mark(group, self.ordered.reading)?;
+                other_mark(group, self.delivered.reading)
+            }
             None => Ok(()),
         }
     }

@@ -94,6 +94,8 @@ pub fn csv_of(
     rows: &[Row<Fields<'_>>],
     layout: Layout<'_>,
 ) -> Result<Vec<u8>, AllocError>
+    // The text is a record of the names of columns, and one for each row: the article's fields, the carried fields, and four numbers, as `layout`
+    // says.
     ensures { IfOk result (λ text. text.items ≡ csv_text (look_of layout.entry) (entries_of rows.now)) }
 {
     let mut writer = writer_with(alloc, layout.delimiter);

@@ -1,4 +1,4 @@
-//! Two lists in two files: read one after the other, and matched. What is read of which file is decided here, wherever `Inputs` has them from.
+//! Two lists in two files: read one after the other, and matched. This module decides what is read of which file; `Inputs` gives the bytes.
 ghost use Rattle.std.specs.Prelude.{◌≡◌, IfErr, IfOk, IfSome};
 ghost use Rattle.hashbag_match_lib.specs.Asks.{lines_asked};
 ghost use Rattle.hashbag_match_lib.specs.Fields.{TalliesLines};
@@ -12,6 +12,7 @@ use crate::texts::{Findings, Lists, carry_lines, match_lists, tally_of};
 use hashbag_csv::article::Article;
 use hashbag_csv::bad_lines::bad_lines;
 use hashbag_csv::fault::{Fault, SheetError, in_file};
+use hashbag_csv::line_form::LineForm;
 use hashbag_shell::inputs::{Inputs, read_text};
 use hashbag_shell::trouble::Trouble;
 use hashbag_text::encoding::Encoding;
@@ -22,13 +23,13 @@ use std::hash::BuildHasher;
 /// Why two files aren't matched.
 #[derive(Debug, Drop)]
 pub enum Unmatched<'a> {
-    /// A file can't be read, one of its lines is bad, or an allocation failed.
+    /// A file can't be read, its header is bad, its total is too large, or an allocation failed.
     Trouble(Trouble<'a>),
-    /// Several lines of a file are bad.
+    /// Lines of a file are bad.
     BadLines {
         /// The name of the file.
         file: &'a str,
-        /// What is wrong with each of them, in their order: as many as are to be named.
+        /// The errors of these lines, in the order of the lines, at most [`Ask::max_errors`].
         errors: Vec<SheetError>,
     },
 }
@@ -54,6 +55,17 @@ impl From<AllocError> for Unmatched<'_> {
     }
 }
 
+/// The two files.
+#[derive(Clone, Copy)]
+pub struct TwoFiles<'a> {
+    /// The name of the file of what was ordered.
+    pub ordered: &'a str,
+    /// The name of the file of what was delivered.
+    pub delivered: &'a str,
+    /// Their encodings, each `None` for UTF-8.
+    pub encodings: (Option<Encoding>, Option<Encoding>),
+}
+
 // A list in a file.
 #[derive(Clone, Copy)]
 struct Source<'a, 'k> {
@@ -63,12 +75,12 @@ struct Source<'a, 'k> {
     encoding: Option<Encoding>,
     // The columns of the list.
     columns: &'k Columns<'k>,
-    // Whether its header may lack a column that is carried along, whose fields are empty then.
+    // Whether the header may lack carried columns. The fields of such a column are empty.
     may_lack: bool,
 }
 
-// Returns the errors of the bad lines of a text, as many as are to be named, if there are several.
-fn several<A: Article + Drop>(
+// Returns the errors of the bad lines of a text, at most `ask.max_errors`, or `None` if no line is bad or the reading fails.
+fn errors_in<A: Article + Drop>(
     alloc: Global,
     text: &[u8],
     columns: &Columns<'_>,
@@ -81,19 +93,24 @@ fn several<A: Article + Drop>(
         text,
         &columns.keys,
         columns.number,
-        ask.reading,
+        columns.reading,
         ask.line_form,
         ask.max_errors,
     )
     .ok()?;
-    if errors.len() > 1 { Some(errors) } else { None }
+    if errors.is_empty() {
+        None
+    } else {
+        Some(errors)
+    }
 }
 
-// Returns what was read by these columns. If each line counts as one, and a column isn't there, the error names the cure: the text is perhaps a
-// list without a header.
+// Returns `read`. If it is the error that the header lacks a column, and each line counts as one, the message also names `--no-header`: the text may
+// be a list without a header.
 fn with_cure<T: Drop>(
     alloc: Global,
     columns: &Columns<'_>,
+    form: LineForm,
     read: Result<T, SheetError>,
 ) -> Result<T, SheetError>
     ensures { IfOk result (λ value. read ≡ Ok value) }
@@ -104,9 +121,9 @@ fn with_cure<T: Drop>(
                 line,
                 fault: Fault::NoColumn { name, there },
             },
-        ) if columns.number.is_none() => {
+        ) if columns.number.is_none() && !form.no_header => {
             let there = format!(in alloc;
-                "{there}; if line {line} is no header, put the line `{name}` above it"
+                "{there}; if line {line} is no header, `--no-header` reads it"
             )?;
             let fault = Fault::NoColumn { name, there };
             Err(SheetError::Line { line, fault })
@@ -115,7 +132,7 @@ fn with_cure<T: Drop>(
     }
 }
 
-// Returns the tally of the text of a file. If a line is bad, reads the text again for as many bad lines as are to be named.
+// Returns the tally of the text of a file. If a line is bad, reads the text again, to find up to `ask.max_errors` bad lines.
 fn tally_in<'a, A: Article + Drop, S: BuildHasher + Copy + Drop>(
     alloc: Global,
     state: S,
@@ -130,16 +147,15 @@ fn tally_in<'a, A: Article + Drop, S: BuildHasher + Copy + Drop>(
     let read = tally_of(alloc, state, text, columns, ask);
     // A total that is too large isn't the error of one line.
     if let Err(error) = &read
-        && ask.max_errors > 1
         && !error.is_total()
-        && let Some(errors) = several::<A>(alloc, text, columns, ask)
+        && let Some(errors) = errors_in::<A>(alloc, text, columns, ask)
     {
         return Err(Unmatched::BadLines { file, errors });
     }
-    Ok(in_file(alloc, file, with_cure(alloc, columns, read))?)
+    Ok(in_file(alloc, file, with_cure(alloc, columns, ask.line_form, read))?)
 }
 
-// Reads the list in a file, whose text is dropped then. `firsts`: what the first line with each article carries along.
+// Reads the list in a file, and drops the file's text. Inserts the articles that `firsts` lacks, with the carried fields of their first lines.
 fn read_list<'a, A: Article + Drop, S: BuildHasher + Copy + Drop, I: Inputs>(
     alloc: Global,
     state: S,
@@ -160,30 +176,26 @@ fn read_list<'a, A: Article + Drop, S: BuildHasher + Copy + Drop, I: Inputs>(
     Ok(tally)
 }
 
-// Reads both lists, that of what was ordered first.
+// Reads both lists: first the one of what was ordered.
 fn read_lists<'a, A: Article + Drop, S: BuildHasher + Copy + Drop, I: Inputs>(
     alloc: Global,
     state: S,
     inputs: &I,
     ask: &Ask<'_>,
-    ordered: &'a str,
-    delivered: &'a str,
-    encodings: (Option<Encoding>, Option<Encoding>),
+    files: TwoFiles<'a>,
 ) -> Result<Lists<A, S>, Unmatched<'a>>
-    ensures lists { IfOk result
-        (AreListsOf A.eq A.fields (I.gives inputs.now) encodings ask.now ordered.now delivered.now) }
-    ensures bad_lines { IfErr result
-        (NamesLinesOfEither (I.gives inputs.now) encodings ask.now ordered.now delivered.now) }
+    ensures lists { IfOk result (AreListsOf A.eq A.fields (I.gives inputs.now) files.entry ask.now) }
+    ensures bad_lines { IfErr result (NamesLinesOfEither (I.gives inputs.now) files.entry ask.now) }
 {
     let first = Source {
-        file: ordered,
-        encoding: encodings.0,
+        file: files.ordered,
+        encoding: files.encodings.0,
         columns: &ask.ordered,
         may_lack: false,
     };
     let second = Source {
-        file: delivered,
-        encoding: encodings.1,
+        file: files.delivered,
+        encoding: files.encodings.1,
         columns: &ask.delivered,
         may_lack: true,
     };
@@ -197,22 +209,18 @@ fn read_lists<'a, A: Article + Drop, S: BuildHasher + Copy + Drop, I: Inputs>(
     })
 }
 
-// Matches two files, whose articles are kept as this type.
+// Matches two files. The type parameter `A` is the type of articles.
 fn match_as<'a, A: Article + Drop, S: BuildHasher + Copy + Drop, I: Inputs>(
     alloc: Global,
     state: S,
     inputs: &I,
     ask: &Ask<'_>,
-    ordered: &'a str,
-    delivered: &'a str,
-    encodings: (Option<Encoding>, Option<Encoding>),
+    files: TwoFiles<'a>,
 ) -> Result<(Vec<u8>, Findings), Unmatched<'a>>
-    ensures matched { IfOk result (λ made. AreMatchedFiles (RiseAs A.cmp A.fields) (I.gives inputs.now) encodings
-        ask.now ordered.now delivered.now made.0.items made.1.status) }
-    ensures bad_lines { IfErr result
-        (NamesLinesOfEither (I.gives inputs.now) encodings ask.now ordered.now delivered.now) }
+    ensures matched { IfOk result (AreMatchedFiles (RiseAs A.cmp A.fields) (I.gives inputs.now) files.entry ask.now) }
+    ensures bad_lines { IfErr result (NamesLinesOfEither (I.gives inputs.now) files.entry ask.now) }
 {
-    let lists = read_lists::<A, S, I>(alloc, state, inputs, ask, ordered, delivered, encodings)?;
+    let lists = read_lists::<A, S, I>(alloc, state, inputs, ask, files)?;
     Ok(match_lists(alloc, state, &lists, ask)?)
 }
 
@@ -225,28 +233,24 @@ fn match_as<'a, A: Article + Drop, S: BuildHasher + Copy + Drop, I: Inputs>(
 ///
 /// # Complexity
 ///
-/// Reads each file once, and its text once, or twice if fields are carried along, or several bad lines are to be named. Else same as
+/// Reads each file once, and its text once, or twice if fields are carried along, or a line is bad. Else same as
 /// [`match_lists`].
 pub fn match_files<'a, S: BuildHasher + Copy + Drop, I: Inputs>(
     alloc: Global,
     state: S,
     inputs: &I,
     ask: &Ask<'_>,
-    ordered: &'a str,
-    delivered: &'a str,
-    encodings: (Option<Encoding>, Option<Encoding>),
+    files: TwoFiles<'a>,
 ) -> Result<(Vec<u8>, Findings), Unmatched<'a>>
-    // The status is 0 exactly if the texts of both files name as many of each article, else 1. What is written has a row for each article of either
-    // text, articles in ascending order, as far as these rows are asked for.
-    ensures matched { IfOk result (λ made. AreMatchedFiles Rise (I.gives inputs.now) encodings ask.now
-        ordered.now delivered.now made.0.items made.1.status) }
+    // The status is 0 exactly if the texts of both files name the same quantity of each article, else 1. The text that is written has a row for each
+    // article of either text, articles in ascending order; rows that `ask` doesn't want are left out.
+    ensures matched { IfOk result (AreMatchedFiles Rise (I.gives inputs.now) files.entry ask.now) }
 
-    // If the error is `BadLines`, it has bad lines of the file that it names.
-    ensures bad_lines { IfErr result
-        (NamesLinesOfEither (I.gives inputs.now) encodings ask.now ordered.now delivered.now) }
+    // If the error is `BadLines`, it names one of the files, and has the errors of its bad lines, at most `ask.max_errors`.
+    ensures bad_lines { IfErr result (NamesLinesOfEither (I.gives inputs.now) files.entry ask.now) }
 {
     if ask.ordered.keys.len() == 1 {
-        return match_as::<String, S, I>(alloc, state, inputs, ask, ordered, delivered, encodings);
+        return match_as::<String, S, I>(alloc, state, inputs, ask, files);
     }
-    match_as::<Vec<String>, S, I>(alloc, state, inputs, ask, ordered, delivered, encodings)
+    match_as::<Vec<String>, S, I>(alloc, state, inputs, ask, files)
 }

@@ -23,7 +23,7 @@ fn write_fields(writer: &mut Writer, names: &[&str], fields: &[String]) -> Resul
     Ok(())
 }
 
-// Writes a member of a number: a text, if the scale has decimals.
+// Writes a member whose value is a number; if the scale has decimals, as a JSON string.
 fn write_number(
     alloc: Global,
     writer: &mut Writer,
@@ -90,6 +90,8 @@ pub fn json_of(
     rows: &[Row<Fields<'_>>],
     layout: Layout<'_>,
 ) -> Result<Vec<u8>, AllocError>
+    // The text is an array and a line feed. Each row is an object with a member for each of its fields, carried fields and numbers, as `layout`
+    // names them.
     ensures { IfOk result (λ text. text.items ≡ json_text (look_of layout.entry) (entries_of rows.now)) }
 {
     let mut writer = Writer::new(Vec::new(alloc));

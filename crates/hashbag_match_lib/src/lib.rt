@@ -4,6 +4,7 @@
 pub mod ask;
 mod csv_text;
 pub mod files;
+pub mod hints;
 mod json_text;
 pub mod keys;
 pub mod matching;

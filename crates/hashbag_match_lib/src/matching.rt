@@ -9,7 +9,7 @@ use hashbag::HashBag;
 use std::alloc::{AllocError, Global};
 use std::hash::{BuildHasher, Hash};
 
-/// One article of either list.
+/// One article, with its quantity in each list.
 #[derive(Clone, Copy, PartialEq, Eq, PartialOrd, Ord, Debug)]
 pub struct Row<T> {
     /// The article.
@@ -90,7 +90,7 @@ fn push_zeros<'a, T: Ord + Hash + Drop, S: BuildHasher + Drop>(
     ordered: &'a Tally<T, S>,
     delivered: &'a Tally<T, S>,
 ) -> Result<(), AllocError>
-    ensures { OnOk result (AppendsZeroRows T.eq ordered.now delivered.now (lent_rows rows.old.items) (lent_rows rows.new.items)) }
+    ensures { OnOk result (AppendsZeroRows T.eq ordered.now delivered.now rows.old rows.new) }
 {
     for (article, _, _) in ordered.zeros.outer_join(&delivered.zeros) {
         if is_in_neither(&ordered.counts, &delivered.counts, article) {
@@ -113,15 +113,15 @@ fn push_zeros<'a, T: Ord + Hash + Drop, S: BuildHasher + Drop>(
 ///
 /// # Complexity
 ///
-/// Allocates the rows. Looks each article up in the other bag, and an article that a line names with the number 0 in the other bag of zeros and in both bags of counts.
-/// Sorts the rows.
+/// Allocates the rows. Looks up each article of `counts` in the other `counts`, and each article of `zeros` in the other `zeros` and in both
+/// `counts`. Sorts the rows.
 pub fn rows_of_tallies<'a, T: Ord + Hash + Drop, S: BuildHasher + Drop>(
     alloc: Global,
     ordered: &'a Tally<T, S>,
     delivered: &'a Tally<T, S>,
 ) -> Result<Vec<Row<&'a T>>, AllocError>
-    // Each article that a line of either tally names has one row, with what each tally names of it in all.
-    ensures table { IfOk result (λ rows. AreRowsOfTallies T.eq T.cmp ordered.now delivered.now (lent_rows rows.items)) }
+    // Each article that a line of either tally names has one row, with the article's quantity in each tally.
+    ensures table { IfOk result (AreRowsOfTallies T.eq T.cmp ordered.now delivered.now) }
     ensures missing { IfOk result (λ rows. sum_by missing_of rows.items ≤ length ordered.now.counts.items) }
     ensures surplus { IfOk result (λ rows. sum_by surplus_of rows.items ≤ length delivered.now.counts.items) }
 {
@@ -145,11 +145,13 @@ pub fn match_tallies<'a, T: Ord + Hash + Drop, S: BuildHasher + Drop>(
     ordered: &'a Tally<T, S>,
     delivered: &'a Tally<T, S>,
 ) -> Result<Matched<&'a T>, AllocError>
-    // Each article that a line of either tally names has one row, with what each tally names of it in all.
-    ensures table { IfOk result (λ matched. AreRowsOfTallies T.eq T.cmp ordered.now delivered.now (lent_rows matched.rows.items)) }
+    // Each article that a line of either tally names has one row, with the article's quantity in each tally.
+    ensures table { IfOk result (λ matched. AreRowsOfTallies T.eq T.cmp ordered.now delivered.now matched.rows) }
+
+    // `totals` are the sums of `matched.rows`.
     ensures totals { IfOk result (λ matched. AreTotals matched.rows.items matched.totals) }
 
-    // `agree` is true exactly if both name as many of each article.
+    // `agree` is true exactly if both tallies have the same quantity of each article.
     ensures agree { IfOk result (λ matched. SaysWhetherTalliesAgree T.eq ordered.now delivered.now matched.agree) }
 {
     let rows = rows_of_tallies(alloc, ordered, delivered)?;

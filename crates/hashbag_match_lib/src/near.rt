@@ -1,4 +1,4 @@
-//! Articles that are perhaps one, as messages name them.
+//! Articles that are perhaps the same, as messages name them.
 use crate::matching::Row;
 use hashbag_csv::alike::alike;
 use hashbag_csv::article::Article;
@@ -6,6 +6,10 @@ use hashbag_csv::escaped::shown;
 use std::alloc::{AllocError, Global};
 use std::fmt::Write;
 use std::hash::BuildHasher;
+
+// The line after the pairs, if there are as many pairs as may be named.
+const MORE: &str =
+    "no more articles are named that are nearly the same; `--trim` and `--fold` compare them without white space and case";
 
 // At most this many pairs are named.
 const NAMED: usize = 10;
@@ -19,7 +23,8 @@ fn push_article(alloc: Global, line: &mut String, fields: &[String]) -> Result<(
     Ok(())
 }
 
-/// Returns a line for each pair of articles that differ only in case, in white space at their ends, or in normal form: at most ten.
+/// Returns a line for each pair of articles that differ only in case, in white space at their ends, or in normal form: at most ten. After ten lines,
+/// one more line says that no more articles are named.
 pub fn near_articles<A: Article, S: BuildHasher + Drop>(
     alloc: Global,
     state: S,
@@ -37,6 +42,9 @@ pub fn near_articles<A: Article, S: BuildHasher + Drop>(
         push_article(alloc, &mut line, second.texts())?;
         line.push_str(" differ only in case, white space at the ends, or normal form")?;
         lines.push(line)?;
+    }
+    if lines.len() == NAMED {
+        lines.push(MORE.to_string(alloc)?)?;
     }
     Ok(lines)
 }

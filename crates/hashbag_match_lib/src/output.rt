@@ -38,7 +38,7 @@ impl Form {
     }
 }
 
-/// What is written of the rows, and how.
+/// How rows are written: the names of the columns of fields, the form of numbers, and the delimiter.
 #[derive(Clone, Copy)]
 pub struct Layout<'a> {
     /// The names of the key columns.
@@ -65,6 +65,7 @@ pub fn is_reserved(name: &str) -> bool {
 ///
 /// An allocation fails.
 pub fn numbers_of<T>(alloc: Global, row: &Row<T>, scale: Scale) -> Result<[String; 4], AllocError>
+    // The texts are how many were ordered, delivered, missing and surplus, in this order, each with all decimals of the scale.
     ensures { IfOk result (λ texts. map string_bytes texts ≡ numbers_text scale row.now) }
 {
     Ok([
@@ -75,7 +76,7 @@ pub fn numbers_of<T>(alloc: Global, row: &Row<T>, scale: Scale) -> Result<[Strin
     ])
 }
 
-/// Returns the text of the rows that are written, in this form. The sums are of all rows.
+/// Returns the text of these rows, in this form. `totals` are the sums of all rows, also of rows that aren't written.
 ///
 /// # Errors
 ///
@@ -87,6 +88,7 @@ pub fn text_of(
     layout: Layout<'_>,
     form: Form,
 ) -> Result<Vec<u8>, AllocError>
+    // The text is the rows in the form `form`, with the names, scale and delimiter of `layout`. A table ends with `totals`.
     ensures { IfOk result (λ text. text.items ≡ text_in form (look_of layout.entry) totals.now (entries_of rows.now)) }
 {
     match form {

@@ -1,10 +1,10 @@
 //! Tallies of CSV texts.
 ghost use Rattle.std.specs.Prelude.{◌≡◌, [], true, map, All, IfOk, OnOk};
-ghost use Rattle.hashbag_csv.specs.LineColumns.{line_by};
-ghost use Rattle.hashbag_csv.specs.Readers.{records_in};
+ghost use Rattle.hashbag_csv.specs.Lines.{list_in};
 ghost use Rattle.hashbag_csv.specs.Sheets.{FitHeader, fits_sheet, left};
 ghost use Rattle.hashbag_match_lib.specs.Asks.{lines_named};
-ghost use Rattle.hashbag_match_lib.specs.Fields.{HasLineMore, TalliesLines, TalliesMore};
+ghost use Rattle.hashbag_match_lib.specs.Fields.{TalliesLines, TalliesMore, lines_left};
+ghost use Rattle.hashbag_match_lib.specs.Tallies.{TalliesOneMore};
 
 use crate::tally::{Tally, empty_tally};
 use hashbag::BagError;
@@ -19,7 +19,7 @@ use hashbag_csv::sheet::Sheet;
 use std::alloc::Global;
 use std::hash::BuildHasher;
 
-// Adds an article and its number, which the record that was read last has, if the total is at most the greatest of the scale.
+// Adds the article and the number of the record that was read last, if the total is then at most `scale.most`.
 fn add_line<A: Article + Drop, S: BuildHasher + Drop>(
     alloc: Global,
     sheet: &Sheet<'_>,
@@ -28,7 +28,7 @@ fn add_line<A: Article + Drop, S: BuildHasher + Drop>(
     number: usize,
     scale: Scale,
 ) -> Result<(), SheetError>
-    ensures { OnOk result (HasLineMore A.eq article number tally.old.counts tally.old.zeros tally.new.counts tally.new.zeros) }
+    ensures { OnOk result (TalliesOneMore A.eq tally.old tally.new (article, number)) }
 {
     if number > scale.most.saturating_sub(tally.counts.len()) {
         return Err(sheet.bad_line(total_too_large(alloc, scale)?));
@@ -48,7 +48,7 @@ fn add_lines<A: Article + Drop, S: BuildHasher + Drop>(
     tally: &mut Tally<A, S>,
     scale: Scale,
 ) -> Result<(), SheetError>
-    ensures lines { OnOk result (TalliesMore A.eq A.fields (map (line_by scale columns.now) (left sheet.old)) tally.old tally.new) }
+    ensures lines { OnOk result (TalliesMore A.eq A.fields (lines_left scale columns.now sheet.old) tally.old tally.new) }
     ensures fits { OnOk result (All (λ r. fits_sheet sheet.old r ≡ true) (left sheet.old)) }
 {
     'lines: while let Some((article, number)) = columns.read::<A>(alloc, sheet, scale)? {
@@ -57,9 +57,9 @@ fn add_lines<A: Article + Drop, S: BuildHasher + Drop>(
     Ok(())
 }
 
-/// Returns the tally of the lines of a text, which are read in this form, under this hash state. An article is the fields of the columns that
-/// `keys` names, and may be on more than one line; its numbers add up. Numbers are in units of the scale, and all together are at most its
-/// greatest number. If `number_column` is `None`, each line counts as one.
+/// Returns the tally of the lines of a text, which are read in this form, under this hash state. An article is the fields of the columns that `keys`
+/// names, and may be on more than one line; its numbers add up. Numbers are in units of the scale. Their sum is at most `scale.most`. If `number` is
+/// `None`, each line counts as one.
 ///
 /// # Errors
 ///
@@ -74,21 +74,26 @@ pub fn read_tally<A: Article + Drop, S: BuildHasher + Copy + Drop>(
     state: S,
     text: &[u8],
     keys: &[&str],
-    number_column: Option<&str>,
+    number: Option<&str>,
     reading: Reading,
     form: LineForm,
 ) -> Result<Tally<A, S>, SheetError>
-    ensures lines { IfOk result (λ tally. TalliesLines A.eq A.fields (lines_named reading form keys.now number_column.entry text.now) tally) }
+    // `counts` has each article as often as the sum of its numbers in the text's lines, and `zeros` once for each of its lines with the number 0. A line is
+    // an article and a number, from the columns that `keys` and `number` name.
+    ensures lines { IfOk result (TalliesLines A.eq A.fields (lines_named reading form keys.now number.entry text.now)) }
 
-    // Each record has as many fields as the header, or fewer if the form allows it.
-    ensures fits { IfOk result (λ tally. FitHeader form.allows_short (records_in reading.delimiter text.now)) }
+    // Each record has as many fields as the header, or as the first record of a list without one, or fewer if the form allows it.
+    ensures fits { IfOk result (λ tally. FitHeader form.allows_short (list_in reading.delimiter form text.now)) }
 
-    // Nothing waits in either bag.
+    // No slot of an older table waits in either bag.
     ensures carried { IfOk result (λ tally. (tally.counts.tables.waiting ≡ []) × (tally.zeros.tables.waiting ≡ [])) }
 {
-    let mut sheet = Sheet::open_lines(alloc, text, reading.delimiter, form.allows_short)?;
-    let columns = LineColumns::named(alloc, &sheet, keys, number_column, form)?;
     let mut tally = empty_tally(alloc, state);
+    let Some(mut sheet) = Sheet::open_list(alloc, text, reading.delimiter, form)? else {
+        tally.finish_carry();
+        return Ok(tally);
+    };
+    let columns = LineColumns::named(alloc, &sheet, keys, number, form)?;
     add_lines(alloc, &mut sheet, &columns, &mut tally, reading.scale)?;
     tally.finish_carry();
     Ok(tally)

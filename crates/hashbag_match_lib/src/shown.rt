@@ -12,13 +12,13 @@ use std::hash::BuildHasher;
 /// Which rows are written.
 #[derive(Clone, Copy, PartialEq, Eq, Debug)]
 pub enum Only {
-    /// Those of articles of which some are missing.
+    /// The rows of articles of which some are missing.
     Missing,
-    /// Those of articles of which there is a surplus.
+    /// The rows of articles of which there is a surplus.
     Surplus,
-    /// Those of articles that differ.
+    /// The rows of articles whose two numbers differ.
     Differing,
-    /// All.
+    /// All rows.
     All,
 }
 
@@ -49,9 +49,9 @@ impl Only {
 /// The fields of a row.
 #[derive(Clone, Copy)]
 pub struct Fields<'a> {
-    /// Those of its article.
+    /// The fields of the row's article.
     pub article: &'a [String],
-    /// Those that are carried along with it.
+    /// The carried fields of the article.
     pub carried: &'a [String],
 }
 
@@ -68,8 +68,8 @@ fn fields_along<'f, A: Article + Drop, S: BuildHasher + Drop>(
     first_fields(firsts, article)
 }
 
-/// Returns the rows that are written, in the order of `rows`: their fields, with those that are carried along, which are those of the first line
-/// with the article.
+/// Returns the rows that are written, in the order of `rows`. Each has its article's fields, then the fields that the first line with the
+/// article carries along.
 ///
 /// # Errors
 ///
@@ -84,6 +84,8 @@ pub fn shown_rows<'a, A: Article + Drop, S: BuildHasher + Drop>(
     rows: &[Row<&'a A>],
     firsts: &'a HashMap<A, Vec<String>, S>,
 ) -> Result<Vec<Row<Fields<'a>>>, AllocError>
+    // If `firsts` has the first carried fields of some lines, `shown` are the rows that `only` shows, in order, each with its article's fields and
+    // those that the first of these lines with the article carries.
     ensures { IfOk result (λ shown. AreShownRows A.eq A.fields firsts.now only rows.now shown.items) }
 {
     let mut shown = Vec::new(alloc);

@@ -2,7 +2,7 @@
 ghost use Rattle.std.specs.Prelude.{◌≡◌, ◌++◌, ◌∷◌, [], get_or, map, flat_map, IfOk, OnOk};
 ghost use Rattle.std.specs.String.{string_bytes};
 ghost use Rattle.hashbag_match_lib.specs.Shown.{entries_of, entry_of};
-ghost use Rattle.hashbag_match_lib.specs.Tables.{cell_bytes, cells_of as cells_in, escaped_fields, line_bytes, row_cells};
+ghost use Rattle.hashbag_match_lib.specs.Tables.{AppendsLine, HasLines, cell_bytes, cells_of as cells_in, escaped_fields, line_bytes, row_cells};
 ghost use Rattle.hashbag_match_lib.specs.Tables.{cell_text, gap, line_text, spaces, sums_text, table_text, title_of, titles_of as titles_in};
 ghost use Rattle.hashbag_match_lib.specs.Widths.{AreWidened, AreWidths, width_of};
 ghost use Rattle.hashbag_match_lib.specs.Written.{look_of, numbers_text};
@@ -99,7 +99,7 @@ fn width_at(cells: &Vec<String>, index: usize) -> usize
     0
 }
 
-// Returns the widths of columns that have these cells too.
+// Returns the widths that the columns have once these cells are in them, too.
 fn widened(
     alloc: Global,
     widths: &Vec<usize>,
@@ -175,8 +175,7 @@ fn push_line(
     widths: &Vec<usize>,
     fields: usize,
 ) -> Result<(), AllocError>
-    ensures { OnOk result (string_bytes table.new
-        ≡ string_bytes table.old ++ line_text (λ k. get_or widths.now.items k 0) fields (cell_bytes cells.now)) }
+    ensures { OnOk result (AppendsLine widths.now fields cells.now table.old table.new) }
 {
     for index in 0..cells.len() {
         push_gap(table, index)?;
@@ -211,8 +210,7 @@ fn lines_text(
     widths: &Vec<usize>,
     fields: usize,
 ) -> Result<String, AllocError>
-    ensures { IfOk result (λ text. string_bytes text
-        ≡ flat_map (line_text (λ k. get_or widths.now.items k 0) fields) (cell_bytes titles.now ∷ row_cells scale rows.now)) }
+    ensures { IfOk result (HasLines widths.now fields titles.now (row_cells scale rows.now)) }
 {
     let mut table = String::new(alloc);
     push_line(&mut table, titles, widths, fields)?;
@@ -234,6 +232,7 @@ pub fn table_of(
     totals: &Totals,
     layout: Layout<'_>,
 ) -> Result<Vec<u8>, AllocError>
+    // The text is a line of titles and one for each row, each column as wide as its widest cell, and a line of `totals` below.
     ensures { IfOk result (λ text. text.items ≡ table_text (look_of layout.entry) totals.now (entries_of rows.now)) }
 {
     let titles = titles_of(alloc, layout)?;

@@ -1,6 +1,6 @@
-//! How many of each article lines name, added up as they are read.
+//! The quantity of each article, added up while the lines are read.
 ghost use Rattle.std.specs.Prelude.{◌≡◌, ℕ, ◌+◌, ◌<◌, ◌≤◌, ◌↔◌, [], List, length, IfErr, OnOk, OnErr};
-ghost use Rattle.hashbag_match_lib.specs.Tallies.{IsTallyOf, TalliesOneMore};
+ghost use Rattle.hashbag_match_lib.specs.Tallies.{IsTallyOf, TalliesOneMore, TalliesSame, total_with};
 
 use hashbag::{BagError, HashBag};
 use std::alloc::Global;
@@ -9,7 +9,7 @@ use std::hash::{BuildHasher, Hash};
 /// The articles of a list, with their quantities: one entry for each article, however many lines name it.
 #[derive(Drop)]
 pub struct Tally<T: Eq + Hash + Drop, S: BuildHasher + Drop> {
-    /// Each article as often as the numbers of its lines say together.
+    /// Each article, as often as the sum of the numbers of its lines.
     pub counts: HashBag<T, S>,
     /// The articles of the lines with the number 0, each once for each of these lines.
     pub zeros: HashBag<T, S>,
@@ -20,19 +20,19 @@ impl<T: Eq + Hash + Drop, S: BuildHasher + Drop> Tally<T, S> {
     ///
     /// # Errors
     ///
-    /// `TooMany` exactly if the numbers would be more than `usize::MAX` together. Else only `Memory`, if an allocation fails. After an
-    /// error the tally is unchanged.
+    /// `TooMany` exactly if the sum of all numbers would be more than `usize::MAX`. Else only `Memory`, if an allocation fails. After an error the
+    /// tally is unchanged.
     ///
     /// # Complexity
     ///
     /// Hashes the article once. An article that is present is dropped. An absent one is kept, and slots are allocated if there is no room.
     pub fn add(&mut self, article: T, number: usize) -> Result<(), BagError>
-        // It is the tally of this line too.
+        // The tally now has this line, too.
         ensures added { OnOk result (TalliesOneMore T.eq self.old self.new (article, number)) }
 
-        // The limit of a tally's `counts` is `usize::MAX` (`limit` of `IsTallyOf`).
-        ensures too_many { (result ≡ Err BagError.TooMany) ↔ (self.old.counts.most < length self.old.counts.items + number) }
-        ensures only_memory { length self.old.counts.items + number ≤ self.old.counts.most → IfErr result (λ e. e ≡ BagError.Memory) }
+        // `total_with` is the total with `number` added. The limit `most` of a tally's `counts` is `usize::MAX` (`limit` of `IsTallyOf`).
+        ensures too_many { (result ≡ Err BagError.TooMany) ↔ (self.old.counts.most < total_with number self.old) }
+        ensures only_memory { total_with number self.old ≤ self.old.counts.most → IfErr result (λ e. e ≡ BagError.Memory) }
         ensures err { OnErr result (self.new ≡ self.old) }
     {
         if number == 0 {
@@ -54,9 +54,8 @@ impl<T: Eq + Hash + Drop, S: BuildHasher + Drop> Tally<T, S> {
     ///
     /// Hashes each waiting article once, and doesn't allocate.
     pub fn finish_carry(&mut self)
-        // It is the tally of the same lines, and nothing waits.
-        ensures same { (L : List (T × ℕ)) → IsTallyOf T.eq L self.old.counts self.old.zeros
-            → IsTallyOf T.eq L self.new.counts self.new.zeros }
+        // The tally is of the same lines, and no slot waits.
+        ensures same { TalliesSame T.eq self.old self.new }
         ensures waiting { (self.new.counts.tables.waiting ≡ []) × (self.new.zeros.tables.waiting ≡ []) }
     {
         self.counts.finish_carry();

@@ -2,9 +2,9 @@
 ghost use Rattle.std.specs.Prelude.{IfOk, IsTrue, OnOk};
 ghost use Rattle.hashbag_csv.specs.FirstLines.{AddsFirsts};
 ghost use Rattle.hashbag_match_lib.specs.Asks.{carried_along, lines_asked};
-ghost use Rattle.hashbag_match_lib.specs.Fields.{IsStatusOfLines, TalliesLines};
+ghost use Rattle.hashbag_match_lib.specs.Fields.{TalliesLines};
 ghost use Rattle.hashbag_match_lib.specs.Matched.{IsStatusOf};
-ghost use Rattle.hashbag_match_lib.specs.Texts.{IsTextOfLists};
+ghost use Rattle.hashbag_match_lib.specs.Texts.{IsStatusOfLists, IsTextOfLists};
 
 use crate::ask::{Ask, Columns};
 use crate::matching::match_tallies;
@@ -21,8 +21,8 @@ use std::alloc::{AllocError, Global};
 use std::collections::HashMap;
 use std::hash::BuildHasher;
 
-/// Adds the lines of a text with these columns: of each article that isn't there yet the fields that are carried along, if some are. If
-/// `may_lack`, the header may lack such a column, whose fields are empty then.
+/// Inserts each article of a text that `firsts` lacks, with the carried fields of its first line. If no columns are carried, nothing changes. If
+/// `may_lack`, the header may lack carried columns; the fields of such a column are empty.
 ///
 /// # Errors
 ///
@@ -39,6 +39,8 @@ pub fn carry_lines<A: Article + Drop, S: BuildHasher + Drop>(
     ask: &Ask<'_>,
     firsts: &mut HashMap<A, Vec<String>, S>,
 ) -> Result<(), SheetError>
+    // If `firsts` had exactly the articles of lines K, with the carried fields of each one's first line, it now has those of K followed by the text's
+    // lines, or of K alone if no columns are carried.
     ensures { OnOk result (AddsFirsts A.eq A.fields (carried_along ask.now columns.now text.now) firsts.old firsts.new) }
 {
     if ask.carried.is_empty() {
@@ -53,9 +55,8 @@ pub fn carry_lines<A: Article + Drop, S: BuildHasher + Drop>(
         alloc,
         text,
         names,
-        ask.reading.delimiter,
-        ask.line_form.key,
-        ask.line_form.allows_short,
+        columns.reading.delimiter,
+        ask.line_form,
         firsts,
     )?;
     Ok(())
@@ -77,6 +78,7 @@ pub fn tally_of<A: Article + Drop, S: BuildHasher + Copy + Drop>(
     columns: &Columns<'_>,
     ask: &Ask<'_>,
 ) -> Result<Tally<A, S>, SheetError>
+    // The tally is of the text's lines, an article and a number each, from these columns, read in the form `ask.line_form`.
     ensures { IfOk result (λ tally. TalliesLines A.eq A.fields (lines_asked ask.now columns.now text.now) tally) }
 {
     read_tally(
@@ -85,7 +87,7 @@ pub fn tally_of<A: Article + Drop, S: BuildHasher + Copy + Drop>(
         text,
         &columns.keys,
         columns.number,
-        ask.reading,
+        columns.reading,
         ask.line_form,
     )
 }
@@ -101,12 +103,12 @@ pub struct Lists<A: Article + Drop, S: BuildHasher + Drop> {
     pub firsts: HashMap<A, Vec<String>, S>,
 }
 
-/// What two lists say of each other, besides the text that is written.
+/// The result of a comparison, besides the text that is written.
 #[derive(Drop)]
 pub struct Findings {
     /// The exit status: 0 if as many of each article were delivered as ordered, else 1.
     pub status: u8,
-    /// Lines that name articles which are perhaps one.
+    /// Lines that name articles which are perhaps the same.
     pub near: Vec<String>,
 }
 
@@ -132,7 +134,11 @@ pub fn match_lists<A: Article + Drop, S: BuildHasher + Copy + Drop>(
     lists: &Lists<A, S>,
     ask: &Ask<'_>,
 ) -> Result<(Vec<u8>, Findings), AllocError>
-    ensures status { IfOk result (λ made. IsStatusOfLines A.eq A.fields lists.now.ordered lists.now.delivered made.1.status) }
+    // The status is 0 exactly if the lines of both lists have the same quantity of each article, else 1.
+    ensures status { IfOk result (λ made. IsStatusOfLists A.eq A.fields lists.now made.1.status) }
+
+    // Whatever lines the lists were read from, the text has a row for each of their articles, in ascending order, with carried fields and both
+    // quantities. Rows that `ask.only` doesn't show are left out.
     ensures text { IfOk result (λ made. IsTextOfLists A.eq A.cmp A.fields ask.now lists.now made.0.items) }
 {
     let matched = match_tallies(alloc, &lists.ordered, &lists.delivered)?;
@@ -145,8 +151,8 @@ pub fn match_lists<A: Article + Drop, S: BuildHasher + Copy + Drop>(
     let layout = Layout {
         keys: &ask.ordered.keys,
         carried: &ask.carried,
-        scale: ask.reading.scale,
-        delimiter: ask.reading.delimiter,
+        scale: ask.ordered.reading.scale,
+        delimiter: ask.ordered.reading.delimiter,
     };
     let text = text_of(alloc, &shown, &matched.totals, layout, ask.form)?;
     let status = status_of(matched.agree);

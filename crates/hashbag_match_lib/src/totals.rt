@@ -17,7 +17,7 @@ pub struct Totals {
     pub surplus: usize,
 }
 
-/// Returns the sums of these rows. Each must fit a `usize`, as those of [`rows_of_tallies`](crate::matching::rows_of_tallies)
+/// Returns the sums of these rows. Each sum has to fit a `usize`, as the sums of the rows of [`rows_of_tallies`](crate::matching::rows_of_tallies)
 /// do.
 ///
 /// # Complexity

@@ -66,7 +66,7 @@ first_bad input = option_map (λ k. k + 1) (position is_bad (lines_of input))
 abbrev pub commands_of : List ℕ → List ℕ → List Command
 commands_of bag input = filter_map (command_on bag) (lines_of input)
 
--- a step as it is written in a line
+-- the command that is written for a step
 abbrev pub command_of : Step ℕ → Command
 command_of (Insert v) = (codes "insert", v ∷ [])
 command_of (InsertMany v n) = (codes "many", v ∷ n ∷ [])
@@ -84,6 +84,6 @@ command_of (Reserve n) = (codes "reserve", n ∷ [])
 command_of ShrinkToFit = (codes "shrink", [])
 command_of (Limit n) = (codes "limit", n ∷ [])
 
--- the steps `new` are the steps `old`, and behind them the command of the line on the bag of this name, if it is one
+-- the steps `new` are the steps `old`, followed by the step of the line if the line is a command on the bag of this name
 abbrev pub AppendsCommand : List ℕ → List ℕ → List (Step ℕ) → List (Step ℕ) → Type 0
 AppendsCommand bag line old new = map command_of new ≡ map command_of old ++ option_to_list (command_on bag line)

@@ -1,4 +1,5 @@
--- What a run over a reader and a writer did, if the contracts of these know their bytes.
+-- What a run over a reader and a writer did, if the contracts of these know their bytes: `before` and `after` are what the reader still has,
+-- `old` and `new` what the writer has.
 use Rattle.std.specs.Prelude.{◌≡◌, ◌⊎◌, ℕ, List, ◌++◌, Option}
 use Rattle.std.specs.Io.KnownBytes.{Consumes, IsAtEnd, Appends, Keeps}
 use Rattle.hashbag_run_lib.specs.Lines.{no_memory}
@@ -50,3 +51,8 @@ pub record IsExecution (before after old new : Option (List ℕ)) (status : ℕ)
   pub bad_line : status ≡ 2 → ReadsAndWrites NamesBadLine before after old new
   pub memory : status ≡ 3 → Appends old new no_memory
   pub failed : status ≡ 4 → Keeps old new ⊎ IsCutShort before after old new
+
+-- `IsExecution`, of the bytes that `remaining` and `contents` know of a reader and a writer, before and after the run
+abbrev pub ExecutesOn : {R W : Type 0} → (R → Option (List ℕ)) → (W → Option (List ℕ)) → R → R → W → W → ℕ → Type 0
+ExecutesOn remaining contents reader reader' writer writer' status =
+    IsExecution (remaining reader) (remaining reader') (contents writer) (contents writer') status

@@ -33,6 +33,7 @@ pub enum Outcome {
 impl Outcome {
     /// Returns the exit status.
     pub fn status(&self) -> u8
+        // The status is 0 for `Done`, 2 for `BadLine`, and 3 for `NoMemory`.
         ensures { result ≡ status_of self.now }
     {
         match self {
@@ -44,6 +45,7 @@ impl Outcome {
 
     /// Returns the text to be written.
     pub fn text(&self) -> &str
+        // The text is the one in `Done` or `BadLine`, and `no memory` and a line feed for `NoMemory`.
         ensures { result.now ≡ text_of self.now }
     {
         match self {
@@ -82,6 +84,7 @@ fn bad_line_text(alloc: Global, number: u64) -> Result<String, AllocError>
 /// Returns what the program writes after an input: the output of its steps, run on two empty bags; the number of the first line that is no
 /// step; or that an allocation failed.
 pub fn answer(alloc: Global, input: &[u8]) -> Outcome
+    // `Done`: no line is bad, and the text is the output of the steps. `BadLine`: the text names the first bad line. `NoMemory`: nothing is stated.
     ensures { IsAnswerTo input.now result }
 {
     match run_of(alloc, input) {

@@ -66,6 +66,7 @@ pub fn output_of(
     steps_a: Vec<Step<u64>>,
     steps_b: Vec<Step<u64>>,
 ) -> Result<String, BagError>
+    // The text is the replies of each bag, as a plain list replies, the four joins, each in ascending order of values, and the two trees.
     ensures { IfOk result (λ text. IsOutputOf steps_a.items steps_b.items (string_bytes text)) }
 {
     let answers = answers_to(alloc, steps_a, steps_b)?;

@@ -2,7 +2,7 @@
 ghost use Rattle.std.specs.Prelude.{IfOk, OnOk};
 ghost use Rattle.std.specs.Bool.{OnTrue};
 ghost use Rattle.std.specs.Io.KnownBytes.{Appends, Consumes, IsAtEnd};
-ghost use Rattle.hashbag_run_lib.specs.Execution.{AppendsPart, IsExecution, IsSent, IsStatus};
+ghost use Rattle.hashbag_run_lib.specs.Execution.{AppendsPart, ExecutesOn, IsSent, IsStatus};
 
 use crate::answer::answer;
 pub use crate::answer::{BAD_LINE, DONE, NO_MEMORY};
@@ -88,9 +88,11 @@ fn send<W: Write>(output: &mut W, text: &str, status: u8) -> u8
 /// | 4 | a read failed | nothing |
 /// | 4 | a write failed | a beginning of the text |
 pub fn execute<R: Read, W: Write>(alloc: Global, input: &mut R, output: &mut W) -> u8
+    // The status is 0, 2, 3 or 4.
     ensures statuses { IsStatus result }
-    ensures run { IsExecution (R.remaining input.old) (R.remaining input.new)
-        (W.contents output.old) (W.contents output.new) result }
+
+    // If the contracts of the reader and of the writer know their bytes, then what was read and written is what the table says.
+    ensures run { ExecutesOn R.remaining W.contents input.old input.new output.old output.new result }
 {
     match read_all(alloc, input) {
         Ok(text) => {

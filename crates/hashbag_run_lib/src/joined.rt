@@ -1,6 +1,6 @@
 //! Two runs of steps, and the joins of the bags that they leave.
-ghost use Rattle.std.specs.Prelude.{◌≡◌, ◌⊎◌, IfOk, IfErr, OnErr};
-ghost use Rattle.hashbag.specs.Pairs.{ran, HasNoRoom, IsCutOffAfter};
+ghost use Rattle.std.specs.Prelude.{◌≡◌, IfOk, IfErr, OnErr};
+ghost use Rattle.hashbag.specs.Pairs.{ran, AreStoppedRunsOrRest};
 ghost use Rattle.hashbag_run_lib.specs.RunAndJoin.{AreCopiesOf, AreJoinCopiesOf, IsRunAndJoined};
 
 use hashbag::script::{Joins, Reply, Step, joins_of, run_pair};
@@ -74,6 +74,8 @@ pub fn run_and_join<T: Eq + Hash + Copy + Drop, S: BuildHasher + Drop, S2: Build
     replies_a: &mut Vec<Reply<T>>,
     replies_b: &mut Vec<Reply<T>>,
 ) -> Result<JoinLists<T>, BagError>
+    // Whatever lists the bags meant, each step replies as a plain list replies, each bag means what its list has become, and the four lists are
+    // the joins of the two.
     ensures whole { IfOk result (λ joins. IsRunAndJoined T.eq
         (ran a.old a.new steps_a.items replies_a.old.items replies_a.new.items)
         (ran b.old b.new steps_b.items replies_b.old.items replies_b.new.items)
@@ -83,10 +85,10 @@ pub fn run_and_join<T: Eq + Hash + Copy + Drop, S: BuildHasher + Drop, S2: Build
 
     // Only an allocation can fail.
     ensures memory { IfErr result (λ e. e ≡ BagError.Memory) }
-    ensures stopped { OnErr result (IsCutOffAfter T.eq
-        (HasNoRoom replies_a.old steps_a ⊎ HasNoRoom replies_b.old steps_b)
-        (ran a.old a.new steps_a.items replies_a.old.items replies_a.new.items)
-        (ran b.old b.new steps_b.items replies_b.old.items replies_b.new.items)) }
+
+    // The runs stopped before the first step, since replies had no room, or at a step of either bag; or both runs are done.
+    ensures stopped { OnErr result (AreStoppedRunsOrRest T.eq a.old a.new steps_a replies_a.old replies_a.new
+        b.old b.new steps_b replies_b.old replies_b.new) }
 {
     run_pair(a, b, steps_a, steps_b, replies_a, replies_b)?;
     let joins = joins_of(alloc, a, b)?;

@@ -169,6 +169,7 @@ fn line_after(passed: u64) -> Result<u64, LinesError>
 ///
 /// `BadLine` for the first line that is no step, or `Memory` if an allocation fails.
 pub fn steps(alloc: Global, text: &[u8]) -> Result<Scripts, LinesError>
+    // No line is bad: each is empty or a step. The two lists are the steps of the lines on bag a and on bag b, in order.
     ensures steps { IfOk result (λ scripts. AreStepsOf text.now scripts.a.items scripts.b.items) }
     ensures bad { IfErr result (IsBadLineOf text.now) }
 {

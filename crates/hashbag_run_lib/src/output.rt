@@ -71,6 +71,7 @@ fn print_signed(text: &mut String, signed: &Vec<(u64, isize)>) -> Result<(), All
 
 /// Appends the lines of the joins, each join sorted by value.
 pub fn print_joins(text: &mut String, joins: JoinLists<u64>) -> Result<(), AllocError>
+    // The lines of the four joins were appended, those of each join in ascending order of values.
     ensures { OnOk result (PrintsJoins joins (string_bytes text.old) (string_bytes text.new)) }
 {
     let JoinLists {

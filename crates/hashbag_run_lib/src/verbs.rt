@@ -65,6 +65,7 @@ fn step_with_two(verb: &str, value: u64, n: u64) -> Option<Step<u64>>
 
 /// Returns the step of a verb and its numbers, or `None` if the verb is unknown or doesn't take that many numbers.
 pub fn step_of(alloc: Global, verb: &[u8], numbers: &[u64]) -> Result<Option<Step<u64>>, AllocError>
+    // The step is the one that is written as `verb` and `numbers`; there is none if the verb is unknown or takes another number of them.
     ensures { IfOk result (λ step. option_map command_of step ≡ command verb.now numbers.now) }
 {
     let Ok(verb) = str::from_utf8(verb) else {

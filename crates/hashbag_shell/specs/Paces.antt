@@ -1,4 +1,4 @@
--- How far work has come.
+-- Shares of work, for reports of progress.
 use Rattle.std.specs.Prelude.{ℕ, Option, None, Some, if◌then◌else◌, ◌==◌, ◌*◌, ◌/◌}
 
 -- n * part / whole, rounded down; `None` if the whole is 0

@@ -35,6 +35,7 @@ pub fn read_text<'a, I: Inputs>(
     file: &'a str,
     encoding: Option<Encoding>,
 ) -> Result<Vec<u8>, Trouble<'a>>
+    // `gives` holds of `file` and some bytes, and the text is these bytes, decoded if there is an `encoding`.
     ensures { IfOk result (λ text. IsTextRead (I.gives inputs.now) encoding file.now text.items) }
 {
     let bytes = inputs.read(file)?;

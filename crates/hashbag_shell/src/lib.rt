@@ -1,5 +1,5 @@
-//! What the programs share where they meet the system: arguments and options, files that are read whole, outputs that are written whole or
-//! not at all, and temporary files. Also whether two names are of one file, the errors, the exit statuses, and the version.
+//! What the programs share to work with the system: arguments and options, files that are read whole, outputs that are written whole or not at all,
+//! and temporary files. The crate also has the errors, the exit statuses, the version, and the check whether two names are of one file.
 //!
 //! No clause can say which bytes a file has, so `tests/programs/words.sh` tests with files: see the page of the program `hashbag_words`.
 #![tactic(auto)]

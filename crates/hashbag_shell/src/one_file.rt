@@ -3,7 +3,7 @@ use std::fs;
 use std::os::unix::fs::MetadataExt;
 use std::rt::Files;
 
-/// Returns whether two names are of one regular file, however they are written: `a`, `./a` and a link to `a` are.
+/// Returns whether two names are of one regular file, however the names are written: `a`, `./a` and a link to `a` are names of one file.
 ///
 /// The device number and the inode number decide. `-` is standard input. If one of the names has no file, returns false.
 pub fn is_one_file<R: Files>(rt: &R, first: &str, second: &str) -> bool {

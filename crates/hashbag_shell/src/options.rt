@@ -85,7 +85,7 @@ pub fn with_progress<'a>(
     let progress = Arg::new(alloc, "progress")
         .long("progress")
         .action(ArgAction::SetTrue)
-        .help("Report on standard error how far it is, also if that is no terminal");
+        .help("Report progress on standard error, also if it is no terminal");
     let quiet = Arg::new(alloc, "quiet")
         .short('q')
         .long("quiet")

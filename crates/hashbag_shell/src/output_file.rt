@@ -39,8 +39,8 @@ fn open_beside<R: Files<File = File> + AllocGlobal>(
     Ok(OutputFile { file, names })
 }
 
-// Gives a new file the owner, the group and the permissions of the file that it replaces. If this user may not set the owner, only the
-// permissions are set, and the group if the user may set that.
+// Gives a new file the owner, the group and the permissions of the file that it replaces. If this user may not set the owner, the permissions are
+// still set, and so is the group, if the user may set it.
 fn keep_owner_and_mode(file: &File, former: &Metadata) -> io::Result<()> {
     let group = Some(former.gid());
     if fchown(file, Some(former.uid()), group).is_err() {

@@ -44,7 +44,7 @@ pub fn printed<'a, R: Print + Eprint + AllocGlobal>(rt: &R, error: &Error) -> Tr
     })
 }
 
-/// Returns the values that the words give to the arguments of a command.
+/// Parses the words of the command line as `command` declares its arguments.
 ///
 /// # Errors
 ///
@@ -69,8 +69,8 @@ pub fn status_of<R: Eprint>(rt: &R, program: &str, ended: Result<u8, Trouble<'_>
     }
 }
 
-/// Calls `answer` with the words of the command line, and returns the exit status. If that fails, reports why, in a message that begins with
-/// `name`.
+/// Calls `answer` with the words of the command line, and returns the exit status. If the words can't be read, or `answer` fails, reports why. The
+/// message begins with `name`.
 pub fn program<R, F>(rt: &R, name: &str, answer: F) -> u8
 where
     R: Env + Eprint + AllocGlobal,

@@ -30,7 +30,7 @@ pub enum Reports {
 /// What was read, and when it was reported.
 #[derive(Clone, Copy)]
 pub struct Progress {
-    // When the work began, and when it was last reported. Both are the beginning before the first report. `None` if nothing is reported.
+    // When the work began, and when it was last reported. Before the first report, both are the beginning of the work. `None` if nothing is reported.
     times: Option<(Instant, Instant)>,
     // Whether a report overwrites the report before, on a terminal. Else each report is a line.
     overwrites: bool,
@@ -109,7 +109,7 @@ impl Progress {
         }
     }
 
-    // Returns how much was read, and how much that is of the whole, if that is known.
+    // Returns how much was read. If the whole is known, also returns the whole, and the percentage of it that was read.
     fn read_text(&self, alloc: Global) -> Result<String, AllocError> {
         let done = megabytes(alloc, self.done)?;
         let Some(whole) = self.whole else {
@@ -122,8 +122,9 @@ impl Progress {
         format!(in alloc; "{done} of {whole}, {percent}%")
     }
 
-    // Returns how much was read, and at which rate. If the whole is known, also the seconds left; in the first second neither. `works`: no
-    // more is read until the work on what was read is done. How long that takes isn't known.
+    // Returns how much was read, and at which rate. If the whole is known, also returns the seconds left; but in the first second only how much was
+    // read. `works` says that nothing more is read until the bytes read so far are processed. How long that takes isn't known, so then neither the
+    // rate nor the seconds left are returned.
     fn text(&self, alloc: Global, seconds: u64, works: bool) -> Result<String, AllocError> {
         let read = self.read_text(alloc)?;
         let left = self.whole.map(|whole| whole.saturating_sub(self.done));

@@ -12,8 +12,8 @@ use std::alloc::Global;
 /// The message for a file that is read as Latin-1 or Windows-1252, but begins with the byte order mark of UTF-8.
 pub const MARKED: &str = "UTF-8, by its byte order mark; `--encoding UTF-8` reads it";
 
-// Returns the number of the first line that shows that these bytes aren't text, and what they are, or `None` if they may be text. Returns
-// `None` also for UTF-16 with a byte order mark, since those who read the text reject that with a message of their own.
+// Returns the number of the first line that shows that these bytes aren't text, and what they are, or `None` if they may be text. Returns `None` also
+// for UTF-16 with a byte order mark, since the code that reads the text then rejects it with its own message.
 fn no_text(bytes: &[u8]) -> Option<(u64, &'static str)> {
     if bytes.starts_with(b"\x1f\x8b") {
         return Some((1, "gzip; `zcat` makes it text"));
@@ -46,7 +46,7 @@ fn checked<'a>(alloc: Global, file: &'a str, bytes: Vec<u8>) -> Result<Vec<u8>, 
     }
 }
 
-/// If the message of the trouble names `--encoding`, returns it with `option` in place of that.
+/// Returns the trouble, with `option` in place of `--encoding` if its message names that.
 pub fn with_option<'a>(alloc: Global, trouble: Trouble<'a>, option: &str) -> Trouble<'a> {
     if let Trouble::BadLine {
         file,
@@ -75,14 +75,15 @@ pub fn of_decoding<'a>(alloc: Global, file: &'a str, error: DecodeError) -> Trou
 ///
 /// # Errors
 ///
-/// `BadLine` if the bytes aren't text in the encoding, begin with the mark of UTF-8 in an encoding of one byte a character, are compressed, or
-/// have a NUL byte; `Memory` if an allocation fails.
+/// `BadLine` if the bytes aren't text in the encoding, begin with the byte order mark of UTF-8 though the encoding is Latin-1 or Windows-1252, are
+/// compressed, or have a NUL byte. `Memory` if an allocation fails.
 pub fn text_of<'a>(
     alloc: Global,
     file: &'a str,
     encoding: Option<Encoding>,
     bytes: Vec<u8>,
 ) -> Result<Vec<u8>, Trouble<'a>>
+    // `text_in` is the text of bytes in this encoding, or `None` if they aren't text. Without an encoding the bytes are the text.
     ensures { IfOk result (λ text. text_in encoding bytes.items ≡ Some text.items) }
 {
     let Some(encoding) = encoding else {

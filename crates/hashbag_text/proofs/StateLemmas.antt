@@ -1,7 +1,7 @@
 -- What one more byte, or the end of bytes, makes of a text.
 use Rattle.std.proofs.Common.{◌≡◌, ℕ, List, [], ◌∷◌, Option, Some, None, Result, Ok, Err, OnErr, sym, ◌∙◌, ap, subst}
 use Rattle.std.specs.Prelude.{encode_utf8, option_map}
-use Rattle.hashbag_text.specs.Encodings.{before, behind, text_of_all, text_of_units, units_in, unit_of, windows_1252, yields}
+use Rattle.hashbag_text.specs.Encodings.{after_char, after_bytes, text_of_all, text_of_units, units_in, unit_of, windows_1252, yields}
 use Rattle.hashbag_text.specs.States.{left, with_high}
 use Rattle.hashbag_text.specs.declared.high.High.{High}
 use Rattle.hashbag_text.specs.declared.state.State.{State}
@@ -49,12 +49,12 @@ unit_fails s o high first byte u is unit each bytes =
 
 -- ---- a byte that is a character
 
-pub latin_more : (s : State) (byte c : ℕ) → s ≡ Latin1 → c ≡ byte → (bytes : List ℕ) → left s (byte ∷ bytes) ≡ behind (encode_utf8 c) (left s bytes)
+pub latin_more : (s : State) (byte c : ℕ) → s ≡ Latin1 → c ≡ byte → (bytes : List ℕ) → left s (byte ∷ bytes) ≡ after_bytes (encode_utf8 c) (left s bytes)
 latin_more s byte c is same bytes =
-    ap (λ (x : State). left x (byte ∷ bytes)) is ∙ ap (λ (n : ℕ). behind (encode_utf8 n) (left Latin1 bytes)) (sym same)
-    ∙ ap (λ (x : State). behind (encode_utf8 c) (left x bytes)) (sym is)
+    ap (λ (x : State). left x (byte ∷ bytes)) is ∙ ap (λ (n : ℕ). after_bytes (encode_utf8 n) (left Latin1 bytes)) (sym same)
+    ∙ ap (λ (x : State). after_bytes (encode_utf8 c) (left x bytes)) (sym is)
 
-pub windows_more : (s : State) (byte : ℕ) (c : Option ℕ) → s ≡ Windows1252 → c ≡ windows_1252 byte → (bytes : List ℕ) → left s (byte ∷ bytes) ≡ before c (left s bytes)
+pub windows_more : (s : State) (byte : ℕ) (c : Option ℕ) → s ≡ Windows1252 → c ≡ windows_1252 byte → (bytes : List ℕ) → left s (byte ∷ bytes) ≡ after_char c (left s bytes)
 windows_more s byte c is same bytes =
-    ap (λ (x : State). left x (byte ∷ bytes)) is ∙ ap (λ (n : Option ℕ). before n (left Windows1252 bytes)) (sym same)
-    ∙ ap (λ (x : State). before c (left x bytes)) (sym is)
+    ap (λ (x : State). left x (byte ∷ bytes)) is ∙ ap (λ (n : Option ℕ). after_char n (left Windows1252 bytes)) (sym same)
+    ∙ ap (λ (x : State). after_char c (left x bytes)) (sym is)

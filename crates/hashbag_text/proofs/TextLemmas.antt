@@ -4,24 +4,24 @@ use Rattle.std.proofs.lemmas.Bool.{ltb-true}
 use Rattle.std.proofs.lemmas.List.{append-nil}
 use Rattle.std.specs.List.{list_all}
 use Rattle.std.specs.Prelude.{SomeIff, IsSome}
-use Rattle.hashbag_text.specs.Encodings.{behind, yields}
+use Rattle.hashbag_text.specs.Encodings.{after_bytes, yields}
 use Rattle.hashbag_text.specs.States.{spelled}
 
-pub behind_none : (t : Option (List ℕ)) → behind [] t ≡ t
+pub behind_none : (t : Option (List ℕ)) → after_bytes [] t ≡ t
 behind_none None = refl
 behind_none (Some t) = refl
 
-pub behind_end : (xs : List ℕ) → behind xs (Some []) ≡ Some xs
+pub behind_end : (xs : List ℕ) → after_bytes xs (Some []) ≡ Some xs
 behind_end xs = ap Some (append-nil xs)
 
 -- one more character of a text
-pub one_more : (all before after : Option (List ℕ)) (old new : List ℕ) (c : Option ℕ) → all ≡ behind old before → before ≡ yields c after
-    → new ≡ old ++ spelled c → all ≡ behind new after
-one_more all before after old new None is next grown = is ∙ ap (λ (t : Option (List ℕ)). behind old t) next ∙ ap (λ (xs : List ℕ). behind xs after) (sym (append-nil old) ∙ sym grown)
-one_more all before None old new (Some c) is next grown = is ∙ ap (λ (t : Option (List ℕ)). behind old t) next
+pub one_more : (all before after : Option (List ℕ)) (old new : List ℕ) (c : Option ℕ) → all ≡ after_bytes old before → before ≡ yields c after
+    → new ≡ old ++ spelled c → all ≡ after_bytes new after
+one_more all before after old new None is next grown = is ∙ ap (λ (t : Option (List ℕ)). after_bytes old t) next ∙ ap (λ (xs : List ℕ). after_bytes xs after) (sym (append-nil old) ∙ sym grown)
+one_more all before None old new (Some c) is next grown = is ∙ ap (λ (t : Option (List ℕ)). after_bytes old t) next
 one_more all before (Some after) old new (Some c) is next grown =
-    is ∙ ap (λ (t : Option (List ℕ)). behind old t) next ∙ ap Some (sym (append_assoc old (spelled (Some c)) after))
-    ∙ ap (λ (xs : List ℕ). behind xs (Some after)) (sym grown)
+    is ∙ ap (λ (t : Option (List ℕ)). after_bytes old t) next ∙ ap Some (sym (append_assoc old (spelled (Some c)) after))
+    ∙ ap (λ (xs : List ℕ). after_bytes xs (Some after)) (sym grown)
 
 pub both : (a b : Bool) → (a && b) ≡ true → (a ≡ true) × (b ≡ true)
 both true b h = (refl, h)

@@ -4,7 +4,7 @@ use Rattle.std.proofs.lemmas.Bool.{ltb-true, leb-true}
 use Rattle.std.specs.Prelude.{option_map}
 use Rattle.core.specs.Char.Utf16.{is_high_surrogate, is_low_surrogate, lone_unit_char, surrogate_pair_char, utf16_chars}
 use Rattle.core.proofs.str.Utf16.{lone_unit_char_surrogate}
-use Rattle.hashbag_text.specs.Encodings.{before, text_of, text_of_all, text_of_units, yields}
+use Rattle.hashbag_text.specs.Encodings.{after_char, text_of, text_of_all, text_of_units, yields}
 use Rattle.hashbag_text.specs.States.{with_high}
 use Rattle.hashbag_text.specs.declared.high.High.{High}
 use Rattle.hashbag_text.proofs.TextLemmas.{both}
@@ -66,16 +66,16 @@ pair_left kept high u is low us =
 
 -- a unit that is in no pair
 pub lone_left : (kept : Option High) (u : ℕ) (c : Option ℕ) → kept ≡ None → is_high_surrogate u ≡ false → c ≡ lone_unit_char u
-    → (us : List ℕ) → text_of_units (with_high kept (u ∷ us)) ≡ before c (text_of_units us)
+    → (us : List ℕ) → text_of_units (with_high kept (u ∷ us)) ≡ after_char c (text_of_units us)
 lone_left kept u c is other is_char us =
     ap (λ (k : Option High). text_of_units (with_high k (u ∷ us))) is ∙ ap text_of (chars_lone u us other)
-    ∙ ap (λ (d : Option ℕ). before d (text_of_units us)) (sym is_char)
+    ∙ ap (λ (d : Option ℕ). after_char d (text_of_units us)) (sym is_char)
 
 yields_none : (c : Option ℕ) → yields c None ≡ None
 yields_none None = refl
 yields_none (Some c) = refl
 
--- one more unit before units, if there are some
+-- one more unit before the units of m, if m is `Some`
 pub all_more : (high after : Option High) (u : ℕ) (c : Option ℕ)
     → ((us : List ℕ) → text_of_units (with_high high (u ∷ us)) ≡ yields c (text_of_units (with_high after us)))
     → (m : Option (List ℕ))

@@ -1,4 +1,4 @@
--- Which text bytes are in an encoding: its bytes in UTF-8, or none.
+-- What bytes mean in an encoding: a text, as its bytes in UTF-8, or none.
 use Rattle.std.specs.Prelude.{ℕ, ◌+◌, ◌-◌, ◌*◌, ◌==◌, ◌&&◌, if◌then◌else◌, nat_le, nat_lt, List, [], ◌∷◌, ◌++◌, map, get_or, Option, None, Some, option_map, encode_utf8}
 use Rattle.core.specs.Char.Utf16.{utf16_chars}
 use Rattle.hashbag_text.specs.declared.encoding.Encoding.{Encoding}
@@ -6,24 +6,24 @@ use Rattle.hashbag_text.specs.declared.encoding.Encoding.TheVariants.{Utf16, Utf
 use Rattle.hashbag_text.specs.declared.utf16.ByteOrder.{ByteOrder}
 use Rattle.hashbag_text.specs.declared.utf16.ByteOrder.TheVariants.{Little, Big}
 
--- a text behind these bytes, if there is one
-abbrev pub behind : List ℕ → Option (List ℕ) → Option (List ℕ)
-behind bytes text = option_map (λ t. bytes ++ t) text
+-- these bytes, and then the text, if there is one
+abbrev pub after_bytes : List ℕ → Option (List ℕ) → Option (List ℕ)
+after_bytes bytes text = option_map (λ t. bytes ++ t) text
 
--- a text behind a character, or without one
+-- a character, if there is one, and then the text
 abbrev pub yields : Option ℕ → Option (List ℕ) → Option (List ℕ)
 yields None text = text
-yields (Some c) text = behind (encode_utf8 c) text
+yields (Some c) text = after_bytes (encode_utf8 c) text
 
--- the character, and then the text; no text if it is no character
-abbrev pub before : Option ℕ → Option (List ℕ) → Option (List ℕ)
-before None text = None
-before (Some c) text = behind (encode_utf8 c) text
+-- the character, and then the text; no text if there is no character
+abbrev pub after_char : Option ℕ → Option (List ℕ) → Option (List ℕ)
+after_char None text = None
+after_char (Some c) text = after_bytes (encode_utf8 c) text
 
 -- the text of these characters, if all are characters
 abbrev pub text_of : List (Option ℕ) → Option (List ℕ)
 text_of [] = Some []
-text_of (c ∷ cs) = before c (text_of cs)
+text_of (c ∷ cs) = after_char c (text_of cs)
 
 -- the characters of the bytes 0x80 to 0x9F in Windows-1252; 0 for the five that are none
 abbrev pub middle : List ℕ
@@ -34,7 +34,7 @@ middle = 0x20AC ∷ 0 ∷ 0x201A ∷ 0x0192 ∷ 0x201E ∷ 0x2026 ∷ 0x2020 ∷
 abbrev pub unless_zero : ℕ → Option ℕ
 unless_zero c = if c == 0 then None else Some c
 
--- the character of a byte in Windows-1252: outside of the middle that of its number
+-- the character of a byte in Windows-1252: for the bytes 0x80 to 0x9F that of `middle`, else the one with the number of the byte
 abbrev pub windows_1252 : ℕ → Option ℕ
 windows_1252 b = if nat_le 0x80 b && nat_lt b 0xA0 then unless_zero (get_or middle (b - 0x80) 0) else Some b
 
@@ -49,11 +49,11 @@ units_in o [] = Some []
 units_in o (a ∷ []) = None
 units_in o (a ∷ b ∷ bytes) = option_map (λ units. unit_of o a b ∷ units) (units_in o bytes)
 
--- the text of units, if no surrogate is without its other half
+-- the text of units, none if a surrogate is without its other half
 abbrev pub text_of_units : List ℕ → Option (List ℕ)
 text_of_units units = text_of (utf16_chars units)
 
--- the text of units, if there are some
+-- the text of these units; `None` of `None`
 abbrev pub text_of_all : Option (List ℕ) → Option (List ℕ)
 text_of_all None = None
 text_of_all (Some units) = text_of_units units
@@ -67,7 +67,7 @@ abbrev pub ordered : Option ByteOrder → List ℕ → Option (List ℕ)
 ordered None bytes = None
 ordered (Some o) bytes = text_of_all (units_in o bytes)
 
--- the text of bytes in UTF-16 behind a byte order mark, without the mark; no bytes need no mark
+-- the text of bytes in UTF-16 that begin with a byte order mark, without the mark. An empty input needs no mark
 abbrev pub marked : List ℕ → Option (List ℕ)
 marked [] = Some []
 marked (a ∷ []) = None

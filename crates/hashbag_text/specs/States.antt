@@ -1,4 +1,4 @@
--- Which text is left of bytes that are still to come.
+-- The text of the bytes that follow, given the state after the bytes so far.
 use Rattle.std.specs.Prelude.{◌≡◌, ℕ, List, [], ◌∷◌, map, Option, None, Some, option_map, encode_utf8}
 use Rattle.hashbag_text.specs.Encodings.{marked, text_of, text_of_all, text_of_units, units_in, windows_1252, yields}
 use Rattle.hashbag_text.specs.declared.high.High.{High}
@@ -10,23 +10,24 @@ abbrev pub spelled : Option ℕ → List ℕ
 spelled None = []
 spelled (Some c) = encode_utf8 c
 
--- units behind the first one of a pair, if there is one
+-- `units`, after the pending high surrogate `high`, if there is one
 abbrev pub with_high : Option High → List ℕ → List ℕ
 with_high None units = units
 with_high (Some high) units = high.unit ∷ units
 
--- bytes behind one that is kept, if there is one
+-- `bytes`, after the byte that the state keeps, if there is one
 abbrev pub with_kept : Option ℕ → List ℕ → List ℕ
 with_kept None bytes = bytes
 with_kept (Some byte) bytes = byte ∷ bytes
 
--- the text of what is kept and of these bytes
+-- the text of what the state keeps and then of these bytes
 abbrev pub left : State → List ℕ → Option (List ℕ)
 left (Mark kept) bytes = marked (with_kept kept bytes)
 left (Units o high kept) bytes = text_of_all (option_map (with_high high) (units_in o (with_kept kept bytes)))
 left Latin1 bytes = text_of (map (λ b. Some b) bytes)
 left Windows1252 bytes = text_of (map windows_1252 bytes)
 
--- whatever units come behind a unit, the text is the character that it ends, if it ends one, and then what is left
+-- `r` is the pending high surrogate, if any, and the character, if any, after `unit`: for any `units`, the text of `high`, `unit` and `units` is that
+-- character and then the text of `r.0` and `units`
 abbrev pub EndsUnit : Option High → ℕ → Option High × Option ℕ → Type 0
 EndsUnit high unit r = (units : List ℕ) → text_of_units (with_high high (unit ∷ units)) ≡ yields r.1 (text_of_units (with_high r.0 units))

@@ -23,7 +23,7 @@ pub enum BadBytes {
 pub enum DecodeError {
     /// The bytes aren't text in the encoding.
     Line {
-        /// The line of the text that it is found in, from 1.
+        /// The line of the text in which the bytes are, from 1.
         line: u64,
         /// What is wrong.
         bad_bytes: BadBytes,

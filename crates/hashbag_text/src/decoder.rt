@@ -1,24 +1,23 @@
-//! Decoding of bytes that come in blocks, however they are cut.
+//! Decoding of bytes that are given in blocks, wherever a block ends.
 ghost use Rattle.std.specs.Prelude.{◌≡◌, ◌++◌, [], ℕ, List, None, Some, string_bytes, IfErr, OnOk};
-ghost use Rattle.hashbag_text.specs.declared.bad_bytes.BadBytes.{BadBytes};
 ghost use Rattle.hashbag_text.specs.Encodings.{decoded};
-ghost use Rattle.hashbag_text.specs.Decoders.{DecodesTo, DecodesToNone, left_of};
+ghost use Rattle.hashbag_text.specs.Decoders.{DecodesTo, DecodesToNone, IfLine, left_of};
 ghost use Rattle.hashbag_text.specs.States.{spelled};
 
 use crate::bad_bytes::DecodeError;
 use crate::encoding::Encoding;
 use crate::state::State;
 
-/// What was decoded of bytes so far.
+/// A decoder of bytes that are given block by block. It keeps the bytes that aren't a character yet.
 ///
-/// In its contracts `left_of` is the text of the bytes that are still to come, if they are text.
+/// In contracts `left_of decoder bytes` is the text of these bytes, if they come next, and of what the decoder keeps; `None` if they aren't text.
 #[derive(Drop)]
 pub struct Decoder {
     state: State,
     line: u64,
 }
 
-// Returns the line behind a character, if there is one.
+// Returns the line after a character, if there is one.
 fn line_after(line: u64, c: Option<char>) -> u64 {
     match c {
         Some('\n') => line.saturating_add(1),
@@ -43,6 +42,7 @@ fn put(text: &mut String, c: Option<char>) -> Result<(), DecodeError>
 impl Decoder {
     /// Returns a decoder that was given nothing.
     pub fn new(encoding: Encoding) -> Decoder
+        // Whatever bytes come next, the text is that of these bytes in the encoding, or `None` if they aren't text in it.
         ensures { (bytes : List ℕ) → left_of result bytes ≡ decoded encoding bytes }
     {
         Decoder {
@@ -51,15 +51,19 @@ impl Decoder {
         }
     }
 
-    /// Appends the characters that end in this block to the text. The bytes of one that doesn't are kept.
+    /// Appends to the text the characters whose last byte is in this block. The bytes of a character that isn't whole yet are kept.
     ///
     /// # Errors
     ///
-    /// `Line` if these bytes can't be text, whatever comes behind them; the text then has what is before. `Memory` if an allocation fails. Then the
-    /// decoder is of no use.
+    /// `Line` if the bytes so far can't be text, whatever bytes follow. The text then has the characters before the bad bytes. `Memory` if an
+    /// allocation fails. After an error the decoder is of no use.
     pub fn push(&mut self, block: &[u8], text: &mut String) -> Result<(), DecodeError>
+        // Whatever bytes follow: the old text, then the text of `block` and these bytes by the old decoder, is the new text, then the text of these
+        // bytes by the new decoder.
         ensures text { OnOk result (DecodesTo self.old block.now (string_bytes text.old) self.new (string_bytes text.new)) }
-        ensures bad_bytes { IfErr result (λ e. (line : ℕ) → (bad_bytes : BadBytes) → e ≡ DecodeError.Line line bad_bytes → DecodesToNone self.old block.now) }
+
+        // If the error is `Line`, what the decoder kept and `block` aren't text, whatever bytes follow.
+        ensures bad_bytes { IfErr result (λ e. IfLine e (DecodesToNone self.old block.now)) }
     {
         for byte in block {
             let (state, c) = match self.state.after(*byte) {
@@ -80,12 +84,13 @@ impl Decoder {
         Ok(())
     }
 
-    /// Ends the bytes.
+    /// Ends the decoding: no more bytes follow.
     ///
     /// # Errors
     ///
-    /// `Line` if a character isn't whole.
+    /// `Line` if the last character isn't whole.
     pub fn end(self) -> Result<(), DecodeError>
+        // If no bytes follow, the text of what the decoder keeps is empty (`whole`), or there is none (`bad_bytes`).
         ensures whole { OnOk result (left_of self [] ≡ Some []) }
         ensures bad_bytes { IfErr result (λ e. left_of self [] ≡ None) }
     {

@@ -12,6 +12,7 @@ pub struct High {
 impl High {
     /// Returns the first unit of a pair, if this is one.
     pub fn of_unit(unit: u16) -> Option<High>
+        // The result is `None` if the unit is no high surrogate, the first unit of a pair; else it has this unit.
         ensures { MatchOption result (is_high_surrogate unit ≡ false) (λ high. high.unit ≡ unit) }
     {
         if unit < 0xD800 || 0xDC00 <= unit {

@@ -1,4 +1,4 @@
-//! What is known of bytes so far.
+//! The state of a decoder after the bytes so far.
 ghost use Rattle.std.specs.Prelude.{◌≡◌, ◌∷◌, [], ℕ, List, None, Some, IfOk, OnErr, OnOk};
 ghost use Rattle.hashbag_text.specs.Encodings.{decoded, yields};
 ghost use Rattle.hashbag_text.specs.States.{left};
@@ -12,9 +12,9 @@ use crate::windows_1252::windows_1252;
 /// The encoding, and the bytes that aren't a character yet.
 #[derive(Clone, Copy)]
 pub enum State {
-    /// UTF-16 before its mark, of which there may be the first byte.
+    /// UTF-16 before the end of its mark. The first byte of the mark may have been read.
     Mark(Option<u8>),
-    /// UTF-16 in this order. There may be the first unit of a pair, and behind it the first byte of a unit.
+    /// UTF-16 in this order. There may be the first unit of a pair, and after it the first byte of a unit.
     Units(ByteOrder, Option<High>, Option<u8>),
     /// Latin-1.
     Latin1,
@@ -25,6 +25,7 @@ pub enum State {
 impl State {
     /// Returns the state before any byte.
     pub fn new(encoding: Encoding) -> State
+        // `left` is the text of what the state keeps and then of these bytes: here, of these bytes in the encoding, or `None` if they aren't text.
         ensures { (bytes : List ℕ) → left result bytes ≡ decoded encoding bytes }
     {
         match encoding {
@@ -40,12 +41,12 @@ impl State {
     ///
     /// # Errors
     ///
-    /// What is wrong with it.
+    /// What is wrong with the bytes, if they can't be text with this byte.
     pub fn after(self, byte: u8) -> Result<(State, Option<char>), BadBytes>
-        // Whatever bytes come behind it, the text is that character, and then what is left.
+        // Whatever bytes follow, the text is that character, if there is one, and then what is left.
         ensures character { IfOk result (λ r. (bytes : List ℕ) → left self (byte ∷ bytes) ≡ yields r.1 (left r.0 bytes)) }
 
-        // Whatever bytes come behind it, there is no text.
+        // Whatever bytes follow, there is no text.
         ensures bad_bytes { OnErr result ((bytes : List ℕ) → left self (byte ∷ bytes) ≡ None) }
     {
         match self {
@@ -67,12 +68,13 @@ impl State {
         }
     }
 
-    /// Checks that no byte is left.
+    /// Checks that the bytes end here: no byte waits for another.
     ///
     /// # Errors
     ///
     /// What is missing.
     pub fn end(self) -> Result<(), BadBytes>
+        // If no bytes follow, the text of what the state keeps is empty (`whole`), or there is none (`bad_bytes`).
         ensures whole { OnOk result (left self [] ≡ Some []) }
         ensures bad_bytes { OnErr result (left self [] ≡ None) }
     {

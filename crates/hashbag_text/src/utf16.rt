@@ -65,15 +65,17 @@ fn lone_char(unit: u16) -> Option<char>
     char::from_u32(u32::from(unit))
 }
 
-/// Returns this unit, if it is the first one of a pair; or the character that it ends.
+/// Returns the unit if it is the first one of a pair, and else the character that it ends.
 ///
 /// # Errors
 ///
-/// `LoneSurrogate` if a second unit of a pair is wanted and this is none, or if none is wanted and this is one.
+/// `LoneSurrogate` if there is a first unit `high` and this unit isn't a second one, or if this is a second unit without a first one.
 pub fn after_unit(high: Option<High>, unit: u16) -> Result<(Option<High>, Option<char>), BadBytes>
+    // Whatever units follow, the text of `high`, `unit` and them is the returned character, if any, and then the text of the returned unit, if any,
+    // and them.
     ensures character { IfOk result (EndsUnit high unit) }
 
-    // Whatever units come behind it, there is no text.
+    // Whatever units follow, there is no text.
     ensures bad_bytes { OnErr result ((units : List ℕ) → text_of_units (with_high high (unit ∷ units)) ≡ None) }
 {
     if let Some(high) = high {

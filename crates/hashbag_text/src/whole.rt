@@ -1,6 +1,6 @@
-//! Decoding of bytes that are there at once.
-ghost use Rattle.std.specs.Prelude.{◌≡◌, ℕ, None, Some, string_bytes, IfErr, IfOk};
-ghost use Rattle.hashbag_text.specs.declared.bad_bytes.BadBytes.{BadBytes};
+//! Decoding of all bytes at once.
+ghost use Rattle.std.specs.Prelude.{◌≡◌, None, Some, string_bytes, IfErr, IfOk};
+ghost use Rattle.hashbag_text.specs.Decoders.{IfLine};
 ghost use Rattle.hashbag_text.specs.Encodings.{decoded};
 
 use crate::bad_bytes::DecodeError;
@@ -15,7 +15,9 @@ use std::alloc::Global;
 /// `Line` if the bytes aren't text in this encoding. `Memory` if an allocation fails.
 pub fn decode(alloc: Global, encoding: Encoding, bytes: &[u8]) -> Result<String, DecodeError>
     ensures text { IfOk result (λ text. decoded encoding bytes.now ≡ Some (string_bytes text)) }
-    ensures bad_bytes { IfErr result (λ e. (line : ℕ) → (bad_bytes : BadBytes) → e ≡ DecodeError.Line line bad_bytes → decoded encoding bytes.now ≡ None) }
+
+    // If the error is `Line`, the bytes aren't text in this encoding.
+    ensures bad_bytes { IfErr result (λ e. IfLine e (decoded encoding bytes.now ≡ None)) }
 {
     let mut decoder = Decoder::new(encoding);
     let Ok(mut text) = String::with_capacity(alloc, bytes.len()) else {

@@ -17,7 +17,7 @@ fn middle(byte: u8) -> u16
     MIDDLE[byte as usize - 0x80]
 }
 
-/// Returns the character of a byte in Windows-1252, if it is one.
+/// Returns the character of a byte in Windows-1252, or `None` if the byte is no character.
 pub fn windows_1252(byte: u8) -> Option<char>
     ensures { result ≡ windows_1252 byte }
 {

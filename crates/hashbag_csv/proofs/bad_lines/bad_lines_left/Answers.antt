@@ -1,5 +1,5 @@
 use Rattle.std.proofs.Common.{◌++◌, ◌∷◌, ◌∙◌, [], refl, ap, length, arith, rules}
-use Rattle.hashbag_csv.specs.BadLines.{IsSaidOf}
+use Rattle.hashbag_csv.specs.BadLines.{IsCheckOf}
 use Rattle.hashbag_csv.specs.LineColumns.{form_of, number_place}
 use Rattle.hashbag_csv.specs.Sheets.{is_short_allowed, left, read_last, width_of}
 use Rattle.hashbag_csv.proofs.BadLineLemmas.{errors_fit, named_more, one_read, said_by, said_more}
@@ -22,7 +22,7 @@ pub lines-preserved : goal.lines-preserved
 lines-preserved g c =
     let inv = c.lines.invariant in
     let before = c.lines.sheet in
-    let after = c.said_of_next.new.sheet in
+    let after = c.check_next.new.sheet in
     let v = c.in-Some.said in
     let (next, is) = rw c.in-Some.is at c.in_ok-said.ensures.said in
     let form = form_of c.args.columns.now in
@@ -33,12 +33,12 @@ lines-preserved g c =
       read = inv.read ++ read_last after ∷ [];
       said = inv.said ++ v ∷ [];
       all = one_read (left c.args.sheet.now) inv.read (left before) (left after) (read_last after) inv.all next;
-      each = said_more (IsSaidOf c.args.scale form.number number short width) inv.read inv.said (read_last after) v inv.each
+      each = said_more (IsCheckOf c.args.scale form.number number short width) inv.read inv.said (read_last after) v inv.each
           (said_by c.args.scale form.number number short (is_short_allowed before) width (width_of before) (read_last after) v inv.short inv.width is);
-      named = named_more c.lines.errors.items c.push_said.new.errors.items inv.said v c.in_ok-push_said.ensures inv.named;
-      few = errors_fit c.lines.errors.items c.push_said.new.errors.items v c.args.max_errors c.in_ok-push_said.ensures (let below = c.lines-test.true in let long = c.len.ensures in omega (arith, below, long));
-      width = c.said_of_next.ensures.same.0 ∙ inv.width;
-      short = c.said_of_next.ensures.same.1 ∙ inv.short;
+      named = named_more c.lines.errors.items c.push_error.new.errors.items inv.said v c.in_ok-push_error.ensures inv.named;
+      few = errors_fit c.lines.errors.items c.push_error.new.errors.items v c.args.max_errors c.in_ok-push_error.ensures (let below = c.lines-test.true in let long = c.len.ensures in omega (arith, below, long));
+      width = c.check_next.ensures.same.0 ∙ inv.width;
+      short = c.check_next.ensures.same.1 ∙ inv.short;
     }
 
 -- a record less is left

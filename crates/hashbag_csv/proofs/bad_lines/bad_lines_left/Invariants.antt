@@ -1,5 +1,5 @@
 use Rattle.std.proofs.Common.{◌≡◌, ◌++◌, ◌≤◌, List, Option, length}
-use Rattle.hashbag_csv.specs.BadLines.{AreSaidOf, IsSaidOf, errors_in}
+use Rattle.hashbag_csv.specs.BadLines.{AreChecks, IsCheckOf, errors_in}
 use Rattle.hashbag_csv.specs.LineColumns.{form_of, number_place}
 use Rattle.hashbag_csv.specs.Readers.{Record}
 use Rattle.hashbag_csv.specs.Sheets.{is_short_allowed, left, width_of}
@@ -12,7 +12,7 @@ invariant-lines g l = record {
   read : List Record;
   said : List (Option SheetError);
   all : left l.fn.sheet ≡ read ++ left l.sheet;
-  each : AreSaidOf (IsSaidOf l.scale (form_of l.columns).number (number_place l.columns) (is_short_allowed l.fn.sheet) (width_of l.fn.sheet)) read said;
+  each : AreChecks (IsCheckOf l.scale (form_of l.columns).number (number_place l.columns) (is_short_allowed l.fn.sheet) (width_of l.fn.sheet)) read said;
   named : l.errors.items ≡ errors_in said;
   few : length l.errors.items ≤ l.max_errors;
   width : width_of l.sheet ≡ width_of l.fn.sheet;

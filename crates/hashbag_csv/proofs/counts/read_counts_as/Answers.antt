@@ -1,7 +1,7 @@
 use Rattle.std.proofs.Common.{rules, ◌≡◌, ◌+◌, ◌++◌, ℕ, List, String, Global, true, is_ok, length, map, arith, sym, ◌∙◌, ap}
 use Rattle.std.proofs.lemmas.List.Sums.{sum_by_push}
 use Rattle.hashbag_csv.specs.LineColumns.{form_of, key_places, line_by, number_place}
-use Rattle.hashbag_csv.specs.Quantities.{numbers}
+use Rattle.hashbag_csv.specs.Quantities.{number_sum}
 use Rattle.hashbag_csv.specs.Sheets.{left, read_last}
 use Rattle.hashbag_csv.specs.Counts.{count_line}
 use Rattle.hashbag_csv.proofs.CountLemmas.{all_read, one_read, under_header}
@@ -28,7 +28,7 @@ lines-preserved c =
     let (r, next, same) = rw c.in-Some.is at c.in_ok-name.ensures.line in
     record {
       lines = one_read (line_by c.args.reading.scale c.in_ok-columns.columns) _ c.lines.counts.items _ (c.in-Some.name, c.in-Some.n) (left c.lines.sheet) (left c.read.new.sheet) r c.lines.invariant.lines next same noted;
-      sum = ap numbers noted ∙ sum_by_push (λ (e : String Global × ℕ). e.1) c.lines.counts.items (c.in-Some.name, c.in-Some.n) ∙ ap (λ (k : ℕ). k + c.in-Some.n) c.lines.invariant.sum ∙ sym c.in_ok-total.ensures.sum;
+      sum = ap number_sum noted ∙ sum_by_push (λ (e : String Global × ℕ). e.1) c.lines.counts.items (c.in-Some.name, c.in-Some.n) ∙ ap (λ (k : ℕ). k + c.in-Some.n) c.lines.invariant.sum ∙ sym c.in_ok-total.ensures.sum;
       fits = search rules;
     }
 

@@ -1,6 +1,6 @@
 use Rattle.std.proofs.Common.{◌≡◌, ◌≤◌, ◌++◌, length, map}
 use Rattle.hashbag_csv.specs.LineColumns.{line_by}
-use Rattle.hashbag_csv.specs.Quantities.{numbers}
+use Rattle.hashbag_csv.specs.Quantities.{number_sum}
 use Rattle.hashbag_csv.specs.Sheets.{left}
 use Rattle.hashbag_csv.specs.Counts.{count_line, counts_in}
 use Rattle.hashbag_csv.proofs.counts.read_counts_as.Given as goal
@@ -9,7 +9,7 @@ use Rattle.hashbag_csv.proofs.counts.read_counts_as.Given as goal
 abbrev pub invariant-lines : goal.invariant-lines
 invariant-lines l = record {
   lines : counts_in l.reading l.article l.number l.text ≡ map count_line l.counts.items ++ map (line_by l.reading.scale l.columns) (left l.sheet);
-  sum : numbers l.counts.items ≡ l.total;
+  sum : number_sum l.counts.items ≡ l.total;
   fits : l.total ≤ l.reading.scale.most;
 }
 

@@ -1,8 +1,8 @@
 use Rattle.std.proofs.Common.{◌++◌, ◌∷◌, ◌∙◌, [], List, length, map, refl, sym, ap, subst, append_assoc, arith}
 use Rattle.std.proofs.lemmas.List.{append-nil}
-use Rattle.hashbag_csv.specs.FirstLines.{Carried, HasFirsts, carried_at}
+use Rattle.hashbag_csv.specs.FirstLines.{Carried, HasFirsts, carried_by}
 use Rattle.hashbag_csv.specs.Readers.{Record}
-use Rattle.hashbag_csv.specs.Sheets.{left, place, read_last}
+use Rattle.hashbag_csv.specs.Sheets.{left, read_last}
 use Rattle.hashbag_csv.proofs.FirstLemmas.{one_carried}
 use Rattle.hashbag_csv.proofs.first_lines.add_lines.Goals as goal
 
@@ -17,7 +17,7 @@ lines-init g c = record {
 pub lines-preserved : goal.lines-preserved
 lines-preserved g c =
     let inv = c.lines.invariant in
-    let f = carried_at c.args.form (map place c.args.keys.now) (map place c.args.carried.now) in
+    let f = carried_by c.args.form c.args.columns.now in
     let r = read_last c.read.new.self in
     let next = rw c.if-branch.true at c.in_ok-read.ensures.next in
     record {
@@ -37,7 +37,7 @@ lines-smaller g c =
 pub returns : goal.returns
 returns g c =
     let inv = c.lines.invariant in
-    let f = carried_at c.args.form (map place c.args.keys.now) (map place c.args.carried.now) in
+    let f = carried_by c.args.form c.args.columns.now in
     let none = rw c.if-branch.false at c.in_ok-read.ensures.next in
     let done = inv.all ∙ ap (λ (l : List Record). inv.D ++ map f l) none ∙ append-nil inv.D in
     λ K before. subst (λ (l : List Carried). HasFirsts g.A.PartialEq.eq g.A.Article.fields (K ++ l) c.lines.firsts) (sym done) (inv.so_far K before)

@@ -17,7 +17,7 @@ returns g c =
       counts = λ v. sym (count_rearranged laws v made.items c.finish_carry.new.self.items c.finish_carry.ensures.items.means) ∙ counts_made laws pairs made.hasher made all v;
       len = c.finish_carry.ensures.len ∙ length_made laws pairs made.hasher made all;
       fits = numbers_fit laws pairs made.hasher made all;
-      carried = search rules;
+      none_waits = search rules;
       only_memory = search rules;
     }
 

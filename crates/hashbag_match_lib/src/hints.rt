@@ -1,0 +1,65 @@
+//! For a line that was rejected: the option that would read it, as messages name it.
+use hashbag_csv::fault::{Fault, SheetError};
+use hashbag_csv::line_form::LineForm;
+use hashbag_csv::scale::Mark;
+use hashbag_shell::trouble::Trouble;
+use std::alloc::Global;
+
+// Marks between groups of digits, each with the hint that names it.
+const GROUP_MARKS: [(char, &str); 4] = [
+    ('.', "; `--group-mark .` reads groups of digits"),
+    (',', "; `--group-mark ,` reads groups of digits"),
+    ('\'', "; `--group-mark \"'\"` reads groups of digits"),
+    (' ', "; `--group-mark space` reads groups of digits"),
+];
+
+// Whether a text is digits and these two marks, and has the second one.
+fn is_grouped(text: &str, mark: Mark, group: char) -> bool {
+    text.contains(group)
+        && text.chars().all(|c| c.is_ascii_digit() || c == mark.character() || c == group)
+        && text.contains(|c: char| c.is_ascii_digit())
+}
+
+// Returns the hint for a field that isn't a number.
+fn number_hint(field: &str, form: LineForm, mark: Mark) -> &'static str {
+    if field.is_empty() && !form.number.blank_is_zero {
+        return "; `--blank-is-zero` reads it as 0";
+    }
+    if form.number.group.is_some() {
+        return "";
+    }
+    for (group, hint) in GROUP_MARKS {
+        if group != mark.character() && is_grouped(field, mark, group) {
+            return hint;
+        }
+    }
+    ""
+}
+
+/// Returns what a message says after this error: the option that would read the line, or nothing. Lines are read in the form `form`, with this
+/// mark before decimals.
+pub fn hint_of(error: &SheetError, form: LineForm, mark: Mark) -> &'static str {
+    let SheetError::Line { fault, .. } = error else {
+        return "";
+    };
+    match fault {
+        Fault::Fields { found, header } if *found < *header && !form.allows_short => {
+            "; `--allow-short` reads missing fields as empty"
+        }
+        Fault::NoNumber(field) => number_hint(field.as_str(), form, mark),
+        _ => "",
+    }
+}
+
+/// Returns the trouble. If it is a bad line, its message ends with `hint`.
+pub fn with_hint<'a>(alloc: Global, trouble: Trouble<'a>, hint: &str) -> Trouble<'a> {
+    match trouble {
+        Trouble::BadLine {
+            file,
+            line,
+            what,
+            ..
+        } if !hint.is_empty() => Trouble::of_line(file, line, format!(in alloc; "{what}{hint}")),
+        trouble => trouble,
+    }
+}
