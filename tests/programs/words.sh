@@ -10,7 +10,8 @@ is() {
 }
 
 # What is said of a line that isn't UTF-8
-not_utf8='not UTF-8; if it is Windows-1252, `iconv -f CP1252` converts it'
+not_utf8='not UTF-8; if it is Windows-1252, `--encoding Windows-1252` reads it'
+not_utf8_counts='not UTF-8; if it is Windows-1252, `iconv -f Windows-1252` reads it'
 
 # ends STATUS TEXT WORD..: the program ends with this status on these words, and says this on standard error
 ends() {
@@ -319,6 +320,11 @@ printf 'b;A\nA;a\n' > fields && printf 'a\t2\n' > shown && shows shown "short op
 printf 'A\t2\n' > shown && shows shown "short options" -e '[A-Z]' fields
 printf 'fields\0' | "$program" -q -0 -b lines --files-from - > found && printf 'A;a\t1\nb;A\t1\n' > shown && is found shown "short options"
 "$program" --help > out || fail "no help"
+"$program" count --help > out && for heading in 'What is counted:' Inputs: Memory: 'What is shown:' Output:; do grep -qx "$heading" out || fail "no heading $heading in the help"; done
+# progress of what takes longer than two seconds: the bytes and the rate, and of a pipe neither a percent nor the time that is left
+{ echo a && sleep 2.5 && echo a; } | "$program" -b lines --progress > out 2> err
+[ "$(tail -n 1 err)" = 'standard input: 0.0 MB, 0.0 MB/s' ] || fail "progress of a pipe"
+{ echo a && sleep 2.5 && echo a; } | "$program" -b lines --quiet > out 2> err && [ ! -s err ] || fail "progress with --quiet"
 "$program" --help > /dev/full 2> err
 [ $? = 4 ] && [ ! -s err ] || fail "a help that can't be written"
 for option in --version -V; do
@@ -635,7 +641,7 @@ ends 2 "hashbag_words: --except: stop: it is one of the inputs" less --except st
 for how in "--except - -" "--except - --files-from -" "common --except - - whole"; do ends 2 "hashbag_words: standard input is named twice" $how; done
 printf 'a\nb\377\n' > bad.txt
 for how in "" "--lossy" "--skip-bad" "merge" "merge --sorted"; do
-  ends 2 "hashbag_words: bad.txt:2: $not_utf8" $how --except bad.txt none -o kept && is kept old "an output after a bad line of --except"
+  ends 2 "hashbag_words: bad.txt:2: $not_utf8_counts" $how --except bad.txt none -o kept && is kept old "an output after a bad line of --except"
 done
 ends 2 "hashbag_words: packed.gz: gzip; \`zcat\` makes it text" --except packed.gz none
 "$program" --except no_such_file none > out 2> err
@@ -664,6 +670,10 @@ for shard in 0/3 4/3 1 1/ /1 a/b 1/0 -1/2 1/2/3 ' 1/3' '1/ 3' '1/3 '; do ends 2 
 # no file is opened before all words have a meaning
 ends 2 "hashbag_words: --shard: 0/3: not I/N with I from 1 to N" --shard 0/3 -o none/out none
 ends 2 "hashbag_words: --memory: x: no size" --memory x -o none/out none
+
+# a list of names that isn't UTF-8
+iconv -t UTF-16 text > wide.txt && ends 2 'hashbag_words: wide.txt: not UTF-8; `iconv -f ENCODING` converts it' --files-from wide.txt
+printf 'a\t1\n\377\t1\n' > latin.tsv && ends 2 "hashbag_words: latin.tsv:2: $not_utf8_counts" merge latin.tsv && rm latin.tsv
 
 # cures fit the input: counts and tokens that aren't shown have no --encoding; a list of names has --null; a name that isn't there may be a job
 iconv -t UTF-16 text > wide.txt

@@ -1,7 +1,7 @@
 //! The bag that tokens are counted in, and the runs that are written when it is full.
 ghost use Rattle.std.specs.Prelude.{◌≡◌, [], IfOk};
 ghost use Rattle.hashbag_words_lib.specs.MergingRuns.{HasRuns, IsFaithful};
-ghost use Rattle.hashbag_words_lib.specs.Reads.{bytes_of};
+ghost use Rattle.hashbag_words_lib.specs.Reads.{bytes_of_text};
 
 use crate::runs::Runs;
 use hashbag::HashBag;
@@ -25,9 +25,9 @@ pub struct BagRuns<'s, 'a> {
 }
 
 impl<'a> KeepsRuns<'a> for BagRuns<'_, 'a> {
-    ghost kept = { λ kept runs. HasRuns (λ files. bytes_of files.reads) kept.runs runs };
+    ghost kept = { λ kept runs. HasRuns (λ files. bytes_of_text files.reads) kept.runs runs };
 
-    ghost faithful = { λ kept. IsFaithful (λ files. bytes_of files.reads) kept.runs };
+    ghost faithful = { λ kept. IsFaithful (λ files. bytes_of_text files.reads) kept.runs };
 
     type File = File;
 

@@ -19,13 +19,13 @@ pub struct HostBlocks<'s, 'a> {
     progress: Progress,
     // The encoding of the inputs, `None` for UTF-8.
     encoding: Option<Encoding>,
-    // Whether an input is rejected whose first bytes show another format.
+    // Whether an input is rejected if its first bytes show another format.
     is_checked: bool,
-    // What reads text in an encoding that is named next, as messages say it.
+    // The cure that messages name: `--encoding` or `iconv -f`. The name of an encoding follows.
     cure: &'static str,
     // Whether the next block is the first one of the open input.
     is_first: bool,
-    // What messages call it.
+    // What messages call the open input.
     name: &'a str,
     reader: BlockReader<'a, Input>,
 }
@@ -38,10 +38,10 @@ enum Kind {
     Utf16,
 }
 
-/// What a message puts before the name of an encoding, to say how text in it is read, if it is counted.
+/// The cure that a message names for text that is counted; the name of an encoding follows.
 pub const BY_OPTION: &str = "--encoding";
 
-/// The same for text that isn't counted: counts, and tokens that aren't shown.
+/// The cure that a message names for counts, and for the file of `--except`; the name of an encoding follows.
 pub const BY_COMMAND: &str = "iconv -f";
 
 // Returns the format that these first bytes show, if it isn't the one that is read.
@@ -59,8 +59,8 @@ fn kind_of(encoding: Option<Encoding>, block: &[u8]) -> Option<Kind> {
 }
 
 impl<'s, 'a> HostBlocks<'s, 'a> {
-    /// Returns the inputs, of which none was read. `is_checked` says whether one is rejected whose first bytes show another format than that
-    /// of the encoding, which is UTF-8 if it is `None`. Messages say that `cure` reads it.
+    /// Returns the inputs, of which none was read. If `is_checked`, an input whose first bytes show another format than `encoding` (`None`: UTF-8) is
+    /// rejected. Messages say that `cure` reads such an input.
     pub fn new(
         rt: &'s HostRuntime,
         progress: Progress,
@@ -133,7 +133,7 @@ impl<'a> Blocks<'a> for HostBlocks<'_, 'a> {
     }
 
     fn read(&mut self) -> Result<(), Trouble<'a>> {
-        // What the block before has is counted by now.
+        // The contents of the block before are counted by now.
         let n = self.reader.block().len();
         if n > 0 {
             self.progress.tell(self.rt, self.name, n);

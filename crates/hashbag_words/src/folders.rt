@@ -10,7 +10,7 @@ fn push_path(alloc: Global, paths: &mut Vec<String>, path: &str) -> Result<(), A
     Ok(())
 }
 
-// Moves paths, in ascending order of their bytes.
+// Moves the paths into `into`, in ascending order of their bytes.
 fn push_sorted(into: &mut Vec<String>, mut paths: Vec<String>) -> Result<(), AllocError> {
     paths.sort_unstable();
     for path in paths {
@@ -19,7 +19,7 @@ fn push_sorted(into: &mut Vec<String>, mut paths: Vec<String>) -> Result<(), All
     Ok(())
 }
 
-// Puts what a folder has into these lists. What is hidden, a link or neither a folder nor a file isn't read.
+// Appends the paths of the folders and files in a folder to these lists. Skips what is hidden, links, and what is neither a folder nor a file.
 fn list_folder(
     rt: &HostRuntime,
     folder: &str,
@@ -76,7 +76,7 @@ pub fn is_folder(rt: &HostRuntime, name: &str) -> bool {
     }
 }
 
-/// Returns these names, with the files in a folder in its place.
+/// Returns these names. The name of a folder is replaced by the paths of the files in it.
 ///
 /// # Errors
 ///

@@ -34,7 +34,7 @@ pub struct Inputs<'s, 'a, 'm> {
     pub settings: &'s Settings<'a, 'm>,
     /// The names of all inputs.
     pub names: &'s [&'a str],
-    /// The pattern that is counted by, if there is one.
+    /// The pattern whose matches are counted, if there is one.
     pub pattern: Option<&'s Regex>,
     /// The encoding of the inputs, `None` for UTF-8.
     pub encoding: Option<Encoding>,
@@ -77,7 +77,7 @@ impl<'s, 'a, 'm> Inputs<'s, 'a, 'm> {
         )
     }
 
-    // How the inputs are read.
+    // Returns how the inputs are read.
     fn reading(&self) -> Reading {
         Reading {
             encoding: self.encoding,
@@ -86,7 +86,7 @@ impl<'s, 'a, 'm> Inputs<'s, 'a, 'm> {
         }
     }
 
-    /// Counts the tokens of all inputs, and returns what is shown of them.
+    /// Counts the tokens of all inputs, and returns the text that shows the tokens.
     ///
     /// # Errors
     ///
@@ -104,7 +104,7 @@ impl<'s, 'a, 'm> Inputs<'s, 'a, 'm> {
         )
     }
 
-    /// Adds the counts of all inputs, whose lines have this form, and returns what is shown of them.
+    /// Adds the counts of all inputs, whose lines have this form, and returns the text that shows the sums.
     ///
     /// # Errors
     ///
@@ -122,7 +122,7 @@ impl<'s, 'a, 'm> Inputs<'s, 'a, 'm> {
         )
     }
 
-    /// Returns what is shown of a bag, and of the runs that were made of it.
+    /// Returns the text that shows the tokens of a bag and of its runs.
     ///
     /// # Errors
     ///
@@ -139,7 +139,7 @@ impl<'s, 'a, 'm> Inputs<'s, 'a, 'm> {
         )
     }
 
-    // Returns the text of the input of this name, as UTF-8 if its encoding was named.
+    // Returns the text of the input of this name. It is decoded if the encoding of the inputs is given; else the bytes are returned as they are.
     fn whole_text(&mut self, name: &'a str) -> Result<Vec<u8>, Trouble<'a>> {
         let bytes = self.blocks.read_whole(name)?;
         let Some(encoding) = self.encoding else {

@@ -1,4 +1,4 @@
-//! The jobs: each reads its inputs into a bag, and writes what is shown of it.
+//! The jobs of the program: each reads its inputs into a bag, and writes the text that shows the bag.
 use crate::bag::{Bag, BagRuns, empty};
 use crate::blocks::{BY_COMMAND, BY_OPTION, HostBlocks};
 use crate::inputs::Inputs;
@@ -9,6 +9,7 @@ use hashbag_ops::{keep_common, take_away};
 use hashbag_shell::output::Output;
 use hashbag_shell::progress::Progress;
 use hashbag_shell::status::{DENIED, DONE};
+use hashbag_shell::text::with_option;
 use hashbag_shell::trouble::{Trouble, plural};
 use hashbag_words_args::settings::{Ask, By, Pair, Settings, Tokens};
 use hashbag_words_lib::choice::Choice;
@@ -28,7 +29,7 @@ use std::mem;
 ///
 /// # Errors
 ///
-/// `Arguments` if it is no regular expression, or hasn't the group that is to be counted.
+/// `Arguments` if the pattern is no regular expression, or hasn't the group that is to be counted.
 pub fn pattern_of<'a>(alloc: Global, ask: Ask<'_, '_>) -> Result<Option<Regex>, Trouble<'a>> {
     let Ask::Count(tokens, _) = ask else {
         return Ok(None);
@@ -54,7 +55,7 @@ pub fn pattern_of<'a>(alloc: Global, ask: Ask<'_, '_>) -> Result<Option<Regex>, 
     Ok(Some(pattern))
 }
 
-// Returns what is counted of a line. If that is by a pattern, it is this one.
+// Returns what of a line is counted. `pattern` is the compiled pattern, if the arguments name one.
 fn pieces_of<'r>(by: By<'_>, pattern: Option<&'r Regex>) -> Pieces<'r> {
     match (by, pattern) {
         (By::Pattern(_, group), Some(pattern)) => match group.checked_sub(1) {
@@ -68,7 +69,7 @@ fn pieces_of<'r>(by: By<'_>, pattern: Option<&'r Regex>) -> Pieces<'r> {
     }
 }
 
-// Counts the tokens of the inputs, and returns what is shown of them.
+// Counts the tokens of the inputs, and returns the text that shows the tokens.
 fn count<'a, 'b>(
     inputs: &mut Inputs<'_, 'a, '_>,
     tokens: Tokens<'a>,
@@ -86,7 +87,7 @@ fn count<'a, 'b>(
     inputs.show_tokens(rule, bag)
 }
 
-// Reads the two inputs of a job on a pair: the first into the bag, and the second into a new bag, which is only looked up afterwards.
+// Reads the two inputs of a job on a pair: the first into the bag, and the second into a new bag.
 fn take_pair<'a>(
     inputs: &mut Inputs<'_, 'a, '_>,
     pair: Pair<'a>,
@@ -95,6 +96,8 @@ fn take_pair<'a>(
     let mut other = empty(inputs.rt)?;
     inputs.add_all(pair.rows, bag, &[pair.first])?;
     inputs.add_all(pair.rows, &mut other, &[pair.second])?;
+
+    // From here on tokens are only looked up in it. With all slots carried, a look-up reads one table.
     other.finish_carry();
     Ok(other)
 }
@@ -107,7 +110,7 @@ fn is_lossy(ask: Ask<'_, '_>) -> bool {
     }
 }
 
-// Returns what reads inputs in an encoding that isn't UTF-8.
+// Returns the option or the command that messages name as the cure for an input that isn't UTF-8.
 fn cure_of(ask: Ask<'_, '_>) -> &'static str {
     match ask {
         Ask::Count(..) => BY_OPTION,
@@ -115,7 +118,7 @@ fn cure_of(ask: Ask<'_, '_>) -> &'static str {
     }
 }
 
-// Merges the inputs, whose lines have this form and whose tokens are in ascending order, line by line. Returns what is shown of them.
+// Merges the inputs, whose lines have this form and whose tokens are in ascending order, line by line. Returns the text that shows the sums.
 fn merge_sorted<'a>(
     inputs: &mut Inputs<'_, 'a, '_>,
     form: RowForm,
@@ -128,7 +131,7 @@ fn merge_sorted<'a>(
     Ok(Made::OfRuns(shown))
 }
 
-// Does a job on the inputs, with an empty bag. Returns what is shown of it.
+// Does a job on the inputs, with an empty bag. Returns the text that the job writes.
 fn made_of<'a, 'b>(
     inputs: &mut Inputs<'_, 'a, '_>,
     folder: &'a str,
@@ -151,7 +154,7 @@ fn made_of<'a, 'b>(
     inputs.show(bag)
 }
 
-// Does a job on the inputs of these names, with an empty bag. Returns what is shown of it.
+// Does a job on the inputs of these names, with an empty bag. Returns the text that the job writes.
 fn read<'a, 'b>(
     rt: &HostRuntime,
     settings: &Settings<'a, '_>,
@@ -187,10 +190,10 @@ fn read<'a, 'b>(
     };
     let made = made_of(&mut inputs, folder, bag);
     inputs.blocks.end_report();
-    made
+    made.map_err(|trouble| with_option(rt.alloc(), trouble, cure_of(settings.ask)))
 }
 
-// Reads the inputs into an empty bag, and writes what they count. Returns whether it shows nothing.
+// Does a job on the inputs of these names, with an empty bag, and writes the job's text. Returns whether the text shows no row.
 fn read_and_write<'a>(
     rt: &HostRuntime,
     settings: &Settings<'a, '_>,
@@ -209,7 +212,7 @@ fn read_and_write<'a>(
     }
 }
 
-// Returns the lines of a file.
+// Returns the bag of the lines of a file.
 fn lines_of<'a>(
     inputs: &mut Inputs<'_, 'a, '_>,
     name: &'a str,
@@ -254,10 +257,13 @@ fn excepted<'s, 'a>(
         gauge: None,
         runs: None,
     };
-    Ok(Some(lines_of(&mut inputs, name, settings.ask.folds())?))
+    match lines_of(&mut inputs, name, settings.ask.folds()) {
+        Ok(lines) => Ok(Some(lines)),
+        Err(trouble) => Err(with_option(rt.alloc(), trouble, BY_COMMAND)),
+    }
 }
 
-/// Does the job and returns the exit status. `pattern` is that of [`pattern_of`]. Temporary files are in this folder.
+/// Does the job and returns the exit status. `pattern` is what [`pattern_of`] returned. Temporary files are in `folder`.
 ///
 /// # Errors
 ///

@@ -22,7 +22,7 @@ use std::alloc::{AllocError, Global};
 use std::process::ExitCode;
 use unicode_segmentation::UNICODE_VERSION;
 
-// Returns the words, with `count` behind the name of the program if they name no job: so `hashbag_words FILE` counts.
+// Returns the words. If they name no job, `count` is inserted after the name of the program: so `hashbag_words FILE` counts.
 fn with_job(alloc: Global, given: Vec<String>) -> Result<Vec<String>, AllocError> {
     let mut words = given;
     let first = words.get(1).map_or("", |word| word.as_str());

@@ -15,7 +15,7 @@ use std::{env, fs, io};
 ///
 /// # Errors
 ///
-/// Why the file can't be read: it isn't UTF-8, say, or has a NUL byte, unless names end in one (`null`). `Memory` if an allocation fails.
+/// Why the file can't be read, for example that it isn't UTF-8; that it has a NUL byte, if `null` is false. `Memory` if an allocation fails.
 pub fn read_list<'a>(rt: &HostRuntime, name: &'a str, null: bool) -> Result<String, Trouble<'a>> {
     let (name, read) = match name {
         "-" => ("standard input", io::read_to_string(rt.alloc(), rt.stdin())),
@@ -31,8 +31,7 @@ pub fn read_list<'a>(rt: &HostRuntime, name: &'a str, null: bool) -> Result<Stri
     Ok(list)
 }
 
-/// If the trouble is that an input isn't there, and its name is near that of a job, returns it with that job as a hint. Else returns it
-/// unchanged.
+/// Returns the trouble. If an input doesn't exist, and its name is near the name of a job, the message also names the job.
 pub fn with_near_job<'a>(alloc: Global, trouble: Trouble<'a>) -> Trouble<'a> {
     let Trouble::File { file, error } = trouble else {
         return trouble;
@@ -96,7 +95,7 @@ pub fn inputs_of<'a>(
     Ok(names)
 }
 
-/// Returns the default folder of temporary files. The caller prefers the one of `--tmp`.
+/// Returns the default folder of temporary files. If `--tmp` names a folder, the caller uses that one.
 ///
 /// # Errors
 ///
@@ -136,7 +135,7 @@ fn check_except<'a>(
     Ok(())
 }
 
-// Checks that no input is a folder. Of a recursive job the inputs are files already.
+// Checks that no input is a folder. The inputs of a recursive job are files already.
 fn check_folders<'a>(
     rt: &HostRuntime,
     settings: &Settings<'a, '_>,
@@ -158,12 +157,12 @@ fn check_folders<'a>(
     Ok(())
 }
 
-/// Checks that standard input is read at most once, that the output isn't one of the inputs, that no input is a folder, and that the file of tokens
-/// that aren't shown is none of them.
+/// Checks that standard input is read at most once, that the output isn't one of the inputs, that no input is a folder, and that the file of
+/// `--except` is neither the output nor an input.
 ///
 /// # Errors
 ///
-/// Which of these isn't so. `Memory` if an allocation fails.
+/// One of these checks fails; the message says which one. `Memory` if an allocation fails.
 pub fn check<'a>(
     rt: &HostRuntime,
     settings: &Settings<'a, '_>,

@@ -1,4 +1,4 @@
-//! What is written.
+//! Writes the text of a job.
 use hashbag_shell::output::Output;
 use hashbag_shell::trouble::Trouble;
 use hashbag_words_args::settings::Settings;
@@ -8,10 +8,10 @@ use hashbag_words_lib::shown_text::{Look, Shown};
 use std::env;
 use std::fs::File;
 
-/// What is written of a job. Merged runs are in a temporary file.
+/// The text that a job writes. The text of merged runs is in a temporary file.
 pub type Rendered<'b> = Made<'b, File>;
 
-// Whether it shows nothing.
+// Returns whether the text shows no row.
 fn is_empty(made: &Rendered<'_>) -> bool {
     match made {
         Made::OfBag(Shown::Rows(text)) => text.is_empty(),
@@ -21,7 +21,7 @@ fn is_empty(made: &Rendered<'_>) -> bool {
     }
 }
 
-/// Writes all that was made. Returns whether it shows nothing.
+/// Writes the text of a job. Returns whether the text shows no row.
 ///
 /// # Errors
 ///
@@ -41,7 +41,7 @@ pub fn write<'a>(
     Ok(is_empty)
 }
 
-// How many columns a terminal has that doesn't say it.
+// How many columns a terminal has if `COLUMNS` doesn't say it.
 const COLUMNS: usize = 80;
 
 // Returns how many columns the terminal has.

@@ -1,7 +1,7 @@
 //! The texts that are merged: files of counts, and runs in temporary files. Each has a number.
 ghost use Rattle.std.specs.Prelude.{◌≡◌, ℕ, ◌≤◌, [], length, IfOk};
 ghost use Rattle.hashbag_words_lib.specs.MergingRuns.{AreUnread, HasRuns};
-ghost use Rattle.hashbag_words_lib.specs.Reads.{bytes_of};
+ghost use Rattle.hashbag_words_lib.specs.Reads.{bytes_of_text};
 
 use crate::input::Input;
 use hashbag_shell::input::shown_name;
@@ -31,7 +31,7 @@ pub struct NumberedFiles<'s, 'a> {
     names: &'s [&'a str],
     // The file of each number while it is open.
     files: Vec<Option<Input>>,
-    // What was read of each.
+    // What was read of each text, for contracts alone.
     reads: Reads,
 }
 
@@ -73,7 +73,7 @@ fn files_of<'s, 'a>(
     folder: &'a str,
     names: &'s [&'a str],
 ) -> Result<NumberedFiles<'s, 'a>, AllocError>
-    ensures { IfOk result (λ files. (n : ℕ) → bytes_of files.reads n ≡ []) }
+    ensures { IfOk result (λ files. (n : ℕ) → bytes_of_text files.reads n ≡ []) }
 {
     let mut files = Vec::new(rt.alloc());
     for _name in names {
@@ -88,7 +88,7 @@ fn files_of<'s, 'a>(
     })
 }
 
-/// Returns the files of counts of these names, and no run. Temporary files are in that folder.
+/// Returns the merging of the files of counts of these names, with no run so far. Temporary files are in `folder`.
 ///
 /// # Errors
 ///
@@ -100,13 +100,13 @@ pub fn runs_of<'s, 'a>(
     kind: SourceKind,
 ) -> Result<Runs<'s, 'a>, Trouble<'a>>
     // Nothing was read of them.
-    ensures { IfOk result (AreUnread (λ files. bytes_of files.reads)) }
+    ensures { IfOk result (AreUnread (λ files. bytes_of_text files.reads)) }
 {
     let files = files_of(rt, folder, names)?;
     Ok(MergingRuns::new(rt.alloc(), files, kind, names.len())?)
 }
 
-/// Returns what keeps runs of a bag, into which the inputs of these names are counted. Temporary files are in that folder.
+/// Returns the keeper of the runs of a bag, with no run so far. The inputs of these names are counted into the bag. Temporary files are in `folder`.
 ///
 /// # Errors
 ///
@@ -117,7 +117,7 @@ pub fn no_runs<'s, 'a>(
     names: &'s [&'a str],
 ) -> Result<Runs<'s, 'a>, Trouble<'a>>
     // No run was kept.
-    ensures { IfOk result (λ runs. HasRuns (λ files. bytes_of files.reads) runs []) }
+    ensures { IfOk result (λ runs. HasRuns (λ files. bytes_of_text files.reads) runs []) }
 {
     // None of the inputs is merged.
     let files = files_of(rt, folder, &names[..0])?;
@@ -136,9 +136,9 @@ impl<'a> NumberedFiles<'_, 'a> {
 
 impl<'a> NumberedTexts<'a> for NumberedFiles<'_, 'a> {
     ghost use Rattle.std.specs.Prelude.{◌≡◌, true};
-    ghost use Rattle.hashbag_words_lib.specs.Reads.{bytes_of, is_read};
+    ghost use Rattle.hashbag_words_lib.specs.Reads.{bytes_of_text, is_read};
 
-    ghost bytes_read = { λ files number. bytes_of files.reads number };
+    ghost bytes_read = { λ files number. bytes_of_text files.reads number };
 
     ghost is_read = { λ files number. is_read files.reads number ≡ true };
 

@@ -7,13 +7,13 @@ const ABOUT: &str =
     "Counts words, lines, fields or matches of a pattern, and adds up files of counts";
 
 const AFTER: &str = "\
-Where no command is named it is `count`, so these count words, and show the ten most common, upper and lower case as one:
+Without a command, `count` is meant. So these count words, upper and lower case as one, and show the ten most common:
     hashbag_words --fold --top 10 text
     cat text | hashbag_words --fold --top 10
 `hashbag_words count --help` says what else may be counted, and how it is shown.
 
-The counts of an input are the sums of those of its parts, wherever it is split at line ends. So parts may be counted in parallel, here by
-GNU parallel:
+The counts of an input are the sums of the counts of its parts, wherever the input is split at line ends. So parts may be counted in
+parallel, here by GNU parallel:
     parallel --pipepart -a text --block 64M hashbag_words | hashbag_words merge
 
 Exit status: 0 done; 1 nothing is shown, with --fail-empty; 2 bad arguments or a bad line; 3 an allocation failed; 4 a file can't be
@@ -43,19 +43,19 @@ fn with_job<'a>(command: CommandResult<'a>, job: CommandResult<'a>) -> CommandRe
     command?.subcommand(job?)
 }
 
-// Adds how inputs are read. Every job has these options.
+// Adds the options that say how inputs are read. Every job has these options.
 fn with_input<'a>(alloc: Global, command: CommandResult<'a>) -> CommandResult<'a> {
     let skip_bad = arg!(in alloc; --"skip-bad" "Skip bad lines, and say how many there were");
     let command = with(with_heading(command, INPUTS), Ok(skip_bad));
-    with_progress(alloc, command, "Report no progress, on a terminal either")
+    with_progress(alloc, command, "Report no progress, not even on a terminal")
 }
 
-// Adds which counts are shown, and in which order.
+// Adds the options that say which counts are shown, and in which order.
 fn with_choice<'a>(alloc: Global, command: CommandResult<'a>) -> CommandResult<'a> {
     let top = arg!(in alloc; -n --top <K> "Show only the K most common, the most common first")
         .value_parser(value_parser!(usize))
         .conflicts_with("unsorted");
-    let unsorted = arg!(in alloc; --unsorted "Show them in no order, which is faster");
+    let unsorted = arg!(in alloc; --unsorted "Show counts in no particular order, which is faster");
     let least =
         arg!(in alloc; --least <N> "Show only what occurs N times or more often").value_parser(
             value_parser!(usize),
@@ -71,15 +71,15 @@ fn with_choice<'a>(alloc: Global, command: CommandResult<'a>) -> CommandResult<'
     with(command, Ok(except))
 }
 
-// Adds how counts are written, and to which file.
+// Adds the options that say how counts are written, and to which file.
 fn with_form<'a>(alloc: Global, command: CommandResult<'a>) -> CommandResult<'a> {
-    let to = arg!(in alloc; --to <FORM> "How they are written")
+    let to = arg!(in alloc; --to <FORM> "How counts are written")
         .value_parser(["tsv", "json", "uniq"].as_slice())
         .default_value("tsv");
     let output =
-        arg!(in alloc; -o --output <FILE> "Write there, all or nothing, not to standard output");
+        arg!(in alloc; -o --output <FILE> "Write to this file, all or nothing, and not to standard output");
     let share =
-        arg!(in alloc; --share "Write behind each count what percent it is of all counts, shown or not");
+        arg!(in alloc; --share "Write after each count its percent of all counts, shown or not");
     let bars =
         arg!(in alloc; --bars "Show each count of --top as a bar, for people at a terminal of $COLUMNS columns, or 80")
             .requires_arg("top")?
@@ -90,18 +90,18 @@ fn with_form<'a>(alloc: Global, command: CommandResult<'a>) -> CommandResult<'a>
     with(with(command, bars), Ok(output))
 }
 
-// Adds which counts are shown, and how they are written. Every job has these options.
+// Adds the options that say which counts are shown, and how these are written. Every job has these options.
 fn with_output<'a>(alloc: Global, command: CommandResult<'a>) -> CommandResult<'a> {
     let shard =
         arg!(in alloc; --shard <"I/N"> "Show only the tokens of the I-th of N parts: each token is in one, by a fixed hash");
-    let fail_empty = arg!(in alloc; --"fail-empty" "End with status 1 where nothing is shown");
+    let fail_empty = arg!(in alloc; --"fail-empty" "End with status 1 if nothing is shown");
     let command = with(with_choice(alloc, command), Ok(shard));
     with(with_form(alloc, command), Ok(fail_empty))
 }
 
 // Returns the option for the form of the counts that are read. Every job that reads counts has it.
 fn form_read<'a>(alloc: Global) -> Arg<'a> {
-    arg!(in alloc; --from <FORM> "How they are written")
+    arg!(in alloc; --from <FORM> "How counts are written")
         .value_parser(["tsv", "json", "uniq"].as_slice())
         .default_value("tsv")
 }
@@ -118,11 +118,11 @@ fn with_memory<'a>(alloc: Global, command: CommandResult<'a>) -> CommandResult<'
 // Adds the file that has the names of the inputs. Every job that reads any number of files has this option.
 fn with_list<'a>(alloc: Global, command: CommandResult<'a>) -> CommandResult<'a> {
     let list =
-        arg!(in alloc; --"files-from" <FILE> "Read the names of the inputs there, one a line; `-`: from standard input");
+        arg!(in alloc; --"files-from" <FILE> "Read the names of the inputs from this file, one a line; `-`: from standard input");
     let null =
         arg!(in alloc; -'0' --null "Names in that file end in a NUL byte, as `find -print0` writes them");
     let recursive =
-        arg!(in alloc; -r --recursive "Read all files in folders that are named, or in the current one, but nothing hidden, and follow no links in them");
+        arg!(in alloc; -r --recursive "Read the files in the named folders (by default the current one), without hidden ones and links");
     let command = with_heading(command, INPUTS);
     let command = with(command, list.conflicts_with("files"));
     with(
@@ -134,7 +134,7 @@ fn with_list<'a>(alloc: Global, command: CommandResult<'a>) -> CommandResult<'a>
     )
 }
 
-// Adds the field that is counted, and the delimiter of fields.
+// Adds the options for the field or the column that is counted, and for the delimiter.
 fn with_fields<'a>(alloc: Global, command: CommandResult<'a>) -> CommandResult<'a> {
     let field =
         arg!(in alloc; -f --field <N> "Count the N-th field of each line, from 1: what is between spaces and tabs")
@@ -143,7 +143,7 @@ fn with_fields<'a>(alloc: Global, command: CommandResult<'a>) -> CommandResult<'
             .conflicts_with("by")?
             .conflicts_with("pattern")?;
     let delimiter =
-        arg!(in alloc; -d --delimiter <CHAR> "What is between fields instead, each time: an ASCII character, or `tab`; for --column `,`, `;` or `tab`")
+        arg!(in alloc; -d --delimiter <CHAR> "The character between fields, in place of blanks: an ASCII character or `tab`; each one ends a field; for --column `,`, `;` or `tab`")
             .conflicts_with("by")?
             .conflicts_with("pattern")?
             .requires_arg("fields");
@@ -151,7 +151,7 @@ fn with_fields<'a>(alloc: Global, command: CommandResult<'a>) -> CommandResult<'
     with(command, delimiter)
 }
 
-// Adds the column that is counted. With a column each input is read whole, and a bad record is always an error.
+// Adds the option for the column that is counted. With a column each input is read whole, and a bad record is always an error.
 fn with_column<'a>(alloc: Global, command: CommandResult<'a>) -> CommandResult<'a> {
     let column =
         arg!(in alloc; --column <NAME> "Count the fields of the column of this name of CSV with a header; each input is read whole into memory")
@@ -164,16 +164,17 @@ fn with_column<'a>(alloc: Global, command: CommandResult<'a>) -> CommandResult<'
     with(command, column)
 }
 
-// Adds what is counted.
+// Adds the options that say what is counted.
 fn with_tokens<'a>(alloc: Global, command: CommandResult<'a>) -> CommandResult<'a> {
     let by =
         arg!(in alloc; -b --by <WHAT> "What is counted: what is between white space, the words by the rules of Unicode, or whole lines")
             .value_parser(["words", "unicode", "lines"].as_slice())
             .default_value("words")
             .conflicts_with("pattern");
-    let pattern = arg!(in alloc; -e --pattern <REGEX> "Count what matches it, within a line");
+    let pattern =
+        arg!(in alloc; -e --pattern <REGEX> "Count the matches of this pattern, within a line");
     let group =
-        arg!(in alloc; --group <N> "Count what the N-th group of each match has instead, from 1, if it took part")
+        arg!(in alloc; --group <N> "Count the N-th group of each match, from 1, in place of the whole match")
             .value_parser(value_parser!(usize))
             .conflicts_with("by")?
             .conflicts_with("field")?
@@ -184,7 +185,7 @@ fn with_tokens<'a>(alloc: Global, command: CommandResult<'a>) -> CommandResult<'
 
 fn count<'a>(alloc: Global) -> CommandResult<'a> {
     let files =
-        arg!(in alloc; files: [FILE] ... "What is read: standard input where there is none, or for `-`");
+        arg!(in alloc; files: [FILE] ... "What is read; without a file, or for `-`, standard input");
     let fold =
         arg!(in alloc; -i --fold "Count upper and lower case as one; for --pattern, begin REGEX with `(?i)` too");
     let lossy =
@@ -203,9 +204,9 @@ fn count<'a>(alloc: Global) -> CommandResult<'a> {
 
 fn merge<'a>(alloc: Global) -> CommandResult<'a> {
     let files =
-        arg!(in alloc; files: [FILE] ... "Files of counts: standard input where there is none, or for `-`");
+        arg!(in alloc; files: [FILE] ... "Files of counts; without a file, or for `-`, standard input");
     let sorted =
-        arg!(in alloc; --sorted "The tokens of each file rise: merge the files line by line").conflicts_with(
+        arg!(in alloc; --sorted "The tokens of each file are in ascending order: merge the files line by line").conflicts_with(
             "memory",
         );
     let command = Command::new(alloc, "merge").about("Add up counts");

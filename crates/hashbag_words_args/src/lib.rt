@@ -1,4 +1,4 @@
-//! The arguments of `hashbag_words`: what may be given, its help, and what is asked for. Nothing is opened here.
+//! The arguments of `hashbag_words`: the options, their help, and the settings that they give. No file is opened here.
 #![tactic(auto)]
 
 pub mod command;

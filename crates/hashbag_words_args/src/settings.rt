@@ -285,7 +285,7 @@ fn format_of(given: &ArgMatches<'_>) -> Format {
     }
 }
 
-// Returns whether this option is given. It adds a column, which only `tsv` has.
+// Returns whether this option is given. The option adds a column to the output, and only the form `tsv` may have one.
 fn adds_column<'a>(alloc: Global, given: &ArgMatches<'a>, name: &str) -> Result<bool, Trouble<'a>> {
     match given.get_str("to") {
         Some(form) if form != "tsv" && given.get_flag(name) => {

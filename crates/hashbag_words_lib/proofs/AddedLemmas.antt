@@ -3,7 +3,7 @@ use Rattle.std.proofs.Common.{◌≡◌, ◌≢◌, ℕ, ◌+◌, ◌-◌, ◌^�
 use borrow.Author.Tests.{eqb-true, eqb-false}
 use Rattle.std.specs.Str.Lines.{lines, strip_carriage_return}
 use Rattle.std.proofs.lemmas.List.{append-nil, get_or-append_right}
-use Rattle.std.proofs.lemmas.List.Elements.{All-nil, All-append}
+use Rattle.std.proofs.lemmas.List.Elements.{All-append}
 use Rattle.std.proofs.lemmas.List.Sums.{sum_by-append, sum_by-cons, sum_by_push}
 use Rattle.hashbag.specs.Bag.{Bag}
 use Rattle.hashbag.specs.Occurrences.{count}
@@ -19,8 +19,7 @@ use Rattle.hashbag_words_lib.specs.declared.lines.BadLines.{BadLines}
 use Rattle.hashbag_words_lib.specs.declared.lines.BadLines.TheVariants.{Rejected, Skipped}
 use Rattle.hashbag_words_lib.specs.declared.lines.LinesRead.{LinesRead}
 use Rattle.hashbag_words_lib.specs.declared.rows.RowForm.{RowForm}
-use Rattle.hashbag_words_lib.proofs.CountedLemmas.{ended_lines, ended_with, ends_push, nil_first}
-use Rattle.hashbag_words_lib.proofs.LineLemmas.{lines-append}
+use Rattle.hashbag_words_lib.proofs.CountedLemmas.{line_ends, lines_more, lines_then, nil_first, none_kept, text_more, with_line}
 
 -- ---- lines that are read as rows
 
@@ -110,7 +109,7 @@ module _ {S : Type 0} where
     ended = [];
     cut = sym empty;
     ends = λ some. absurd (omega arith);
-    unended = subst NoLineFeed (sym empty) (All-nil (λ x. x ≢ 10));
+    unended = none_kept partial empty;
     rows = [];
     read = refl;
     counts = subst (HaveRows runs bag) (sym (append-nil before)) counts;
@@ -118,70 +117,51 @@ module _ {S : Type 0} where
   }
 
   -- a line has ended, and was read with what was kept of it
-  Added-line : (form : RowForm) (before : List (List ℕ × ℕ)) (runs : List (List (List ℕ × ℕ))) (old new : Bag (String Global) S) (partial rest line kept : List ℕ) (first after : LinesRead) (more : List (List ℕ × ℕ)) (text : List ℕ) → NoLineFeed rest
-      → line ≡ strip_carriage_return (partial ++ rest) → kept ≡ [] → IsReadAs form first.bad_lines (line_at first.line line) more → AddsRows old new more
-      → after.bad_lines ≡ first.bad_lines → after.line ≡ min (first.line + 1) (2 ^ 64 - 1)
-      → Added form before runs old partial first text → Added form before runs new kept after (text ++ (rest ++ 10 ∷ []))
-  Added-line form before runs old new partial rest line kept first after more text none is empty one adds same next h =
-      let part = partial ++ rest in
-      let whole = h.ended ++ (part ++ 10 ∷ []) in
-      let both : lines whole ≡ lines h.ended ++ line ∷ [] =
-      ended_lines h.ended part h.ends (All-append (λ x. x ≢ 10) partial rest h.unended none) ∙ ap (λ (l : List ℕ). lines h.ended ++ l ∷ []) (sym is) in
-      let at : line_at first.line line ≡ line_at (length (lines h.ended)) line = at_number first.line (length (lines h.ended)) line h.line in
-      let so_far : first.line ≡ min (length (lines h.ended)) (2 ^ 64 - 1) = h.line in
-      let long : length (lines whole) ≡ length (lines h.ended) + 1 = ap length both ∙ length-append (lines h.ended) (line ∷ []) in
-      record {
-        ended = whole;
-        cut = ended_with text h.ended partial rest h.cut ∙ sym (append-nil whole) ∙ ap (λ (l : List ℕ). whole ++ l) (sym empty);
-        ends = subst EndsLine (append_assoc h.ended part (10 ∷ [])) (ends_push (h.ended ++ part));
-        unended = subst NoLineFeed (sym empty) (All-nil (λ x. x ≢ 10));
-        rows = h.rows ++ more;
-        read =
-            subst (λ (b : BadLines). AreReadAs form b (unmarked (lines whole)) (h.rows ++ more)) (sym same)
-            (subst (λ (l : List (List ℕ)). AreReadAs form first.bad_lines l (h.rows ++ more)) (sym (ap unmarked both ∙ unmarked_middle (lines h.ended) line []))
-            (read_push form first.bad_lines (unmarked (lines h.ended)) (line_at (length (lines h.ended)) line) h.rows more h.read
-            (subst (λ (l : List ℕ). IsReadAs form first.bad_lines l more) at one)));
-        counts = have_more runs old new before h.rows more h.counts adds;
-        line = omega (arith, next, so_far, long);
-      }
+  module _ (form : RowForm) (old new : Bag (String Global) S) (partial rest line kept : List ℕ) (first after : LinesRead) (none : NoLineFeed rest) (is : line ≡ strip_carriage_return (partial ++ rest)) (empty : kept ≡ [])
+      (same : after.bad_lines ≡ first.bad_lines) (next : after.line ≡ min (first.line + 1) (2 ^ 64 - 1)) where
+    Added-line : (before : List (List ℕ × ℕ)) (runs : List (List (List ℕ × ℕ))) (more : List (List ℕ × ℕ)) (text : List ℕ) → IsReadAs form first.bad_lines (line_at first.line line) more → AddsRows old new more
+        → Added form before runs old partial first text → Added form before runs new kept after (text ++ (rest ++ 10 ∷ []))
+    Added-line before runs more text one adds h =
+        let whole = with_line h.ended partial rest in
+        let both : lines whole ≡ lines h.ended ++ line ∷ [] = lines_more h.ended partial rest line h.ends h.unended none is in
+        let so_far : first.line ≡ min (length (lines h.ended)) (2 ^ 64 - 1) = h.line in
+        let long : length (lines whole) ≡ length (lines h.ended) + 1 = ap length both ∙ length-append (lines h.ended) (line ∷ []) in
+        record {
+          ended = whole;
+          cut = text_more h.ended partial rest line h.ends h.unended none is text h.cut kept empty;
+          ends = line_ends h.ended partial rest line h.ends h.unended none is;
+          unended = none_kept kept empty;
+          rows = h.rows ++ more;
+          read =
+              subst (λ (b : BadLines). AreReadAs form b (unmarked (lines whole)) (h.rows ++ more)) (sym same)
+              (subst (λ (l : List (List ℕ)). AreReadAs form first.bad_lines l (h.rows ++ more)) (sym (ap unmarked both ∙ unmarked_middle (lines h.ended) line []))
+              (read_push form first.bad_lines (unmarked (lines h.ended)) (line_at (length (lines h.ended)) line) h.rows more h.read
+              (subst (λ (l : List ℕ). IsReadAs form first.bad_lines l more) (at_number first.line (length (lines h.ended)) line h.line) one)));
+          counts = have_more runs old new before h.rows more h.counts adds;
+          line = omega (arith, next, so_far, long);
+        }
 
-  -- the same, where that may have been an error
-  pub Added-line-ok : {X E : Type 0} (r : Result X E) (form : RowForm) (old new : Bag (String Global) S) (partial rest line kept : List ℕ) (first after : LinesRead) → NoLineFeed rest
-      → line ≡ strip_carriage_return (partial ++ rest) → kept ≡ []
-      → OnOk r ((rows : List (List ℕ × ℕ)) × IsReadAs form first.bad_lines (line_at first.line line) rows × AddsRows old new rows)
-      → after.bad_lines ≡ first.bad_lines → after.line ≡ min (first.line + 1) (2 ^ 64 - 1)
-      → OnOk r ((before : List (List ℕ × ℕ)) (runs : List (List (List ℕ × ℕ))) (text : List ℕ) → Added form before runs old partial first text → Added form before runs new kept after (text ++ (rest ++ 10 ∷ [])))
-  Added-line-ok (Ok x) form old new partial rest line kept first after none is empty one same next =
-      λ before runs text h. Added-line form before runs old new partial rest line kept first after one.0 text none is empty one.1 one.2 same next h
-  Added-line-ok (Err e) form old new partial rest line kept first after none is empty one same next = tt
+    -- the same, where that may have been an error
+    pub Added-line-ok : {X E : Type 0} (r : Result X E) → OnOk r ((rows : List (List ℕ × ℕ)) × IsReadAs form first.bad_lines (line_at first.line line) rows × AddsRows old new rows)
+        → OnOk r ((before : List (List ℕ × ℕ)) (runs : List (List (List ℕ × ℕ))) (text : List ℕ) → Added form before runs old partial first text → Added form before runs new kept after (text ++ (rest ++ 10 ∷ [])))
+    Added-line-ok (Ok x) one = λ before runs text h. Added-line before runs one.0 text one.1 one.2 h
+    Added-line-ok (Err e) one = tt
 
   -- the line that ended is no row, and bad lines are rejected
   pub Added-bad : (form : RowForm) (before : List (List ℕ × ℕ)) (runs : List (List (List ℕ × ℕ))) (bag : Bag (String Global) S) (partial rest line : List ℕ) (first after : LinesRead) (text more : List ℕ) → NoLineFeed rest
       → line ≡ strip_carriage_return (partial ++ rest) → (first.bad_lines ≡ Rejected) × IsNoRow form (line_at first.line line) → after.bad_lines ≡ first.bad_lines → after.line ≡ min (first.line + 1) (2 ^ 64 - 1)
       → Added form before runs bag partial first text → IsFirstNoRow form ((text ++ (rest ++ 10 ∷ [])) ++ more) after
-  Added-bad form before runs bag partial rest line first after text more none is bad same next h =
-      let part = partial ++ rest in
-      let whole = h.ended ++ (part ++ 10 ∷ []) in
-      let both : lines whole ≡ lines h.ended ++ line ∷ [] =
-      ended_lines h.ended part h.ends (All-append (λ x. x ≢ 10) partial rest h.unended none) ∙ ap (λ (l : List ℕ). lines h.ended ++ l ∷ []) (sym is) in
-      let ends : EndsLine whole = subst EndsLine (append_assoc h.ended part (10 ∷ [])) (ends_push (h.ended ++ part)) in
-      let at : line_at first.line line ≡ line_at (length (lines h.ended)) line = at_number first.line (length (lines h.ended)) line h.line in
-      let so_far : first.line ≡ min (length (lines h.ended)) (2 ^ 64 - 1) = h.line in
-      let long = long_unmarked (lines h.ended) in
-      record {
-        front = unmarked (lines h.ended);
-        bad = line_at (length (lines h.ended)) line;
-        rest = lines more;
-        rows = h.rows;
-        cut =
-            ap (λ (l : List ℕ). unmarked (lines (l ++ more))) (ended_with text h.ended partial rest h.cut)
-            ∙ ap unmarked (lines-append whole more ends ∙ ap (λ (l : List (List ℕ)). l ++ lines more) both ∙ append_assoc (lines h.ended) (line ∷ []) (lines more))
-            ∙ unmarked_middle (lines h.ended) line (lines more);
-        read = subst (λ (b : BadLines). AreReadAs form b (unmarked (lines h.ended)) h.rows) bad.0 h.read;
-        is = subst (IsNoRow form) at bad.1;
-        line = omega (arith, next, so_far, long);
-        refused = same ∙ bad.0;
-      }
+  Added-bad form before runs bag partial rest line first after text more none is bad same next h = record {
+    front = unmarked (lines h.ended);
+    bad = line_at (length (lines h.ended)) line;
+    rest = lines more;
+    rows = h.rows;
+    cut = ap unmarked (lines_then h.ended partial rest line h.ends h.unended none is text h.cut more) ∙ unmarked_middle (lines h.ended) line (lines more);
+    read = subst (λ (b : BadLines). AreReadAs form b (unmarked (lines h.ended)) h.rows) bad.0 h.read;
+    is = subst (IsNoRow form) (at_number first.line (length (lines h.ended)) line h.line) bad.1;
+    line = omega (arith, next, h.line, long_unmarked (lines h.ended));
+    refused = same ∙ bad.0;
+  }
 
   -- bytes were kept
   pub Added-rest : (form : RowForm) (before : List (List ℕ × ℕ)) (runs : List (List (List ℕ × ℕ))) (bag : Bag (String Global) S) (partial rest : List ℕ) (reading : LinesRead) (text : List ℕ) → NoLineFeed rest

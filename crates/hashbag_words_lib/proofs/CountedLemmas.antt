@@ -1,9 +1,9 @@
 -- What a line that ends, bytes that are kept, and the end of a text do to what is counted.
-use Rattle.std.proofs.Common.{◌≡◌, ◌≢◌, ℕ, ◌+◌, ◌-◌, ◌^◌, ◌<◌, ◌≤◌, Bool, true, false, filter, map, cond, eqb, List, [], ◌∷◌, ◌++◌, length, take, drop, min, get_or, String, string_bytes, bytes_eq, sum_by, Option, None, Some, Result, Ok, Err, OnOk, IfErr, IsErrAnd, Global, refl, sym, ◌∙◌, ap, subst, arith, ne_eqb, eq-eqb, length-append, append_assoc}
-use borrow.Author.Tests.{eqb-true}
+use Rattle.std.proofs.Common.{◌≡◌, ◌≢◌, ℕ, ◌+◌, ◌-◌, ◌^◌, ◌<◌, Bool, true, false, filter, map, cond, eqb, List, [], ◌∷◌, ◌++◌, length, take, drop, min, get_or, String, string_bytes, bytes_eq, sum_by, Option, None, Some, Result, Ok, Err, OnOk, IfErr, IsErrAnd, Global, refl, sym, ◌∙◌, ap, subst, arith, ne_eqb, eq-eqb, length-append, append_assoc}
+use borrow.Author.Tests.{eqb-true, eqb-false}
 use Rattle.std.specs.Cmp.Lexicographic.{nat_list_eq_equiv}
 use Rattle.std.specs.Str.Lines.{lines, lines_of_parts, strip_carriage_return}
-use Rattle.std.proofs.lemmas.List.{append-nil, get_or_at, get_or_default, get_or-take, drop_more, take_at, take-append-drop, length-take-le}
+use Rattle.std.proofs.lemmas.List.{append-nil, get_or_at, get_or_default, get_or-take, drop_more, take-append-drop, length-take-le}
 use Rattle.std.proofs.lemmas.List.Elements.{All-nil, All-cons, All-append, filter-append}
 use Rattle.std.proofs.lemmas.List.Splits.{slice_split_none}
 use Rattle.std.proofs.lemmas.List.Sums.{sum_by_push}
@@ -36,6 +36,9 @@ last_lines ended part ends none some =
     ∙ ap (λ (l : List (List ℕ)). lines ended ++ l)
     (ap lines_of_parts (slice_split_none (λ b. eqb b 10) part (λ k d l. ne_eqb (get_or part k d) 10 (none k d l)))
     ∙ ap (λ (b : Bool). cond b [] (part ∷ [])) (ne_eqb (length part) 0 (λ z. omega arith)))
+
+last_more : (ended partial line : List ℕ) → EndsLine ended → NoLineFeed partial → 0 < length partial → line ≡ partial → (text : List ℕ) → text ≡ ended ++ partial → lines text ≡ lines ended ++ line ∷ []
+last_more ended partial line ends none some is text cut = ap lines cut ∙ last_lines ended partial ends none some ∙ ap (λ (l : List ℕ). lines ended ++ l ∷ []) (sym is)
 
 pub ends_push : (xs : List ℕ) → EndsLine (xs ++ 10 ∷ [])
 ends_push xs some = get_or_at xs 10 [] 0 (length (xs ++ 10 ∷ []) - 1) (omega (arith, length-append xs (10 ∷ [])))
@@ -78,52 +81,12 @@ pub some_of : {X : Type 0} (xs : List X) → (length xs ≡ 0 → ⊥) → 0 < l
 some_of [] ne = absurd (ne refl)
 some_of (x ∷ xs) ne = omega arith
 
--- ---- a block of which some bytes were fed
+-- what a test of the length shows
+pub none_in : {X : Type 0} (xs : List X) {n : ℕ} {b : Bool} → n ≡ length xs → b ≡ eqb n 0 → b ≡ true → xs ≡ []
+none_in xs long is holds = nil_of xs (sym long ∙ eqb-true _ 0 (sym is ∙ holds))
 
--- what was before holds of each text, and what is now of that text and the bytes of the block before the rest
-abbrev pub Eaten : (List ℕ → Type 0) → (List ℕ → Type 0) → List ℕ → List ℕ → Type 0
-Eaten Old New block rest = (eaten : List ℕ) × (block ≡ eaten ++ rest) × ((text : List ℕ) → Old text → New (text ++ eaten))
-
-pub Eaten-none : (P : List ℕ → Type 0) (block : List ℕ) → Eaten P P block block
-Eaten-none P block = ([], refl, λ text h. subst P (sym (append-nil text)) h)
-
-pub Eaten-more : (P Q R : List ℕ → Type 0) (block rest front left : List ℕ) → rest ≡ front ++ 10 ∷ left → ((text : List ℕ) → Q text → R (text ++ (front ++ 10 ∷ []))) → Eaten P Q block rest → Eaten P R block left
-Eaten-more P Q R block rest front left cut step h = (
-  h.0 ++ (front ++ 10 ∷ []),
-  h.1 ∙ ap (λ (l : List ℕ). h.0 ++ l) (cut ∙ sym (append_assoc front (10 ∷ []) left)) ∙ sym (append_assoc h.0 (front ++ 10 ∷ []) left),
-  λ text p. subst R (append_assoc text h.0 (front ++ 10 ∷ [])) (step (text ++ h.0) (h.2 text p)),
-)
-
-pub Eaten-all : (P Q R : List ℕ → Type 0) (block rest : List ℕ) → ((text : List ℕ) → Q text → R (text ++ rest)) → Eaten P Q block rest → (text : List ℕ) → P text → R (text ++ block)
-Eaten-all P Q R block rest step h text p =
-    subst R (append_assoc text h.0 rest ∙ ap (λ (l : List ℕ). text ++ l) (sym h.1)) (step (text ++ h.0) (h.2 text p))
-
-pub Eaten-bad : (P Q B : List ℕ → Type 0) (block rest front left : List ℕ) → rest ≡ front ++ 10 ∷ left → ((text : List ℕ) → Q text → (more : List ℕ) → B ((text ++ (front ++ 10 ∷ [])) ++ more)) → Eaten P Q block rest → (text : List ℕ) → P text → B (text ++ block)
-Eaten-bad P Q B block rest front left cut bad h text p =
-    subst B
-    (append_assoc (text ++ h.0) (front ++ 10 ∷ []) left
-    ∙ ap (λ (l : List ℕ). (text ++ h.0) ++ l) (append_assoc front (10 ∷ []) left ∙ sym cut)
-    ∙ append_assoc text h.0 rest
-    ∙ ap (λ (l : List ℕ). text ++ l) (sym h.1))
-    (bad (text ++ h.0) (h.2 text p) left)
-
--- the block was fed as far as the rest
-pub Eaten-full : (P Q : List ℕ → Type 0) (block rest : List ℕ) (n : ℕ) → n ≡ length block - length rest → Eaten P Q block rest → (text : List ℕ) → P text → Q (text ++ take n block)
-Eaten-full P Q block rest n is h text p =
-    let whole : length block ≡ length h.0 + length rest = ap length h.1 ∙ length-append h.0 rest in
-    subst Q (ap (λ (l : List ℕ). text ++ l) (sym (ap (take n) h.1 ∙ take_at h.0 rest n (omega (arith, whole, is))))) (h.2 text p)
-
-pub Eaten-within : (P Q : List ℕ → Type 0) (block rest front left : List ℕ) → rest ≡ front ++ 10 ∷ left → Eaten P Q block rest → (0 < length block - length left) × (length block - length left ≤ length block)
-Eaten-within P Q block rest front left cut h =
-    let whole : length block ≡ length h.0 + length rest = ap length h.1 ∙ length-append h.0 rest in
-    let parts : length rest ≡ length front + length (10 ∷ left) = ap length cut ∙ length-append front (10 ∷ left) in
-    (omega (arith, whole, parts), omega arith)
-
-pub Eaten-below : (P Q : List ℕ → Type 0) (block rest front left : List ℕ) → rest ≡ front ++ 10 ∷ left → Eaten P Q block rest → length left ≤ length block
-Eaten-below P Q block rest front left cut h =
-    let whole : length block ≡ length h.0 + length rest = ap length h.1 ∙ length-append h.0 rest in
-    let parts : length rest ≡ length front + length (10 ∷ left) = ap length cut ∙ length-append front (10 ∷ left) in
-    omega (arith, whole, parts)
+pub some_in : {X : Type 0} (xs : List X) {n : ℕ} {b : Bool} → n ≡ length xs → b ≡ eqb n 0 → b ≡ false → 0 < length xs
+some_in xs long is fails = some_of xs (λ none. eqb-false _ 0 (sym is ∙ fails) (long ∙ none))
 
 -- ---- how a line was read
 
@@ -156,20 +119,22 @@ read_ok (Ok x) rule before after line passed kept skipped plain replaced bad_lin
 read_ok (Err e) rule before after line passed kept skipped plain replaced bad_lines number = tt
 
 -- how many lines pass a test, with one more line
+how_many-push : (test : List ℕ → Bool) (front : List (List ℕ)) (line : List ℕ) (b : Bool) → test line ≡ b → how_many test (front ++ line ∷ []) ≡ how_many test front + cond b 1 0
+how_many-push test front line b is =
+    ap length (filter-append test front (line ∷ [])) ∙ length-append (filter test front) (filter test (line ∷ [])) ∙ ap (λ (n : ℕ). how_many test front + n) (one b is)
+  where
+    one : (b : Bool) → test line ≡ b → how_many test (line ∷ []) ≡ cond b 1 0
+    one true is = ap (λ (t : Bool). length (cond t (line ∷ []) [])) is
+    one false is = ap (λ (t : Bool). length (cond t (line ∷ []) [])) is
+
 count_more : (test : List ℕ → Bool) (old new : ℕ) (front : List (List ℕ)) (line : List ℕ) (b : Bool) → test line ≡ b → (test line ≡ false → new ≡ old) → (test line ≡ true → new ≡ min (old + 1) (2 ^ 64 - 1))
     → old ≡ min (how_many test front) (2 ^ 64 - 1) → new ≡ min (how_many test (front ++ line ∷ [])) (2 ^ 64 - 1)
 count_more test old new front line true is same more so_far =
-    let both : how_many test (front ++ line ∷ []) ≡ how_many test front + how_many test (line ∷ []) =
-    ap length (filter-append test front (line ∷ [])) ∙ length-append (filter test front) (filter test (line ∷ [])) in
-    let one : how_many test (line ∷ []) ≡ 1 = ap (λ (b : Bool). length (cond b (line ∷ []) [])) is in
-    let next : new ≡ min (old + 1) (2 ^ 64 - 1) = more is in
-    omega (arith, both, one, next, so_far)
+    let many : how_many test (front ++ line ∷ []) ≡ how_many test front + 1 = how_many-push test front line true is in
+    omega (arith, many, more is, so_far)
 count_more test old new front line false is same more so_far =
-    let both : how_many test (front ++ line ∷ []) ≡ how_many test front + how_many test (line ∷ []) =
-    ap length (filter-append test front (line ∷ [])) ∙ length-append (filter test front) (filter test (line ∷ [])) in
-    let none : how_many test (line ∷ []) ≡ 0 = ap (λ (b : Bool). length (cond b (line ∷ []) [])) is in
-    let next : new ≡ old = same is in
-    next ∙ so_far ∙ ap (λ (n : ℕ). min n (2 ^ 64 - 1)) (omega (arith, both, none))
+    let many : how_many test (front ++ line ∷ []) ≡ how_many test front + 0 = how_many-push test front line false is in
+    omega (arith, many, same is, so_far)
 
 -- one line more of a text was read
 lines_read : (rule : Rule) (ended whole line : List ℕ) (before after : LinesRead) → lines whole ≡ lines ended ++ line ∷ [] → Read rule before after line → IsReadingOf rule ended before → IsReadingOf rule whole after
@@ -201,6 +166,39 @@ nothing_read rule reading none = record {
 pub ended_with : (text ended partial rest : List ℕ) → text ≡ ended ++ partial → text ++ (rest ++ 10 ∷ []) ≡ ended ++ ((partial ++ rest) ++ 10 ∷ [])
 ended_with text ended partial rest cut =
     ap (λ (l : List ℕ). l ++ (rest ++ 10 ∷ [])) cut ∙ append_assoc ended partial (rest ++ 10 ∷ []) ∙ ap (λ (l : List ℕ). ended ++ l) (sym (append_assoc partial rest (10 ∷ [])))
+
+-- what was kept of a line, or was not, and the bytes up to its end
+pub line_alone : (partial rest line : List ℕ) → partial ≡ [] → line ≡ strip_carriage_return rest → line ≡ strip_carriage_return (partial ++ rest)
+line_alone partial rest line none is = is ∙ ap (λ (l : List ℕ). strip_carriage_return (l ++ rest)) (sym none)
+
+pub line_joined : (partial rest line : List ℕ) {joined kept : List ℕ} → joined ≡ kept → kept ≡ partial ++ rest → line ≡ strip_carriage_return joined → line ≡ strip_carriage_return (partial ++ rest)
+line_joined partial rest line all more is = is ∙ ap strip_carriage_return (all ∙ more)
+
+pub none_kept : (kept : List ℕ) → kept ≡ [] → NoLineFeed kept
+none_kept kept none = subst NoLineFeed (sym none) (All-nil (λ x. x ≢ 10))
+
+-- the lines that have ended, with one more
+abbrev pub with_line : List ℕ → List ℕ → List ℕ → List ℕ
+with_line ended partial rest = ended ++ ((partial ++ rest) ++ 10 ∷ [])
+
+module _ (ended partial rest line : List ℕ) (ends : EndsLine ended) (unended : NoLineFeed partial) (none : NoLineFeed rest) (is : line ≡ strip_carriage_return (partial ++ rest)) where
+  pub line_ends : EndsLine (with_line ended partial rest)
+  line_ends = subst EndsLine (append_assoc ended (partial ++ rest) (10 ∷ [])) (ends_push (ended ++ (partial ++ rest)))
+
+  pub lines_more : lines (with_line ended partial rest) ≡ lines ended ++ line ∷ []
+  lines_more = ended_lines ended (partial ++ rest) ends (All-append (λ x. x ≢ 10) partial rest unended none) ∙ ap (λ (l : List ℕ). lines ended ++ l ∷ []) (sym is)
+
+  -- the text that has them, and bytes behind it
+  module _ (text : List ℕ) (cut : text ≡ ended ++ partial) where
+    pub text_more : (kept : List ℕ) → kept ≡ [] → text ++ (rest ++ 10 ∷ []) ≡ with_line ended partial rest ++ kept
+    text_more kept empty = ended_with text ended partial rest cut ∙ sym (append-nil (with_line ended partial rest)) ∙ ap (λ (l : List ℕ). with_line ended partial rest ++ l) (sym empty)
+
+    pub lines_then : (more : List ℕ) → lines ((text ++ (rest ++ 10 ∷ [])) ++ more) ≡ lines ended ++ line ∷ lines more
+    lines_then more =
+        ap (λ (l : List ℕ). lines (l ++ more)) (ended_with text ended partial rest cut)
+        ∙ lines-append (with_line ended partial rest) more line_ends
+        ∙ ap (λ (l : List (List ℕ)). l ++ lines more) lines_more
+        ∙ append_assoc (lines ended) (line ∷ []) (lines more)
 
 module _ {S : Type 0} where
   -- ---- the bag and its runs
@@ -254,7 +252,7 @@ module _ {S : Type 0} where
         ended = [];
         cut = sym empty;
         ends = λ some. absurd (omega arith);
-        unended = subst NoLineFeed (sym empty) (All-nil (λ x. x ≢ 10));
+        unended = none_kept partial empty;
         counts = subst (HaveTogether runs bag) (sym (append-nil before)) counts;
         line = read.line;
         skipped = read.skipped;
@@ -267,16 +265,14 @@ module _ {S : Type 0} where
       → line ≡ strip_carriage_return (partial ++ rest) → kept ≡ [] → AddsTexts old new (tokens_of_lines rule (line ∷ [])) → Read rule first after line
       → Counted rule before runs old partial first text → Counted rule before runs new kept after (text ++ (rest ++ 10 ∷ []))
   Counted-line rule before runs old new partial rest line kept first after text none is empty adds read h =
-      let part = partial ++ rest in
-      let whole = h.ended ++ (part ++ 10 ∷ []) in
-      let both : lines whole ≡ lines h.ended ++ line ∷ [] =
-      ended_lines h.ended part h.ends (All-append (λ x. x ≢ 10) partial rest h.unended none) ∙ ap (λ (l : List ℕ). lines h.ended ++ l ∷ []) (sym is) in
+      let whole = with_line h.ended partial rest in
+      let both = lines_more h.ended partial rest line h.ends h.unended none is in
       let now : IsReadingOf rule whole after = lines_read rule h.ended whole line first after both read (so_read rule before runs old partial first text h) in
       record {
         ended = whole;
-        cut = ended_with text h.ended partial rest h.cut ∙ sym (append-nil whole) ∙ ap (λ (l : List ℕ). whole ++ l) (sym empty);
-        ends = subst EndsLine (append_assoc h.ended part (10 ∷ [])) (ends_push (h.ended ++ part));
-        unended = subst NoLineFeed (sym empty) (All-nil (λ x. x ≢ 10));
+        cut = text_more h.ended partial rest line h.ends h.unended none is text h.cut kept empty;
+        ends = line_ends h.ended partial rest line h.ends h.unended none is;
+        unended = none_kept kept empty;
         counts = tokens_more rule before runs old new h.ended whole line both adds h.counts;
         line = now.line;
         skipped = now.skipped;
@@ -296,40 +292,31 @@ module _ {S : Type 0} where
   pub Counted-bad : (rule : Rule) (before : List (List ℕ)) (runs : List (List (List ℕ × ℕ))) (bag : Bag (String Global) S) (partial rest line : List ℕ) (first after : LinesRead) (text more : List ℕ) → NoLineFeed rest
       → line ≡ strip_carriage_return (partial ++ rest) → (first.bad_lines ≡ Rejected) × (is_bad rule line ≡ true) → after.bad_lines ≡ first.bad_lines → after.line ≡ min (first.line + 1) (2 ^ 64 - 1)
       → Counted rule before runs bag partial first text → IsFirstBad rule ((text ++ (rest ++ 10 ∷ [])) ++ more) after
-  Counted-bad rule before runs bag partial rest line first after text more none is bad same next h =
-      let part = partial ++ rest in
-      let whole = h.ended ++ (part ++ 10 ∷ []) in
-      let both : lines whole ≡ lines h.ended ++ line ∷ [] =
-      ended_lines h.ended part h.ends (All-append (λ x. x ≢ 10) partial rest h.unended none) ∙ ap (λ (l : List ℕ). lines h.ended ++ l ∷ []) (sym is) in
-      let ends : EndsLine whole = subst EndsLine (append_assoc h.ended part (10 ∷ [])) (ends_push (h.ended ++ part)) in
-      let so_far : first.line ≡ min (length (lines h.ended)) (2 ^ 64 - 1) = h.line in
-      record {
-        front = lines h.ended;
-        bad = line;
-        rest = lines more;
-        cut = ap (λ (l : List ℕ). lines (l ++ more)) (ended_with text h.ended partial rest h.cut) ∙ lines-append whole more ends ∙ ap (λ (l : List (List ℕ)). l ++ lines more) both ∙ append_assoc (lines h.ended) (line ∷ []) (lines more);
-        good = h.passed bad.0;
-        is = bad.1;
-        line = omega (arith, next, so_far);
-        refused = same ∙ bad.0;
-      }
+  Counted-bad rule before runs bag partial rest line first after text more none is bad same next h = record {
+    front = lines h.ended;
+    bad = line;
+    rest = lines more;
+    cut = lines_then h.ended partial rest line h.ends h.unended none is text h.cut more;
+    good = h.passed bad.0;
+    is = bad.1;
+    line = omega (arith, next, h.line);
+    refused = same ∙ bad.0;
+  }
 
   -- the last line is bad, and is rejected
   pub Counted-bad-last : (rule : Rule) (before : List (List ℕ)) (runs : List (List (List ℕ × ℕ))) (bag : Bag (String Global) S) (partial line : List ℕ) (first after : LinesRead) (text : List ℕ) → 0 < length partial
       → line ≡ partial → (first.bad_lines ≡ Rejected) × (is_bad rule line ≡ true) → after.bad_lines ≡ first.bad_lines → after.line ≡ min (first.line + 1) (2 ^ 64 - 1)
       → Counted rule before runs bag partial first text → IsFirstBad rule text after
-  Counted-bad-last rule before runs bag partial line first after text some is bad same next h =
-      let so_far : first.line ≡ min (length (lines h.ended)) (2 ^ 64 - 1) = h.line in
-      record {
-        front = lines h.ended;
-        bad = line;
-        rest = [];
-        cut = ap lines h.cut ∙ last_lines h.ended partial h.ends h.unended some ∙ ap (λ (l : List ℕ). lines h.ended ++ l ∷ []) (sym is);
-        good = h.passed bad.0;
-        is = bad.1;
-        line = omega (arith, next, so_far);
-        refused = same ∙ bad.0;
-      }
+  Counted-bad-last rule before runs bag partial line first after text some is bad same next h = record {
+    front = lines h.ended;
+    bad = line;
+    rest = [];
+    cut = last_more h.ended partial line h.ends h.unended some is text h.cut;
+    good = h.passed bad.0;
+    is = bad.1;
+    line = omega (arith, next, h.line);
+    refused = same ∙ bad.0;
+  }
 
   -- bytes were kept
   pub Counted-rest : (rule : Rule) (before : List (List ℕ)) (runs : List (List (List ℕ × ℕ))) (bag : Bag (String Global) S) (partial rest : List ℕ) (reading : LinesRead) (text : List ℕ) → NoLineFeed rest
@@ -380,12 +367,12 @@ module _ {S : Type 0} where
       → AddsTexts old new (tokens_of_lines rule (line ∷ [])) → Read rule first after line
       → Counted rule before runs old partial first text → HaveTogether runs new (before ++ tokens_of rule text) × IsReadingOf rule text after
   ended_last rule before runs old new partial line first after text some same adds read h =
-      let both : lines text ≡ lines h.ended ++ line ∷ [] = ap lines h.cut ∙ last_lines h.ended partial h.ends h.unended some ∙ ap (λ (l : List ℕ). lines h.ended ++ l ∷ []) (sym same) in (
+      let both = last_more h.ended partial line h.ends h.unended some same text h.cut in (
         tokens_more rule before runs old new h.ended text line both adds h.counts,
         lines_read rule h.ended text line first after both read (so_read rule before runs old partial first text h),
       )
 
-  -- the same, where that may have been an error
+  -- the same of a last line, where that may have been an error
   pub ended_last-ok : {X E : Type 0} (r : Result X E) (rule : Rule) (old new : Bag (String Global) S) (partial line : List ℕ) (first after : LinesRead) → 0 < length partial → line ≡ partial
       → OnOk r (AddsTexts old new (tokens_of_lines rule (line ∷ []))) → OnOk r (Read rule first after line)
       → OnOk r ((before : List (List ℕ)) (runs : List (List (List ℕ × ℕ))) (text : List ℕ) → Counted rule before runs old partial first text → HaveTogether runs new (before ++ tokens_of rule text) × IsReadingOf rule text after)

@@ -38,15 +38,16 @@ lead_from (suc n) c a (byte ∷ text) =
     let spread : (c + a) * 256 + byte ≡ c * 256 + (a * 256 + byte) = omega arith in
     ap (λ m. lead m n text) spread ∙ lead_from n (c * 256) (a * 256 + byte) text ∙ ap (λ m. m + lead (a * 256 + byte) n text) (scaled c (bound n))
 
+eight_more : (d : ℕ) → suc d + 8 ≡ suc (d + 8)
+eight_more d = omega arith
+
 -- eight more bytes go behind the number of those before
 lead_cut : (d number : ℕ) (text : List ℕ) → lead number (d + 8) text ≡ lead (lead number d text) 8 (drop d text)
 lead_cut zero number text = ap (lead number 8) (sym (drop_none text))
 lead_cut (suc d) number [] =
-    let more : suc d + 8 ≡ suc (d + 8) = omega arith in
-    ap (λ m. lead number m []) more ∙ lead_cut d (number * 256) [] ∙ ap (lead (lead (number * 256) d []) 8) (drop_past d)
+    ap (λ m. lead number m []) (eight_more d) ∙ lead_cut d (number * 256) [] ∙ ap (lead (lead (number * 256) d []) 8) (drop_past d)
 lead_cut (suc d) number (byte ∷ text) =
-    let more : suc d + 8 ≡ suc (d + 8) = omega arith in
-    ap (λ m. lead number m (byte ∷ text)) more ∙ lead_cut d (number * 256 + byte) text
+    ap (λ m. lead number m (byte ∷ text)) (eight_more d) ∙ lead_cut d (number * 256 + byte) text
 
 -- the number of some bytes and eight more
 lead_word : (from number : ℕ) (text : List ℕ) → lead 0 from text ≡ number → lead 0 (from + 8) text ≡ number * bound 8 + lead 0 8 (drop from text)
@@ -92,10 +93,13 @@ falls from number x y has_x has_y at_x at_y up = by (nat_cmp x.0 y.0) (ranks x.0
         let t = string_bytes y.1.0.now in
         later y.1 x.1 (lesser_word from number t s has_x.bytes at_y at_x (subst (λ k. k < lead 0 8 (drop from s)) has_y.value (subst (λ k. y.0 < k) has_x.value h)))
 
+bare_low : (rows : List Numbered) (k : ℕ) → k + 1 < length (map bare_row rows) → k + 1 < length rows
+bare_low rows k high = subst (λ n. k + 1 < n) (length-map rows bare_row) high
+
 -- rows that agree before a place, and that a sort by the next eight bytes and by whole tokens left, are sorted
 pub sorted_by_row : (from number : ℕ) (rows : List Numbered) → All (HasWord from) rows → All (Starts from number) rows → IsSorted numbered_cmp rows → IsSorted row_cmp (map bare_row rows)
 sorted_by_row from number rows has starts up k d low high =
-    let inside : k + 1 < length rows = subst (λ n. k + 1 < n) (length-map rows bare_row) high in
+    let inside : k + 1 < length rows = bare_low rows k high in
     let e : Numbered = (0, d) in
     let before : k < length rows = omega arith in
     let here = get_or-map bare_row rows k e in
@@ -150,8 +154,7 @@ joined lt xs ys up_xs up_ys apart k d low high = by (nat_cmp (k + 1) (length xs)
 
     by : (r : Ordering) → MatchOrdering r (k + 1 < length xs) (k + 1 ≡ length xs) (length xs < k + 1) → lt (get_or (xs ++ ys) (k + 1) d) (get_or (xs ++ ys) k d) ≡ false
     by Less h =
-        let inside : k < length xs = omega arith in
-        ap (λ x. lt x (get_or (xs ++ ys) k d)) (get_or_append_left xs ys d (k + 1) h) ∙ ap (λ y. lt (get_or xs (k + 1) d) y) (get_or_append_left xs ys d k inside) ∙ up_xs k d low h
+        ap (λ x. lt x (get_or (xs ++ ys) k d)) (get_or_append_left xs ys d (k + 1) h) ∙ ap (λ y. lt (get_or xs (k + 1) d) y) (get_or_append_left xs ys d k (omega arith)) ∙ up_xs k d low h
     by Equal h =
         let all = fits in
         let inside : k < length xs = omega arith in
@@ -213,9 +216,7 @@ parts_permuted rows low high after_low after_high is same_low same_high =
 
 -- fewer than two rows are sorted
 pub short_sorted : (rows : List Numbered) → length rows < 2 → IsSorted row_cmp (map bare_row rows)
-short_sorted rows few k d low high =
-    let inside : k + 1 < length rows = subst (λ n. k + 1 < n) (length-map rows bare_row) high in
-    absurd (omega arith)
+short_sorted rows few k d low high = absurd (omega (arith, bare_low rows k high))
 
 -- rows whose numbers are below a number are sorted first, and then the others
 pub cut_sorts : (from least cut : ℕ) (rows between after : List Numbered) → cut ≤ length rows → drop cut between ≡ drop cut rows → take cut after ≡ take cut between

@@ -85,15 +85,16 @@ cut_at_any set bs (Some x) text h = cut_by (char_set_contains set) bs x text (h.
 -- ---- the fields behind a cut, and those of a text that can't be cut
 
 module _ (s : Separator) (bs : List ℕ) where
-  pub behind_no_field : (part behind : List ℕ) (n : ℕ) → parts_of s bs ≡ part ∷ parts_of s behind → is_field s part ≡ false → slice_get (fields_of s bs) n ≡ slice_get (fields_of s behind) n
-  behind_no_field part behind n cut is =
+  cut_fields : (part behind : List ℕ) (n : ℕ) (b : Bool) → parts_of s bs ≡ part ∷ parts_of s behind → is_field s part ≡ b → slice_get (fields_of s bs) n ≡ slice_get (cond b (part ∷ fields_of s behind) (fields_of s behind)) n
+  cut_fields part behind n b cut is =
       ap (λ (l : List (List ℕ)). slice_get (filter (is_field s) l) n) cut
       ∙ ap (λ (b : Bool). slice_get (cond b (part ∷ fields_of s behind) (fields_of s behind)) n) is
 
+  pub behind_no_field : (part behind : List ℕ) (n : ℕ) → parts_of s bs ≡ part ∷ parts_of s behind → is_field s part ≡ false → slice_get (fields_of s bs) n ≡ slice_get (fields_of s behind) n
+  behind_no_field part behind n cut is = cut_fields part behind n false cut is
+
   a_field : (part behind : List ℕ) (n : ℕ) → parts_of s bs ≡ part ∷ parts_of s behind → is_field s part ≡ true → slice_get (fields_of s bs) n ≡ slice_get (part ∷ fields_of s behind) n
-  a_field part behind n cut is =
-      ap (λ (l : List (List ℕ)). slice_get (filter (is_field s) l) n) cut
-      ∙ ap (λ (b : Bool). slice_get (cond b (part ∷ fields_of s behind) (fields_of s behind)) n) is
+  a_field part behind n cut is = cut_fields part behind n true cut is
 
   pub this_field : (part behind : List ℕ) (n : ℕ) → parts_of s bs ≡ part ∷ parts_of s behind → is_field s part ≡ true → n ≡ 0 → slice_get (fields_of s bs) n ≡ Some part
   this_field part behind n cut is zeroth = a_field part behind n cut is ∙ ap (λ (k : ℕ). slice_get (part ∷ fields_of s behind) k) zeroth
@@ -105,16 +106,15 @@ module _ (s : Separator) (bs : List ℕ) where
       a_field part behind (suc m) cut is ∙ ap (λ (k : ℕ). slice_get (fields_of s behind) k) one_less
 
   -- the last part is a field, or it is none
+  one_part_fields : (n : ℕ) (b : Bool) → parts_of s bs ≡ bs ∷ [] → is_field s bs ≡ b → slice_get (fields_of s bs) n ≡ slice_get (cond b (bs ∷ []) []) n
+  one_part_fields n b one is =
+      ap (λ (l : List (List ℕ)). slice_get (filter (is_field s) l) n) one ∙ ap (λ (b : Bool). slice_get (cond b (bs ∷ []) []) n) is
+
   pub last_field : (n : ℕ) → parts_of s bs ≡ bs ∷ [] → is_field s bs ≡ true → n ≡ 0 → slice_get (fields_of s bs) n ≡ Some bs
-  last_field n one is zeroth =
-      ap (λ (l : List (List ℕ)). slice_get (filter (is_field s) l) n) one
-      ∙ ap (λ (b : Bool). slice_get (cond b (bs ∷ []) []) n) is
-      ∙ ap (λ (k : ℕ). slice_get (bs ∷ []) k) zeroth
+  last_field n one is zeroth = one_part_fields n true one is ∙ ap (λ (k : ℕ). slice_get (bs ∷ []) k) zeroth
 
   pub no_last_field : (n : ℕ) → parts_of s bs ≡ bs ∷ [] → is_field s bs ≡ false → slice_get (fields_of s bs) n ≡ None
-  no_last_field n one is =
-      ap (λ (l : List (List ℕ)). slice_get (filter (is_field s) l) n) one
-      ∙ ap (λ (b : Bool). slice_get (cond b (bs ∷ []) []) n) is
+  no_last_field n one is = one_part_fields n false one is
 
   pub past_the_last : (n : ℕ) → parts_of s bs ≡ bs ∷ [] → 0 < n → slice_get (fields_of s bs) n ≡ None
   past_the_last n one more =

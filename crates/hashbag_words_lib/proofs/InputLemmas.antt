@@ -2,20 +2,20 @@
 use Rattle.std.proofs.Common.{◌≡◌, ℕ, ◌+◌, ◌<◌, ◌==◌, Bor, true, false, List, [], ◌∷◌, ◌++◌, length, take, get_or, map, Option, None, Some, refl, sym, ◌∙◌, ap, subst, append_assoc, arith}
 use Rattle.std.proofs.lemmas.Bool.Decides.{nat_tests}
 use Rattle.std.proofs.lemmas.List.{append-nil, map-append, take_more}
-use Rattle.hashbag_text.specs.Encodings.{behind, text_in}
+use Rattle.hashbag_text.specs.Encodings.{after_bytes, text_in}
 use Rattle.hashbag_text.specs.declared.decoder.Decoder.{Decoder}
 use Rattle.hashbag_text.specs.declared.encoding.Encoding.{Encoding}
 use Rattle.hashbag_words_lib.specs.Feeding.{Ends, Feeds, How}
 use Rattle.hashbag_words_lib.specs.Inputs.{text_left, Counts, FeedsNext, Reads, ReadsBlock, Takes}
 use Rattle.hashbag_words_lib.proofs.FeedingLemmas.{counted_more, counted_none, counted_one, fed_more, fed_none}
 
--- ---- texts behind others
+-- ---- texts after others
 
-pub behind_nothing : (text : Option (List ℕ)) → behind [] text ≡ text
+pub behind_nothing : (text : Option (List ℕ)) → after_bytes [] text ≡ text
 behind_nothing None = refl
 behind_nothing (Some t) = refl
 
-behind_both : (xs ys : List ℕ) (text : Option (List ℕ)) → behind xs (behind ys text) ≡ behind (xs ++ ys) text
+behind_both : (xs ys : List ℕ) (text : Option (List ℕ)) → after_bytes xs (after_bytes ys text) ≡ after_bytes (xs ++ ys) text
 behind_both xs ys None = refl
 behind_both xs ys (Some t) = ap (λ (l : List ℕ). Some l) (sym (append_assoc xs ys t))
 
@@ -38,7 +38,7 @@ module _ {B C R : Type 0} (has : How → C → List (List (List ℕ × ℕ)) →
     pub text : List ℕ
     pub is : begun ≡ Some (name, bytes)
     pub same : ended inputs' ≡ ended inputs
-    pub decodes : (more : List ℕ) → text_in encoding (bytes ++ more) ≡ behind text (text_left decoder more)
+    pub decodes : (more : List ℕ) → text_in encoding (bytes ++ more) ≡ after_bytes text (text_left decoder more)
     pub feeds : Feeds has kept old new keeper keeper' text
 
   -- nothing was read
@@ -65,7 +65,7 @@ module _ {B C R : Type 0} (has : How → C → List (List (List ℕ × ℕ)) →
         is = next.0;
         same = next.1 ∙ s.same;
         decodes = λ more. ap (λ (l : List ℕ). text_in encoding l) (append_assoc s.bytes block more) ∙ s.decodes (block ++ more)
-            ∙ ap (λ (t : Option (List ℕ)). behind s.text t) (fed.decodes more) ∙ behind_both s.text fed.text (text_left decoder' more);
+            ∙ ap (λ (t : Option (List ℕ)). after_bytes s.text t) (fed.decodes more) ∙ behind_both s.text fed.text (text_left decoder' more);
         feeds = fed_more has kept old mid new keeper keeper' last s.text fed.text s.feeds fed.feeds;
       }
 
@@ -78,7 +78,7 @@ module _ {B C R : Type 0} (has : How → C → List (List (List ℕ × ℕ)) →
     read = ended_of (name, s.bytes) (ended first) block begun' (ended then) none (subst (λ (b : Option (List ℕ × List ℕ)). ReadsBlock b (ended first) block begun' (ended then)) s.is reads)
         ∙ ap (λ (l : List (List ℕ × List ℕ)). l ++ (name, s.bytes) ∷ []) s.same;
     text = s.text;
-    decoded = ap (λ (l : List ℕ). text_in encoding l) (sym (append-nil s.bytes)) ∙ s.decodes [] ∙ ap (λ (t : Option (List ℕ)). behind s.text t) whole ∙ ap (λ (l : List ℕ). Some l) (append-nil s.text);
+    decoded = ap (λ (l : List ℕ). text_in encoding l) (sym (append-nil s.bytes)) ∙ s.decodes [] ∙ ap (λ (t : Option (List ℕ)). after_bytes s.text t) whole ∙ ap (λ (l : List ℕ). Some l) (append-nil s.text);
     feeds = s.feeds;
   }
 

@@ -11,7 +11,7 @@ use Rattle.hashbag_words_lib.specs.Counted.{HasCounted, HaveTogether}
 use Rattle.hashbag_words_lib.specs.Counts.{texts_in}
 use Rattle.hashbag_words_lib.specs.Feeding.{AreKeptIn, HasAddedTexts, HasCountedTexts, HasNothing, KeepsRows}
 use Rattle.hashbag_words_lib.specs.Inputs.{AreRead, Counts}
-use Rattle.hashbag_words_lib.specs.Jobs.{AddsRows, CountsTokens, KeepsBag, ShowsBoth, ShowsRuns, WritesRows, WritesTokens}
+use Rattle.hashbag_words_lib.specs.Jobs.{AddsFileRows, CountsTokens, KeepsBag, ShowsBoth, ShowsRuns, WritesRows, WritesTokens}
 use Rattle.hashbag_words_lib.specs.Runs.{rows_in, run_text, IsRunOf}
 use Rattle.hashbag_words_lib.specs.Shown.{ShowsCounted}
 use Rattle.hashbag_words_lib.specs.Sorted.{times_in}
@@ -91,7 +91,7 @@ module _ {R S : Type 0} (kept : R → List (List (List ℕ × ℕ)) → Type 0) 
     pub rows_added : {H : Type 0} (form : RowForm) (bad_lines : BadLines) (first last : RowCounter S H) → first.form ≡ form → first.reading.bad_lines ≡ bad_lines
         → ((before : List (List ℕ × ℕ)) → HaveRows [] bag before → HasAdded before [] first [])
         → ((before : List (List ℕ × ℕ)) → (runs : List (List (List ℕ × ℕ))) → HasAdded before runs last [] → HaveRows runs bag' before)
-        → Counts HasAddedTexts kept ended encoding names inputs inputs' first last keeper keeper' → AddsRows kept faithful encoding names (ended inputs) (ended inputs') form bad_lines bag bag' keeper keeper'
+        → Counts HasAddedTexts kept ended encoding names inputs inputs' first last keeper keeper' → AddsFileRows kept faithful encoding names (ended inputs) (ended inputs') form bad_lines bag bag' keeper keeper'
     rows_added form bad_lines first last same_form same_lines begins together counts = record {
       texts = counts.texts;
       read_all = counts.read;
@@ -120,7 +120,7 @@ module _ {R S : Type 0} (kept : R → List (List (List ℕ × ℕ)) → Type 0) 
       written = λ fresh fits are. let all = counts.counts fresh in shows fits are all.0 all.1 (flat_map (tokens_of rule) counts.texts) all.2;
     }
 
-    pub rows_written : (form : RowForm) (bad_lines : BadLines) → AddsRows kept faithful encoding names before after form bad_lines bag bag' old mid → WritesRows kept faithful choice look encoding names before last form bad_lines bag old new bytes
+    pub rows_written : (form : RowForm) (bad_lines : BadLines) → AddsFileRows kept faithful encoding names before after form bad_lines bag bag' old mid → WritesRows kept faithful choice look encoding names before last form bad_lines bag old new bytes
     rows_written form bad_lines adds = record {
       texts = adds.texts;
       read_all = still_read adds.texts adds.read_all;

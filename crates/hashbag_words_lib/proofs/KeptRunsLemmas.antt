@@ -9,7 +9,7 @@ use Rattle.std.specs.Global.{Vec}
 use Rattle.std.specs.Prelude.{IsSomeAnd, MatchOption}
 use Rattle.hashbag_words_lib.specs.Choice.{shows}
 use Rattle.hashbag_words_lib.specs.KeptRuns.{times_of, AreKept, TakesKind, TakesMerge, TakesOneMerge, WritesRun}
-use Rattle.hashbag_words_lib.specs.MergedTexts.{look_in, look_of, AreAll, BeginsOf, IsRunLayout, WritesAsRun}
+use Rattle.hashbag_words_lib.specs.MergedTexts.{look_in, look_of, ShowsAllRows, BeginsOf, IsRunLayout, WritesAsRun}
 use Rattle.hashbag_words_lib.specs.Shown.{CountTexts}
 use Rattle.hashbag_words_lib.specs.Sorted.{times_in, IsMergeOf}
 use Rattle.hashbag_words_lib.specs.declared.choice.Choice.{Choice}
@@ -100,30 +100,32 @@ module _ (files runs : List ℕ) (made next : ℕ) (rows later : ℕ → List (L
   grown_below below = subst (All (λ n. n < next)) (sym same)
       (All-append (λ n. n < next) (files ++ runs) (made ∷ []) (All-later made next (files ++ runs) is below) (All-cons (λ n. n < next) made [] (omega arith) (All-nil (λ n. n < next))))
 
-  -- a run was fed
-  pub kept_fed : AreKept [] (files ++ runs) made rows fed → AreKept [] grown next later (fed ++ run ∷ [])
-  kept_fed kept = record {
+  -- what is kept then counts what was kept before, and the run
+  kept_then : (taken : List ℕ) (now : List (List (List ℕ × ℕ))) → AreKept taken (files ++ runs) made rows fed → ((text : List ℕ) → sum_by (times_in text) now ≡ times_of rows text (files ++ runs) + times_in text run)
+      → AreKept [] grown next later now
+  kept_then taken now kept all = record {
     counts = λ text.
-        let push : sum_by (times_in text) (fed ++ run ∷ []) ≡ sum_by (times_in text) fed + times_in text run = sum_by_push (times_in text) fed run in
         let grows : times_of later text grown ≡ times_of rows text (files ++ runs) + times_in text run = grown_times text kept.left_below in
-        let before = kept.counts text in
+        let sums : sum_by (times_in text) now ≡ times_of rows text (files ++ runs) + times_in text run = all text in
         omega arith;
     left_below = grown_below kept.left_below;
     taken_below = All-nil (λ n. n < next);
   }
 
+  -- a run was fed
+  pub kept_fed : AreKept [] (files ++ runs) made rows fed → AreKept [] grown next later (fed ++ run ∷ [])
+  kept_fed kept = kept_then [] (fed ++ run ∷ []) kept (λ text.
+      let push : sum_by (times_in text) (fed ++ run ∷ []) ≡ sum_by (times_in text) fed + times_in text run = sum_by_push (times_in text) fed run in
+      let before : times_of rows text (files ++ runs) + 0 ≡ sum_by (times_in text) fed = kept.counts text in
+      omega arith)
+
   -- the merge of those that were taken was written
   pub kept_merged : (taken : List ℕ) → AreKept taken (files ++ runs) made rows fed → IsMergeOf (map rows taken) run → AreKept [] grown next later fed
-  kept_merged taken kept merge = record {
-    counts = λ text.
-        let sums : times_in text run ≡ sum_by (times_in text) (map rows taken) = merge.sums text in
-        let of : sum_by (times_in text) (map rows taken) ≡ times_of rows text taken = times_mapped text rows taken in
-        let grows : times_of later text grown ≡ times_of rows text (files ++ runs) + times_in text run = grown_times text kept.left_below in
-        let before = kept.counts text in
-        omega arith;
-    left_below = grown_below kept.left_below;
-    taken_below = All-nil (λ n. n < next);
-  }
+  kept_merged taken kept merge = kept_then taken fed kept (λ text.
+      let sums : times_in text run ≡ sum_by (times_in text) (map rows taken) = merge.sums text in
+      let of : sum_by (times_in text) (map rows taken) ≡ times_of rows text taken = times_mapped text rows taken in
+      let before = kept.counts text in
+      omega arith)
 
 module _ (made : ℕ) (rows : ℕ → List (List ℕ × ℕ)) (fed : List (List (List ℕ × ℕ))) where
   -- those at the end are taken
@@ -185,7 +187,7 @@ format_in other WithShares = other
 format_in other (WithBars width) = other
 
 -- rows that are all written have one format
-same_format : (f g : Format) (order : Order) (bars bars' : Option ℕ) → AreAll order → look_of f order bars ≡ look_of g order bars' → f ≡ g
+same_format : (f g : Format) (order : Order) (bars bars' : Option ℕ) → ShowsAllRows order → look_of f order bars ≡ look_of g order bars' → f ≡ g
 unfolding format_in
 same_format f g Ascending bars bars' all looks = ap (format_in g) looks
 same_format f g Unordered bars bars' all looks = ap (format_in g) looks
@@ -197,7 +199,7 @@ as_run layout text run choice look = record {
   all = λ row. ap (λ (c : Choice). shows c row) choice ∙ run.all row;
   tsv = same_format text.rows.sink.format layout.format layout.choice.order text.bars layout.bars run.order
       (ap (λ (c : Choice). look_of text.rows.sink.format c.order text.bars) (sym choice) ∙ look) ∙ run.tsv;
-  order = subst (λ (c : Choice). AreAll c.order) (sym choice) run.order;
+  order = subst (λ (c : Choice). ShowsAllRows c.order) (sym choice) run.order;
 }
 
 -- there is a file

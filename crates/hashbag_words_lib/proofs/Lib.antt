@@ -5,6 +5,7 @@ pub mod CountedLemmas
 pub mod CounterLemmas
 pub mod CountLemmas
 pub mod DepthLemmas
+pub mod FedLemmas
 pub mod FeedingLemmas
 pub mod FieldLemmas
 pub mod GroupLemmas
@@ -30,6 +31,7 @@ pub mod RunFileLemmas
 pub mod RunLemmas
 pub mod RunTextLemmas
 pub mod ShownLemmas
+pub mod ShownRunsLemmas
 pub mod SortedLemmas
 pub mod SortedMergeLemmas
 pub mod TextLemmas

@@ -6,10 +6,10 @@ use Rattle.std.proofs.lemmas.List.Sums.{get_or-le-sum_by, sum_by-le-sum_by}
 use Rattle.std.specs.Cmp.Lexicographic.{bytes_decides}
 use Rattle.hashbag_words_lib.specs.Choice.{shows}
 use Rattle.hashbag_words_lib.specs.Merged.{AreInputs}
-use Rattle.hashbag_words_lib.specs.MergedTexts.{shown_in, whole_text, AreAll, BeginsOf, HasGivenAndTaken, IsMergedText, KeepsLayout, ShowsRun, WritesAsRun}
+use Rattle.hashbag_words_lib.specs.MergedTexts.{shown_in, whole_text, ShowsAllRows, BeginsOf, HasGivenAndTaken, IsMergedText, KeepsLayout, ShowsRun, WritesAsRun}
 use Rattle.hashbag_words_lib.specs.Numbered.{read_of, AreUnlike, HasRead}
 use Rattle.hashbag_words_lib.specs.Runs.{rows_in}
-use Rattle.hashbag_words_lib.specs.Sorted.{numbers, of_row, times_in, IsMergeOf}
+use Rattle.hashbag_words_lib.specs.Sorted.{number_sum, of_row, times_in, IsMergeOf}
 use Rattle.hashbag_words_lib.specs.Sources.{rows_of}
 use Rattle.hashbag_words_lib.specs.Writing.{text_of}
 use Rattle.hashbag_words_lib.specs.declared.choice.Choice.{Choice}
@@ -55,7 +55,7 @@ all_shown choice all [] = refl
 all_shown choice all (r ∷ rows) =
     ap (λ (b : Bool). if b then r ∷ shown_in choice rows else shown_in choice rows) (all r) ∙ ap (λ (l : List (List ℕ × ℕ)). r ∷ l) (all_shown choice all rows)
 
-all_written : (format : Format) (order : Order) (bars : Option ℕ) (rows : List (List ℕ × ℕ)) → AreAll order → whole_text format order bars rows ≡ text_of format rows
+all_written : (format : Format) (order : Order) (bars : Option ℕ) (rows : List (List ℕ × ℕ)) → ShowsAllRows order → whole_text format order bars rows ≡ text_of format rows
 all_written format Ascending bars rows all = refl
 all_written format Unordered bars rows all = refl
 all_written format (MostCommon k) bars rows all = absurd all
@@ -65,7 +65,7 @@ within_all : (text : List ℕ) (b : Bool) (n : ℕ) → (if b then n else 0) ≤
 within_all text true n = omega arith
 within_all text false n = omega arith
 
-times_within : (text : List ℕ) (rows : List (List ℕ × ℕ)) → times_in text rows ≤ numbers rows
+times_within : (text : List ℕ) (rows : List (List ℕ × ℕ)) → times_in text rows ≤ number_sum rows
 times_within text rows = sum_by-le-sum_by (of_row text) (λ (r : List ℕ × ℕ). r.1) rows (λ r. within_all text (bytes_eq text r.0) r.1)
 
 -- the counts of a merge are within 64 bits
@@ -75,8 +75,8 @@ merge_fits inputs rows merged i d lt =
     let same : of_row r.0 r ≡ r.1 = ap (λ (b : Bool). if b then r.1 else 0) ((bytes_decides r.0 r.0).1 refl) in
     let one : of_row r.0 r ≤ times_in r.0 rows = get_or-le-sum_by (of_row r.0) rows i d lt in
     let sums : times_in r.0 rows ≡ sum_by (times_in r.0) inputs = merged.sums r.0 in
-    let all : sum_by (times_in r.0) inputs ≤ sum_by numbers inputs = sum_by-le-sum_by (times_in r.0) numbers inputs (λ rows. times_within r.0 rows) in
-    let fits : sum_by numbers inputs < 2 ^ 64 = merged.fits in
+    let all : sum_by (times_in r.0) inputs ≤ sum_by number_sum inputs = sum_by-le-sum_by (times_in r.0) number_sum inputs (λ rows. times_within r.0 rows) in
+    let fits : sum_by number_sum inputs < 2 ^ 64 = merged.fits in
     omega arith
 
 -- the rows that are read of the text of a merge are the merge
@@ -95,5 +95,5 @@ pub runs_on : (old new : MergedText) → KeepsLayout old new → WritesAsRun old
 runs_on old new same run = record {
   all = λ row. ap (λ (c : Choice). shows c row) same.0 ∙ run.all row;
   tsv = same.1 ∙ run.tsv;
-  order = subst (λ (c : Choice). AreAll c.order) (sym same.0) run.order;
+  order = subst (λ (c : Choice). ShowsAllRows c.order) (sym same.0) run.order;
 }

@@ -1,16 +1,17 @@
 -- Sources that are given bytes, from which rows are taken, and their merge so far.
-use Rattle.std.proofs.Common.{◌≡◌, ◌⊎◌, inl, inr, ℕ, ◌+◌, ◌<◌, ◌^◌, Bool, true, false, cond, eqb, eq-eqb, ne_eqb, List, [], ◌∷◌, ◌++◌, length, get_or, set, sum_by, All, String, string_bytes, Global, Option, None, Some, refl, sym, ◌∙◌, ap, subst, arith, length-set, append_assoc}
+use Rattle.std.proofs.Common.{◌≡◌, ◌⊎◌, inl, inr, ℕ, ◌+◌, ◌<◌, ◌^◌, Bool, true, false, cond, eqb, eq-eqb, ne_eqb, List, [], ◌∷◌, ◌++◌, length, get_or, set, sum_by, All, String, string_bytes, Global, Option, None, Some, refl, sym, ◌∙◌, ap, subst, subst₂, arith, length-set, append_assoc}
 use Rattle.std.proofs.lemmas.Bool.{cases_eq, false≢true}
 use Rattle.std.proofs.lemmas.List.{append-nil, length-map, get_or-map, get_or-set_same, get_or-set_other}
 use Rattle.std.proofs.lemmas.List.Elements.{All-from_get_or}
 use Rattle.std.proofs.lemmas.Option.{same_Some}
-use Rattle.hashbag_words_lib.specs.Merged.{all_with, texts_of, with_head, AreBegun, AreInputs, AreLeft, AreReadAgain, IsSoFar, MayComeTo, Takes, TakesRow}
+use Rattle.hashbag_words_lib.specs.Merged.{all_with, count_of, run_texts, with_head, AreBegun, AreInputs, AreLeft, AreReadAgain, IsSoFar, MayComeTo, TakesNextRow, TakesRow, TakesRowWhateverComes}
 use Rattle.hashbag_words_lib.specs.Runs.{rows_in, run_text}
-use Rattle.hashbag_words_lib.specs.Sorted.{numbers, row_of, shown_of, IsMergeOf, IsNoLater, IsNotBelow, Joins, SoFar}
+use Rattle.hashbag_words_lib.specs.Sorted.{number_sum, row_of, shown_of, IsMergeOf, IsNoLater, IsNotBelow, Joins, SoFar}
 use Rattle.hashbag_words_lib.specs.Sources.{left_with, rows_of, MayCome}
 use Rattle.hashbag_words_lib.specs.declared.row_source.SourceKind.{SourceKind}
 use Rattle.hashbag_words_lib.specs.declared.row_source.Next.TheVariants.{Row, End}
-use Rattle.hashbag_words_lib.specs.declared.sorted_merge.Merged.TheVariants.{Row as MergedRow, End as MergedEnd}
+use Rattle.hashbag_words_lib.specs.declared.sorted_merge.Merged.{Merged}
+use Rattle.hashbag_words_lib.specs.declared.sorted_merge.Merged.TheVariants.{Row as MergedRow, Wants as MergedWants, End as MergedEnd}
 use Rattle.hashbag_words_lib.specs.declared.sources.Source.{Source}
 use Rattle.hashbag_words_lib.proofs.SortedLemmas.{same_at}
 use Rattle.hashbag_words_lib.proofs.SortedMergeLemmas.{so_far_none, so_far_more, so_far_over, so_far_done, total_done}
@@ -78,10 +79,19 @@ none_left (Some h) left rows nlt e = absurd nlt
 
 module _ (sources : List Source) (mores : ℕ → List ℕ) (rows : List (List (List ℕ × ℕ))) (i : ℕ) (new source : Source) (within : i < length sources) (here : source ≡ get_or sources i source) (are : AreLeft sources mores rows) where
   inside : i < length rows
-  inside = let many : length rows ≡ length sources = are.many in omega arith
+  inside = subst (λ n. i < n) (sym are.many) within
+
+  low : (k : ℕ) → k < length rows → k < length sources
+  low k lt = subst (λ n. k < n) are.many lt
+
+  -- its next row, or none, is the least
+  least_is : {head : Option (String Global × ℕ)} → All (λ s. IsNoLater (get_or sources i s).head s.head) sources → source.head ≡ head → (k : ℕ) → k < length sources → IsNoLater head (get_or sources k source).head
+  least_is least is k lt =
+      subst (λ (h : Option (String Global × ℕ)). IsNoLater h (get_or sources k source).head) (ap (λ (s : Source). s.head) (same_at sources i (get_or sources k source) source within here) ∙ is)
+      (least k source lt)
 
   -- the least one
-  pub took_row : (row : String Global × ℕ) → All (λ s. IsNoLater (get_or sources i s).head s.head) sources → source.head ≡ Some row → Takes (get_or rows i []) (Row row) (all_with new (mores i))
+  pub took_row : (row : String Global × ℕ) → All (λ s. IsNoLater (get_or sources i s).head s.head) sources → source.head ≡ Some row → TakesNextRow (get_or rows i []) (Row row) (all_with new (mores i))
       → TakesRow mores rows (MergedRow row) (set sources i new)
   took_row row least is took = (
     set rows i took.0,
@@ -92,11 +102,8 @@ module _ (sources : List Source) (mores : ℕ → List ℕ) (rows : List (List (
       was = took.1;
       is = refl;
       least = All-from_get_or (IsNotBelow (string_bytes row.0)) rows []
-          (λ k lt. let many : length rows ≡ length sources = are.many in
-          let low : k < length sources = omega arith in
-          not_below row (get_or sources k source).head (left_with (get_or sources k source).rows (mores k)) (get_or rows k [])
-          (subst (λ (h : Option (String Global × ℕ)). IsNoLater h (get_or sources k source).head) (ap (λ (s : Source). s.head) (same_at sources i (get_or sources k source) source within here) ∙ is) (least k source low))
-          (are.each k low source));
+          (λ k lt. not_below row (get_or sources k source).head (left_with (get_or sources k source).rows (mores k)) (get_or rows k [])
+          (least_is least is k (low k lt)) (are.each k (low k lt) source));
       above = took.3;
     },
     left_put sources i new mores mores rows (set rows i took.0) within (length-set rows i took.0) (took.2 ∙ ap (λ (r : List (List ℕ × ℕ)). Some r) (sym (get_or-set_same rows i took.0 [] inside)))
@@ -108,14 +115,11 @@ module _ (sources : List Source) (mores : ℕ → List ℕ) (rows : List (List (
   took_none same = left_put sources i new mores mores rows rows within refl same (λ k other. refl) (λ k other. refl) are
 
   -- there is none
-  pub took_end : All (λ s. IsNoLater (get_or sources i s).head s.head) sources → source.head ≡ None → Takes (get_or rows i []) End (all_with new (mores i)) → TakesRow mores rows MergedEnd (set sources i new)
+  pub took_end : All (λ s. IsNoLater (get_or sources i s).head s.head) sources → source.head ≡ None → TakesNextRow (get_or rows i []) End (all_with new (mores i)) → TakesRow mores rows MergedEnd (set sources i new)
   took_end least is took = (
     All-from_get_or (λ (r : List (List ℕ × ℕ)). r ≡ []) rows []
-        (λ k lt. let many : length rows ≡ length sources = are.many in
-        let low : k < length sources = omega arith in
-        none_left (get_or sources k source).head (left_with (get_or sources k source).rows (mores k)) (get_or rows k [])
-        (subst (λ (h : Option (String Global × ℕ)). IsNoLater h (get_or sources k source).head) (ap (λ (s : Source). s.head) (same_at sources i (get_or sources k source) source within here) ∙ is) (least k source low))
-        (are.each k low source)),
+        (λ k lt. none_left (get_or sources k source).head (left_with (get_or sources k source).rows (mores k)) (get_or rows k [])
+        (least_is least is k (low k lt)) (are.each k (low k lt) source)),
     took_none (took.1 ∙ ap (λ (r : List (List ℕ × ℕ)). Some r) (sym took.0)),
   )
 
@@ -146,57 +150,73 @@ so_far_begins given sources begun = record {
         → all_with (get_or sources i source) (mores i) ≡ Some (get_or inputs i [])
     first i low source mores inputs may are = begun.each i low nothing source (mores i) may (get_or inputs i []) (are.each i low nothing)
 
-module _ (given : List (SourceKind × List ℕ)) (sources new : List Source) (out : List (List ℕ × ℕ)) (held : Option (String Global × ℕ)) (before : ℕ) (so : IsSoFar given sources held before out)
-    (may : (mores : ℕ → List ℕ) → MayComeTo new mores → MayComeTo sources mores) (many : length new ≡ length sources) where
-  -- a row was taken, and perhaps one came out
-  pub so_far_row : (row : String Global × ℕ) (done next : Option (String Global × ℕ)) (total : ℕ) → total ≡ before + row.1 → total < 2 ^ 64 → Joins held row done next
-      → ((mores : ℕ → List ℕ) → MayComeTo sources mores → (rows : List (List (List ℕ × ℕ))) → AreLeft sources mores rows → TakesRow mores rows (MergedRow row) new)
-      → IsSoFar given new next total (out ++ shown_of done)
-  so_far_row row done next total is fits joins takes = record {
-    many = so.many ∙ sym many;
-    fits = fits;
-    so_far = λ mores inputs come are.
-        let old = so.so_far mores inputs (may mores come) are in
-        let took = takes mores (may mores come) old.0 old.1 in (
-          took.0,
-          took.2,
-          subst (λ (n : ℕ). SoFar inputs took.0 (out ++ shown_of done) next n) (sym is) (so_far_more inputs old.0 took.0 out row before took.1 held done next joins old.2),
-        );
+-- what taking the least row gave, if there was one: how the sources and the total changed
+pub record Took (sources : List Source) (before : ℕ) (next : Merged) (new : List Source) (total : ℕ) : Type 0 where
+  pub ended : (mores : ℕ → List ℕ) → MayComeTo new mores → MayComeTo sources mores
+  pub many : length new ≡ length sources
+  pub fits : total < 2 ^ 64
+  pub sum : total ≡ before + count_of next
+  pub takes : TakesRowWhateverComes sources next new
+
+-- the same from clauses one by one
+pub took_as : {next is : Merged} → next ≡ is → (sources : List Source) (before : ℕ) (new : List Source) (total : ℕ) → ((mores : ℕ → List ℕ) → MayComeTo new mores → MayComeTo sources mores) → length new ≡ length sources → total < 2 ^ 64
+    → total ≡ before + count_of next → TakesRowWhateverComes sources next new → Took sources before is new total
+took_as same sources before new total ended many fits sum takes = record {
+  ended = ended;
+  many = many;
+  fits = fits;
+  sum = sum ∙ ap (λ n. before + count_of n) same;
+  takes = λ mores may rows are. subst (λ n. TakesRow mores rows n new) same (takes mores may rows are);
+}
+
+-- none was counted
+and_none : (n m : ℕ) → m ≡ n + 0 → m ≡ n
+and_none n m e = omega arith
+
+module _ {given : List (SourceKind × List ℕ)} {sources new : List Source} {out : List (List ℕ × ℕ)} {held : Option (String Global × ℕ)} {before total : ℕ} (so : IsSoFar given sources held before out) where
+  -- what was left before, and what is left now
+  step : {next : Merged} → Took sources before next new total → (mores : ℕ → List ℕ) (inputs : List (List (List ℕ × ℕ))) → MayComeTo new mores → AreInputs given mores inputs
+      → (left : List (List (List ℕ × ℕ))) × TakesRow mores left next new × SoFar inputs left out held before
+  step took mores inputs come are =
+      let old = so.so_far mores inputs (took.ended mores come) are in (old.0, took.takes mores (took.ended mores come) old.0 old.1, old.2)
+
+  so_far_by : {next : Merged} {after : Option (String Global × ℕ)} {shown : List (List ℕ × ℕ)} → Took sources before next new total
+      → ((mores : ℕ → List ℕ) (inputs left : List (List (List ℕ × ℕ))) → TakesRow mores left next new → SoFar inputs left out held before → (now : List (List (List ℕ × ℕ))) × AreLeft new mores now × SoFar inputs now shown after total)
+      → IsSoFar given new after total shown
+  so_far_by took each = record {
+    many = so.many ∙ sym took.many;
+    fits = took.fits;
+    so_far = λ mores inputs come are. let at = step took mores inputs come are in each mores inputs at.0 at.1 at.2;
   }
+
+  -- a row was taken, and perhaps one came out
+  pub so_far_row : (row : String Global × ℕ) (done next : Option (String Global × ℕ)) {shown : List (List ℕ × ℕ)} → Took sources before (MergedRow row) new total → Joins held row done next → shown ≡ out ++ shown_of done
+      → IsSoFar given new next total shown
+  so_far_row row done next took joins same = so_far_by took (λ mores inputs left taken so_far. (
+    taken.0,
+    taken.2,
+    subst₂ (λ (l : List (List ℕ × ℕ)) (n : ℕ). SoFar inputs taken.0 l next n) (sym same) (sym took.sum) (so_far_more inputs left taken.0 out row before taken.1 held done next joins so_far),
+  ))
 
   -- none was taken
-  pub so_far_same : ((mores : ℕ → List ℕ) → MayComeTo sources mores → (rows : List (List (List ℕ × ℕ))) → AreLeft sources mores rows → AreLeft new mores rows) → IsSoFar given new held before out
-  so_far_same takes = record {
-    many = so.many ∙ sym many;
-    fits = so.fits;
-    so_far = λ mores inputs come are.
-        let old = so.so_far mores inputs (may mores come) are in (old.0, takes mores (may mores come) old.0 old.1, old.2);
-  }
+  pub so_far_same : {i : ℕ} → Took sources before (MergedWants i) new total → IsSoFar given new held total out
+  so_far_same took = so_far_by took (λ mores inputs left are so_far. (left, are, subst (SoFar inputs left out held) (sym (and_none before total took.sum)) so_far))
 
   -- no row is left, and the one that was held came out
-  pub so_far_ends : ((mores : ℕ → List ℕ) → MayComeTo sources mores → (rows : List (List (List ℕ × ℕ))) → AreLeft sources mores rows → TakesRow mores rows MergedEnd new)
-      → IsSoFar given new None before (out ++ shown_of held)
-  so_far_ends takes = record {
-    many = so.many ∙ sym many;
-    fits = so.fits;
-    so_far = λ mores inputs come are.
-        let old = so.so_far mores inputs (may mores come) are in
-        let took = takes mores (may mores come) old.0 old.1 in (old.0, took.1, so_far_over inputs old.0 out held before took.0 old.2);
-  }
+  module _ {shown : List (List ℕ × ℕ)} (took : Took sources before MergedEnd new total) (same : shown ≡ out ++ shown_of held) where
+    pub so_far_ends : {next : Option (String Global × ℕ)} → next ≡ None → IsSoFar given new next total shown
+    so_far_ends none = subst (λ (h : Option (String Global × ℕ)). IsSoFar given new h total shown) (sym none) (so_far_by took (λ mores inputs left taken so_far. (
+      left,
+      taken.1,
+      subst₂ (λ (l : List (List ℕ × ℕ)) (n : ℕ). SoFar inputs left l None n) (sym same) (sym (and_none before total took.sum)) (so_far_over inputs left out held before taken.0 so_far),
+    )))
 
-  pub so_far_whole : ((mores : ℕ → List ℕ) → MayComeTo sources mores → (rows : List (List (List ℕ × ℕ))) → AreLeft sources mores rows → TakesRow mores rows MergedEnd new)
-      → (mores : ℕ → List ℕ) (inputs : List (List (List ℕ × ℕ))) → MayComeTo new mores → AreInputs given mores inputs → IsMergeOf inputs (out ++ shown_of held)
-  so_far_whole takes mores inputs come are =
-      let old = so.so_far mores inputs (may mores come) are in
-      let took = takes mores (may mores come) old.0 old.1 in
-      so_far_done inputs old.0 out held before so.fits took.0 old.2
-
-  pub total_whole : ((mores : ℕ → List ℕ) → MayComeTo sources mores → (rows : List (List (List ℕ × ℕ))) → AreLeft sources mores rows → TakesRow mores rows MergedEnd new)
-      → (mores : ℕ → List ℕ) (inputs : List (List (List ℕ × ℕ))) → MayComeTo new mores → AreInputs given mores inputs → before ≡ sum_by numbers inputs
-  total_whole takes mores inputs come are =
-      let old = so.so_far mores inputs (may mores come) are in
-      let took = takes mores (may mores come) old.0 old.1 in
-      total_done inputs old.0 out held before took.0 old.2
+    pub so_far_whole : (mores : ℕ → List ℕ) (inputs : List (List (List ℕ × ℕ))) → MayComeTo new mores → AreInputs given mores inputs → IsMergeOf inputs shown × (total ≡ sum_by number_sum inputs)
+    so_far_whole mores inputs come are =
+        let at = step took mores inputs come are in (
+          subst (IsMergeOf inputs) (sym same) (so_far_done inputs at.0 out held before so.fits at.1.0 at.2),
+          and_none before total took.sum ∙ total_done inputs at.0 out held before at.1.0 at.2,
+        )
 
 -- the same of what is held, the total and the rows under other names
 pub so_far_as : (given : List (SourceKind × List ℕ)) (sources : List Source) (held same_held : Option (String Global × ℕ)) (total same_total : ℕ) (out same_out : List (List ℕ × ℕ)) → same_held ≡ held → same_total ≡ total → same_out ≡ out
@@ -279,7 +299,7 @@ module _ (given : List (SourceKind × List ℕ)) (sources : List Source) (out : 
 
 -- what is the merge of all that was given is the merge of the runs that were given
 pub runs_merged : (runs : List (List (List ℕ × ℕ))) (sources : List Source) (out : List (List ℕ × ℕ)) → AreReadAgain runs
-    → ((mores : ℕ → List ℕ) (inputs : List (List (List ℕ × ℕ))) → MayComeTo sources mores → AreInputs (texts_of runs) mores inputs → IsMergeOf inputs out) → IsMergeOf runs out
+    → ((mores : ℕ → List ℕ) (inputs : List (List (List ℕ × ℕ))) → MayComeTo sources mores → AreInputs (run_texts runs) mores inputs → IsMergeOf inputs out) → IsMergeOf runs out
 runs_merged runs sources out again whole = whole (λ i. []) runs (λ i lt source ended. refl) (record {
   many = sym (length-map runs text);
   each = λ i lt d.

@@ -8,9 +8,9 @@ use Rattle.std.proofs.lemmas.List.Elements.{filter-append}
 use Rattle.hashbag_words_lib.specs.NumberedMerges.{FollowsIn, HasTaken, IsWanted}
 use Rattle.hashbag_words_lib.specs.Choice.{shows}
 use Rattle.hashbag_words_lib.specs.Merged.{AreInputs, IsWhole}
-use Rattle.hashbag_words_lib.specs.MergedTexts.{look_of, shown_in, whole_text, AreAll, ArePut, BeginsAs, BuildsEnd, EndsWith, HasGivenAndTaken, HaveCome, KeepsMergeAndLayout, PutsNext, PutsRow}
-use Rattle.hashbag_words_lib.specs.RowParts.{HasBuilt, TakesPart}
-use Rattle.hashbag_words_lib.specs.Sorted.{numbers, row_of, IsMergeOf}
+use Rattle.hashbag_words_lib.specs.MergedTexts.{look_of, shown_in, whole_text, ShowsAllRows, ArePut, BeginsAs, BuildsEnd, EndsWith, HasGivenAndTaken, HaveCome, KeepsMergeAndLayout, PutsNext, PutsRow}
+use Rattle.hashbag_words_lib.specs.RowParts.{HasBuilt, TakesRowPart}
+use Rattle.hashbag_words_lib.specs.Sorted.{number_sum, row_of, IsMergeOf}
 use Rattle.hashbag_words_lib.specs.Top.{KeepsTop, PutsTop}
 use Rattle.hashbag_words_lib.specs.declared.numbered_merge.NumberedMerge.{NumberedMerge}
 use Rattle.hashbag_words_lib.specs.declared.choice.Choice.{Choice}
@@ -98,16 +98,16 @@ pub put_all : (choice later : Choice) (top : Option (ShownRows TopRows)) (old ne
 put_all choice later top old new rows row taken none same puts keeps come =
     let was = subst (λ (t : Option (ShownRows TopRows)). HaveCome choice t old rows taken) none come in
     subst (λ (t : Option (ShownRows TopRows)). HaveCome later t new (rows ++ row ∷ []) taken) (sym none)
-    (subst (λ (c : Choice). AreAll c.order) (sym same) was.0, put_shown old new choice later rows row taken same (λ is. puts is was.1) keeps was.1)
+    (subst (λ (c : Choice). ShowsAllRows c.order) (sym same) was.0, put_shown old new choice later rows row taken same (λ is. puts is was.1) keeps was.1)
 
 -- the part was taken
-take_come : (choice : Choice) (top : Option (ShownRows TopRows)) (old new : RowParts) (rows : List (List ℕ × ℕ)) (taken : List ℕ) → TakesPart old new
+take_come : (choice : Choice) (top : Option (ShownRows TopRows)) (old new : RowParts) (rows : List (List ℕ × ℕ)) (taken : List ℕ) → TakesRowPart old new
     → HaveCome choice top old rows taken → HaveCome choice top new rows (taken ++ old.part.items)
 take_come choice None old new rows taken takes come = (come.0, takes (shown_in choice rows) taken come.1)
 take_come choice (Some top) old new rows taken takes come = (come.0, come.1, come.2, takes [] taken come.3)
 
 pub take_put : (given : List (SourceKind × List ℕ)) (merge : NumberedMerge) (choice : Choice) (top : Option (ShownRows TopRows)) (bars : Option ℕ) (old new : RowParts) (is_over : Bool) (taken : List ℕ)
-    → TakesPart old new → new.part.items ≡ [] → new.format ≡ old.format → ArePut given merge choice top bars old is_over taken → ArePut given merge choice top bars new is_over (taken ++ old.part.items)
+    → TakesRowPart old new → new.part.items ≡ [] → new.format ≡ old.format → ArePut given merge choice top bars old is_over taken → ArePut given merge choice top bars new is_over (taken ++ old.part.items)
 take_put given merge choice top bars old new is_over taken takes none format put = record {
   out = put.out;
   merged = put.merged;
@@ -184,7 +184,7 @@ put_whole given text taken put over none inputs are = (
   writes_together text.rows.choice text.rows.sink.format text.bars inputs put.out text.merge.merger.total taken whole.0 whole.1 put.begun is,
 )
   where
-    whole : IsMergeOf inputs put.out × (text.merge.merger.total ≡ sum_by numbers inputs)
+    whole : IsMergeOf inputs put.out × (text.merge.merger.total ≡ sum_by number_sum inputs)
     whole = (put.over over).0 (λ i. []) inputs (λ i lt source ended. refl) are
 
     is : taken ≡ whole_text text.rows.sink.format text.rows.choice.order text.bars (shown_in text.rows.choice put.out)

@@ -3,21 +3,17 @@ use Rattle.std.proofs.Common.{◌≡◌, ◌≢◌, ◌⊎◌, inl, inr, ℕ, �
 use Rattle.std.proofs.lemmas.List.{append-nil, map-append}
 use Rattle.std.proofs.lemmas.List.Elements.{All-nil, All-append, All-cons, All-head}
 use Rattle.std.specs.Global.{Vec}
-use Rattle.hashbag_words_lib.specs.Choice.{shows}
-use Rattle.hashbag_words_lib.specs.Feeding.{HasNothing, KeepsRows}
-use Rattle.hashbag_words_lib.specs.Jobs.{ShowsRuns}
-use Rattle.hashbag_words_lib.specs.KeptRuns.{numbers_in, times_of, AddsNumber, AreAlike, AreInOrder, HasFiles, HasKept, KeepsKinds, MergesAll, TakesFiles, TakesKind, TakesMerge, TakesOneMerge, TakesTexts, TakesThese}
+use Rattle.hashbag_words_lib.specs.Feeding.{KeepsRows}
+use Rattle.hashbag_words_lib.specs.KeptRuns.{numbers_in, AddsNumber, AreInOrder, HasFiles, HasKept, KeepsKinds, MergesAll, TakesFiles, TakesKind, TakesMerge, TakesOneMerge, TakesTexts, TakesThese}
 use Rattle.hashbag_words_lib.specs.Merged.{AreInputs}
 use Rattle.hashbag_words_lib.specs.MergedTexts.{look_in, look_of, EndsWith, KeepsLayout, WritesAsRun}
-use Rattle.hashbag_words_lib.specs.MergingRuns.{AddsFile, AddsTexts, AgreesWith, AllOf, AreUnread, CountsAll, FitsOrder, GoesOn, HasRuns, IsFaithful, IsGone, LaysOut, Merges, MergesTaken, ShowsAll, ShowsTokens, TotalsTaken, WritesText}
+use Rattle.hashbag_words_lib.specs.MergingRuns.{AddsFile, AddsRuns, AgreesWith, AllOf, AreUnread, GoesOnMerging, HasRuns, IsGone, Merges, MergesTaken, ShowsAll, TotalsTaken, WritesText}
 use Rattle.hashbag_words_lib.specs.Numbered.{read_of, HasRead, IsNext, ReadsOn, WritesMerge}
 use Rattle.hashbag_words_lib.specs.Runs.{rows_in}
-use Rattle.hashbag_words_lib.specs.Shown.{IsWritten}
-use Rattle.hashbag_words_lib.specs.Sorted.{numbers}
+use Rattle.hashbag_words_lib.specs.Shown.{ShowsTexts}
+use Rattle.hashbag_words_lib.specs.Sorted.{number_sum}
 use Rattle.hashbag_words_lib.specs.Sources.{rows_of}
 use Rattle.hashbag_words_lib.specs.declared.choice.Choice.{Choice}
-use Rattle.hashbag_words_lib.specs.declared.choice.Order.{Order}
-use Rattle.hashbag_words_lib.specs.declared.choice.Order.TheVariants.{Ascending, Unordered, MostCommon}
 use Rattle.hashbag_words_lib.specs.declared.kept_runs.KeptRuns.{KeptRuns}
 use Rattle.hashbag_words_lib.specs.declared.merged_text.MergedText.{MergedText}
 use Rattle.hashbag_words_lib.specs.declared.merged_text.RowLayout.{RowLayout}
@@ -28,9 +24,7 @@ use Rattle.hashbag_words_lib.specs.declared.merging_runs.WrittenRun.{WrittenRun}
 use Rattle.hashbag_words_lib.specs.declared.row_source.SourceKind.{SourceKind}
 use Rattle.hashbag_words_lib.specs.declared.row_source.SourceKind.TheVariants.{Run}
 use Rattle.hashbag_words_lib.specs.declared.shown_text.Look.{Look}
-use Rattle.hashbag_words_lib.specs.declared.shown_text.Look.TheVariants.{Rows as InRows, Shares as WithShares, Bars as WithBars}
 use Rattle.hashbag_words_lib.specs.declared.writing.Format.{Format}
-use Rattle.hashbag_words_lib.specs.declared.writing.Format.TheVariants.{Tsv, Shares}
 use Rattle.hashbag_words_lib.proofs.MergeAgainLemmas.{are_inputs, begins_read, merge_again, runs_on}
 use Rattle.hashbag_words_lib.proofs.OrderLemmas.{added_order, all_left, all_numbers, all_others, all_right, all_weaker, kind_files, left_added, left_apart, parts_of, same_kinds, same_next, taken_apart, taken_order, unlike_numbers, Parts}
 
@@ -54,21 +48,25 @@ all_of_push P old new last is all one =
     subst (AllOf P) (sym is)
     (All-append (λ (v : Vec ℕ). All P v.items) old (last ∷ []) all (All-cons (λ (v : Vec ℕ). All P v.items) last [] one (All-nil (λ (v : Vec ℕ). All P v.items))))
 
+-- what all numbers have that are kept after one more was added
+all_pushed : (P : ℕ → Type 0) (old new : KeptRuns) → AddsNumber old new → All P (numbers_in old) → P old.next_number → All P (numbers_in new)
+all_pushed P old new adds all one =
+    subst (All P) (sym (left_added old new adds)) (All-append P (numbers_in old) (old.next_number ∷ []) all (All-cons P old.next_number [] one (All-nil P)))
+
 -- what is gone stays so when a run is added
 still_gone : (old new : KeptRuns) → AddsNumber old new → (n : ℕ) → IsGone old n → IsGone new n
 still_gone old new adds n gone =
     let low : n < old.next_number = gone.0 in
     let next : new.next_number ≡ old.next_number + 1 = adds.next in (
       omega arith,
-      subst (All (λ k. k ≢ n)) (sym (left_added old new adds))
-          (All-append (λ k. k ≢ n) (numbers_in old) (old.next_number ∷ []) gone.1 (All-cons (λ k. k ≢ n) old.next_number [] (λ is. absurd (omega arith)) (All-nil (λ k. k ≢ n)))),
+      all_pushed (λ k. k ≢ n) old new adds gone.1 (λ is. absurd (omega arith)),
     )
 
 -- ---- steps, one after the other
 
-empty_of : (numbers : List ℕ) → length numbers ≡ 0 → numbers ≡ []
+empty_of : (number_sum : List ℕ) → length number_sum ≡ 0 → number_sum ≡ []
 empty_of [] none = refl
-empty_of (n ∷ numbers) none = absurd (omega arith)
+empty_of (n ∷ number_sum) none = absurd (omega arith)
 
 module _ {T : Type 0} (read : T → ℕ → List ℕ) where
   -- a merge was read on, and then written
@@ -82,7 +80,7 @@ module _ {T : Type 0} (read : T → ℕ → List ℕ) where
       )
 
   -- what agrees with what was read and written in the end agrees with all that was before
-  agrees_before : (rows : ℕ → List (List ℕ × ℕ)) (old new : MergingRuns T) → GoesOn read old new → AgreesWith read rows new → AgreesWith read rows old
+  pub agrees_before : (rows : ℕ → List (List ℕ × ℕ)) (old new : MergingRuns T) → GoesOnMerging read old new → AgreesWith read rows new → AgreesWith read rows old
   agrees_before rows old new goes agrees = record {
     of_files = all_of_both (λ n. n < new.kept.first_run → rows_of new.kept.kind (read new.texts n) ≡ Some (rows n)) (λ n. read new.texts n ≡ read old.texts n)
         (λ n. n < old.kept.first_run → rows_of old.kept.kind (read old.texts n) ≡ Some (rows n)) old.merged
@@ -97,7 +95,7 @@ module _ {T : Type 0} (read : T → ℕ → List ℕ) where
     as_written = all_left (λ (run : WrittenRun). rows_in run.bytes.value ≡ rows run.number) old.written goes.more (subst (All (λ (run : WrittenRun). rows_in run.bytes.value ≡ rows run.number)) goes.written agrees.as_written);
   }
 
-  goes_both : (first middle last : MergingRuns T) → GoesOn read first middle → GoesOn read middle last → GoesOn read first last
+  pub goes_both : (first middle last : MergingRuns T) → GoesOnMerging read first middle → GoesOnMerging read middle last → GoesOnMerging read first last
   goes_both first middle last one two = record {
     kinds = (two.kinds.0 ∙ one.kinds.0, two.kinds.1 ∙ one.kinds.1);
     same = all_of_both (λ n. read last.texts n ≡ read middle.texts n) (λ n. read middle.texts n ≡ read first.texts n) (λ n. read last.texts n ≡ read first.texts n) first.merged (λ n later before. later ∙ before)
@@ -108,7 +106,7 @@ module _ {T : Type 0} (read : T → ℕ → List ℕ) where
     written = two.written ∙ ap (λ (l : List WrittenRun). l ++ two.more) one.written ∙ append_assoc first.written one.more two.more;
   }
 
-  pub adds_both : (xs ys : List (List ℕ)) (first middle last : MergingRuns T) → AddsTexts read xs first middle → AddsTexts read ys middle last → AddsTexts read (xs ++ ys) first last
+  pub adds_both : (xs ys : List (List ℕ)) (first middle last : MergingRuns T) → AddsRuns read xs first middle → AddsRuns read ys middle last → AddsRuns read (xs ++ ys) first last
   adds_both xs ys first middle last one two unread =
       let was = one unread in
       let is = two was.unread in
@@ -124,8 +122,20 @@ module _ {T : Type 0} (read : T → ℕ → List ℕ) where
   pub merges_both : (first middle last : MergingRuns T) → Merges read first middle → Merges read middle last → Merges read first last
   merges_both first middle last one two = adds_both [] [] first middle last one two
 
-  pub adds_merged : (xs : List (List ℕ)) (first middle last : MergingRuns T) → AddsTexts read xs first middle → Merges read middle last → AddsTexts read xs first last
-  adds_merged xs first middle last one two = subst (λ (l : List (List ℕ)). AddsTexts read l first last) (append-nil xs) (adds_both xs [] first middle last one two)
+  pub adds_merged : (xs : List (List ℕ)) (first middle last : MergingRuns T) → AddsRuns read xs first middle → Merges read middle last → AddsRuns read xs first last
+  adds_merged xs first middle last one two = subst (λ (l : List (List ℕ)). AddsRuns read l first last) (append-nil xs) (adds_both xs [] first middle last one two)
+
+  -- no text was read on, and none was merged
+  goes_same : (old new : MergingRuns T) → KeepsKinds old.kept new.kept → ((n : ℕ) → read new.texts n ≡ read old.texts n) → AreUnread read old → new.merged ≡ old.merged → (more : List WrittenRun) → new.written ≡ old.written ++ more
+      → GoesOnMerging read old new
+  goes_same old new kinds same unread merged more written = record {
+    kinds = kinds;
+    same = all_of_weaker (IsGone old.kept) (λ n. read new.texts n ≡ read old.texts n) old.merged (λ n gone. same n) unread.gone;
+    merges = [];
+    merged = merged ∙ sym (append-nil old.merged);
+    more = more;
+    written = written;
+  }
 
   -- nothing was taken
   pub merges_none : (old new : MergingRuns T) → new.texts ≡ old.texts → new.written ≡ old.written → new.merged ≡ old.merged → TakesFiles [] old.kept new.kept
@@ -145,14 +155,7 @@ module _ {T : Type 0} (read : T → ℕ → List ℕ) where
               (all_others (numbers_in old.kept) [] (numbers_in new.kept) (λ n. read old.texts n ≡ []) parts unread.none);
           later = λ n le. same n ∙ unread.later n (omega arith);
         };
-        goes = record {
-          kinds = takes.kinds;
-          same = all_of_weaker (IsGone old.kept) (λ n. read new.texts n ≡ read old.texts n) old.merged (λ n gone. same n) unread.gone;
-          merges = [];
-          merged = merged ∙ sym (append-nil old.merged);
-          more = [];
-          written = written ∙ sym (append-nil old.written);
-        };
+        goes = goes_same old new takes.kinds same unread merged [] (written ∙ sym (append-nil old.written));
         counts = λ rows agrees all kept. subst (HasKept new.kept rows) (sym (append-nil all)) (keeps rows all kept);
       }
 
@@ -166,37 +169,30 @@ module _ {T : Type 0} (read : T → ℕ → List ℕ) where
       let last : All P (adds.run ∷ []) = all_right P old.written (adds.run ∷ []) (subst (All P) adds.written agrees.as_written) in
       ap rows (sym adds.number) ∙ sym (All-head P adds.run [] last) ∙ ap rows_in adds.bytes
 
+  -- of no number that is kept something was read
+  pushed_unread : (old new : MergingRuns T) → AddsNumber old.kept new.kept → All (λ n. read new.texts n ≡ []) (numbers_in old.kept) → read new.texts old.kept.next_number ≡ [] → All (λ n. read new.texts n ≡ []) (numbers_in new.kept)
+  pushed_unread old new adds all one = all_pushed (λ n. read new.texts n ≡ []) old.kept new.kept adds all one
+
   -- a run was added
-  pub run_added : (text : List ℕ) (old new : MergingRuns T) → AddsFile read text old new → AddsTexts read (text ∷ []) old new
+  pub run_added : (text : List ℕ) (old new : MergingRuns T) → AddsFile read text old new → AddsRuns read (text ∷ []) old new
   run_added text old new adds unread =
       let made = old.kept.next_number in
       let next : new.kept.next_number ≡ made + 1 = adds.next.next in
       let same : (n : ℕ) → read new.texts n ≡ read old.texts n = λ n. ap (λ (f : ℕ → List ℕ). f n) adds.reads in
-      let left = left_added old.kept new.kept adds.next in
-      let P : ℕ → Type 0 = λ n. read new.texts n ≡ [] in
       record {
         unread = record {
           order = added_order old.kept new.kept adds.next unread.order;
           gone = subst (AllOf (IsGone new.kept)) (sym adds.same) (all_of_weaker (IsGone old.kept) (IsGone new.kept) old.merged (λ n gone. still_gone old.kept new.kept adds.next n gone) unread.gone);
-          none = subst (All P) (sym left)
-              (All-append P (numbers_in old.kept) (made ∷ [])
-              (all_weaker (λ n. read old.texts n ≡ []) P (numbers_in old.kept) (λ n none. same n ∙ none) unread.none)
-              (All-cons P made [] (same made ∙ unread.later made (omega arith)) (All-nil P)));
+          none = pushed_unread old new adds.next
+              (all_weaker (λ n. read old.texts n ≡ []) (λ n. read new.texts n ≡ []) (numbers_in old.kept) (λ n none. same n ∙ none) unread.none) (same made ∙ unread.later made (omega arith));
           later = λ n le. same n ∙ unread.later n (omega arith);
         };
-        goes = record {
-          kinds = adds.next.kinds;
-          same = all_of_weaker (IsGone old.kept) (λ n. read new.texts n ≡ read old.texts n) old.merged (λ n gone. same n) unread.gone;
-          merges = [];
-          merged = adds.same ∙ sym (append-nil old.merged);
-          more = adds.run ∷ [];
-          written = adds.written;
-        };
+        goes = goes_same old new adds.next.kinds same unread adds.same (adds.run ∷ []) adds.written;
         counts = λ rows agrees all kept. adds.added rows rows all (rows_in text) kept (last_rows rows text old new adds agrees, λ k lt. refl);
       }
 
   -- what the texts had they have, and the rows of the run too
-  pub keeps_rows : (text : List ℕ) (old new : MergingRuns T) → AddsTexts read (text ∷ []) old new → KeepsRows (HasRuns read) old new (rows_in text)
+  pub keeps_rows : (text : List ℕ) (old new : MergingRuns T) → AddsRuns read (text ∷ []) old new → KeepsRows (HasRuns read) old new (rows_in text)
   keeps_rows text old new adds runs has =
       let added = adds has.unread in
       record { unread = added.unread; counts = λ rows agrees. added.counts rows agrees runs (has.counts rows (agrees_before rows old new added.goes agrees)) }
@@ -269,9 +265,6 @@ module _ {T : Type 0} (read : T → ℕ → List ℕ) where
       parts : Parts (numbers_in before.kept) taken (numbers_in old.kept)
       parts = parts_of kind taken before.kept old.kept how
 
-      left : numbers_in new.kept ≡ numbers_in old.kept ++ made ∷ []
-      left = left_added old.kept new.kept adds.next
-
       same : made ≡ before.kept.next_number
       same = same_next kind taken before.kept old.kept how
 
@@ -300,23 +293,21 @@ module _ {T : Type 0} (read : T → ℕ → List ℕ) where
 
       merged_unread : AreUnread read new
       merged_unread =
-          let P : ℕ → Type 0 = λ n. read new.texts n ≡ [] in
-          let next : new.kept.next_number ≡ made + 1 = adds.next.next in
+          let next : new.kept.next_number ≡ old.kept.next_number + 1 = adds.next.next in
           let was : All (λ n. read before.texts n ≡ []) (numbers_in old.kept) = all_others (numbers_in before.kept) taken (numbers_in old.kept) (λ n. read before.texts n ≡ []) parts unread.none in
           record {
             order = added_order old.kept new.kept adds.next (taken_order kind taken before.kept old.kept how unread.order);
             gone = all_of_push (IsGone new.kept) before.merged new.merged text.merge.numbers merged_is (all_of_weaker (IsGone before.kept) (IsGone new.kept) before.merged gone_on unread.gone) gone_now;
-            none = subst (All P) (sym left)
-                (All-append P (numbers_in old.kept) (made ∷ [])
+            none = pushed_unread mid new adds.next
                 (λ i d lt. only (get_or (numbers_in old.kept) i d) (left_apart (numbers_in before.kept) taken (numbers_in old.kept) parts unread.order.unlike i lt d) ∙ was i d lt)
-                (All-cons P made [] (only made (none_from made (omega (arith, same))) ∙ unread.later made (omega (arith, same))) (All-nil P)));
+                (only made (none_from made (omega (arith, same))) ∙ unread.later made (omega (arith, same)));
             later = λ n le. only n (none_from n (omega (arith, same, next))) ∙ unread.later n (omega (arith, same, next));
           }
 
       kinds_now : KeepsKinds before.kept new.kept
       kinds_now = let kinds = same_kinds kind taken before.kept old.kept how in (adds.next.kinds.0 ∙ kinds.0, adds.next.kinds.1 ∙ kinds.1)
 
-      merged_goes : before.written ≡ old.written → GoesOn read before new
+      merged_goes : before.written ≡ old.written → GoesOnMerging read before new
       merged_goes written = record {
         kinds = kinds_now;
         same = all_of_weaker (IsGone before.kept) (λ n. read new.texts n ≡ read before.texts n) before.merged
@@ -376,8 +367,7 @@ module _ {T : Type 0} (read : T → ℕ → List ℕ) where
     pub taken_totals : TotalsTaken read text old new done.merge.merger.total
     taken_totals before texts written merged takes merges unread rows agrees all kept tokens counted =
         let wrote = writes takes.0 (taken_unread text before old texts takes unread) in
-        let only = only_taken before texts takes unread in
-        let ends = merged_ends text done bytes before old new later takes.0 takes.2 unread adds wrote.1 merged only wrote.0 rows agrees in
+        let ends = merged_ends text done bytes before old new later takes.0 takes.2 unread adds wrote.1 merged (only_taken before texts takes unread) wrote.0 rows agrees in
         (ends.1 tokens (merges rows all kept tokens counted)).1
 
   -- ---- the merge of all
@@ -394,7 +384,7 @@ module _ {T : Type 0} (read : T → ℕ → List ℕ) where
     merged_now : new.merged ≡ old.merged ++ text.merge.numbers ∷ []
     merged_now = merged ∙ ap (λ (v : Vec ℕ). old.merged ++ v ∷ []) (writes takes.0 has).1
 
-    shown_goes : new.written ≡ old.written → GoesOn read old new
+    shown_goes : new.written ≡ old.written → GoesOnMerging read old new
     shown_goes written =
         let parts = parts_of takes.0 numbers_taken old.kept new.kept takes.2 in
         record {
@@ -419,83 +409,12 @@ module _ {T : Type 0} (read : T → ℕ → List ℕ) where
     λ unread. shown_goes layout text done bytes old new takes writes merged unread written,
     λ unread rows agrees all kept tokens counted.
         let ends = shown_ends layout text done bytes old new takes writes merged unread rows agrees in
-        let shown : IsWritten done.rows.choice (look_of done.rows.sink.format done.rows.choice.order done.bars) tokens bytes = (ends.1 tokens (merges rows all kept tokens counted)).0 in
+        let shown : ShowsTexts done.rows.choice (look_of done.rows.sink.format done.rows.choice.order done.bars) tokens bytes = (ends.1 tokens (merges rows all kept tokens counted)).0 in
         let same_look : look_of done.rows.sink.format done.rows.choice.order done.bars ≡ look_in layout =
         ap (λ (f : Format). look_of f done.rows.choice.order done.bars) keeps.1
         ∙ ap (λ (c : Choice). look_of text.rows.sink.format c.order done.bars) keeps.0
         ∙ ap (λ (b : Option ℕ). look_of text.rows.sink.format text.rows.choice.order b) keeps.2
         ∙ look in
-        subst (λ (l : Look). IsWritten layout.choice l tokens bytes) same_look
-        (subst (λ (c : Choice). IsWritten c (look_of done.rows.sink.format done.rows.choice.order done.bars) tokens bytes) (keeps.0 ∙ choice) shown),
+        subst (λ (l : Look). ShowsTexts layout.choice l tokens bytes) same_look
+        (subst (λ (c : Choice). ShowsTexts c (look_of done.rows.sink.format done.rows.choice.order done.bars) tokens bytes) (keeps.0 ∙ choice) shown),
   )
-
-  -- ---- the layout of a look
-
-  rows_look : (format : Format) (order : Order) → look_of format order None ≡ InRows format
-  rows_look format Ascending = refl
-  rows_look format Unordered = refl
-  rows_look format (MostCommon k) = refl
-
-  bars_look : (width : ℕ) (order : Order) → FitsOrder (WithBars width) order → look_of Tsv order (Some width) ≡ WithBars width
-  bars_look width Ascending fits = absurd fits
-  bars_look width Unordered fits = absurd fits
-  bars_look width (MostCommon k) fits = refl
-
-  -- rows in a format, or with bars
-  pub lays_out : (layout : RowLayout) (choice : Choice) (look : Look) (runs : MergingRuns T) → layout.choice ≡ choice → look_in layout ≡ look → AreAlike runs.kept → LaysOut read choice look runs runs layout
-  lays_out layout choice look runs same is alike = record {
-    merges = merges_same runs;
-    alike = alike;
-    same = same;
-    means = λ unread rows agrees all kept tokens counted bytes written. subst (λ (l : Look). IsWritten choice l tokens bytes) is written;
-  }
-
-  pub lays_rows : (format : Format) (choice : Choice) (runs : MergingRuns T) → AreAlike runs.kept → LaysOut read choice (InRows format) runs runs (record { format = format; choice = choice; bars = None })
-  lays_rows format choice runs alike = lays_out (record { format = format; choice = choice; bars = None }) choice (InRows format) runs refl (rows_look format choice.order) alike
-
-  pub lays_bars : (width : ℕ) (choice : Choice) (runs : MergingRuns T) → FitsOrder (WithBars width) choice.order → AreAlike runs.kept → LaysOut read choice (WithBars width) runs runs (record { format = Tsv; choice = choice; bars = Some width })
-  lays_bars width choice runs fits alike = lays_out (record { format = Tsv; choice = choice; bars = Some width }) choice (WithBars width) runs refl (bars_look width choice.order fits) alike
-
-  -- rows with shares
-  pub lays_shares : (total : ℕ) (choice : Choice) (old new : MergingRuns T) → Merges read old new → AreAlike new.kept → CountsAll read old new total
-      → LaysOut read choice WithShares old new (record { format = Shares total; choice = choice; bars = None })
-  lays_shares total choice old new merges alike counts = record {
-    merges = merges;
-    alike = alike;
-    same = refl;
-    means = λ unread rows agrees all kept tokens counted bytes written.
-        subst (λ (n : ℕ). IsWritten choice (InRows (Shares n)) tokens bytes) (counts unread rows agrees all kept tokens counted)
-        (subst (λ (l : Look). IsWritten choice l tokens bytes) (rows_look (Shares total) choice.order) written);
-  }
-
-  -- files were merged, all were laid out, and what was written is what is written of all tokens
-  pub shows_tokens : (choice : Choice) (look : Look) (layout : RowLayout) (first middle laid last : MergingRuns T) (bytes : List ℕ) → Merges read first middle → LaysOut read choice look middle laid layout → ShowsAll read layout laid last bytes
-      → ShowsTokens read choice look first last bytes
-  shows_tokens choice look layout first middle laid last bytes merges lays shows fits = (
-    λ unread.
-        let one = merges unread in
-        let two = lays.merges one.unread in
-        goes_both first middle last one.goes (goes_both middle laid last two.goes (shows.0 two.unread)),
-    λ unread rows agrees all kept tokens counted.
-        let one = merges unread in
-        let two = lays.merges one.unread in
-        let three = shows.0 two.unread in
-        let agrees_laid = agrees_before rows laid last three agrees in
-        let kept_one : HasKept middle.kept rows all = subst (HasKept middle.kept rows) (append-nil all) (one.counts rows (agrees_before rows middle laid two.goes agrees_laid) all kept) in
-        let kept_two : HasKept laid.kept rows all = subst (HasKept laid.kept rows) (append-nil all) (two.counts rows agrees_laid all kept_one) in
-        lays.means one.unread rows agrees_laid all kept_one tokens counted bytes
-        (subst (λ (c : Choice). IsWritten c (look_in layout) tokens bytes) lays.same (shows.1 two.unread rows agrees all kept_two tokens counted)),
-  )
-
-  -- ---- runs by their rows
-
-  -- what was written is what is written of all tokens that the runs have
-  pub runs_shown : (choice : Choice) (look : Look) (old new : MergingRuns T) (bytes : List ℕ) → ShowsTokens read choice look old new bytes → ShowsRuns (HasRuns read) (IsFaithful read) choice look old new bytes
-  runs_shown choice look old new bytes shows fits (rows, agrees) runs kept tokens counts =
-      let shown = shows fits in
-      shown.1 kept.unread rows agrees runs (kept.counts rows (agrees_before rows old new (shown.0 kept.unread) agrees)) tokens counts
-
-  -- runs of which no text is kept have nothing
-  pub none_kept : (kept : MergingRuns T) → numbers_in kept.kept ≡ [] → IsFaithful read kept → HasNothing (HasRuns read) kept
-  none_kept kept none (rows, agrees) runs has_all text =
-      sym ((has_all.counts rows agrees).counts text) ∙ ap (λ (l : List ℕ). times_of rows text l + 0) none

@@ -1,6 +1,5 @@
 -- What is read of numbered texts and given to their merge.
-use Rattle.std.proofs.Common.{◌≡◌, ◌≢◌, ◌⊎◌, inl, inr, ℕ, zero, suc, ◌<◌, List, [], ◌∷◌, ◌++◌, length, get_or, set, All, Option, None, Some, refl, sym, ◌∙◌, ap, subst, arith, append_assoc}
-use Rattle.std.specs.Io.KnownBytes.{Appends}
+use Rattle.std.proofs.Common.{◌≡◌, ◌≢◌, ◌⊎◌, inl, inr, ℕ, zero, suc, ◌<◌, List, [], ◌∷◌, ◌++◌, length, get_or, set, All, refl, sym, ◌∙◌, ap, subst, arith}
 use Rattle.std.proofs.lemmas.Bool.{cases_eq}
 use Rattle.std.proofs.lemmas.List.{append-nil, get_or-map}
 use Rattle.hashbag_words_lib.specs.NumberedMerges.{IsWanted}
@@ -128,15 +127,3 @@ take_read kind read taken old new takes same has = record {
   unlike = subst (λ v. AreUnlike v.items) (sym same) has.unlike;
   given = subst (λ v. HasGivenAndTaken (read_of kind read v.items) new (taken ++ old.rows.sink.part.items)) (sym same) (takes (read_of kind read old.merge.numbers.items) taken has.given);
 }
-
--- ---- what is written
-
-pub appends_none : (known : Option (List ℕ)) → Appends known known []
-appends_none None = tt
-appends_none (Some xs) = sym (append-nil xs)
-
-pub appends_both : (a b c : Option (List ℕ)) (xs ys : List ℕ) → Appends a b xs → Appends b c ys → Appends a c (xs ++ ys)
-appends_both None b c xs ys first second = tt
-appends_both (Some as_was) None c xs ys first second = absurd first
-appends_both (Some as_was) (Some bs) None xs ys first second = absurd second
-appends_both (Some as_was) (Some bs) (Some cs) xs ys first second = second ∙ ap (λ (l : List ℕ). l ++ ys) first ∙ append_assoc as_was xs ys

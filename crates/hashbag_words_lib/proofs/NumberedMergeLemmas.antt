@@ -150,6 +150,9 @@ taken_merged kind numbers merger rows given out many merged = record {
 -- ---- the wanted text
 
 module _ (kind : SourceKind) (numbers : List ℕ) (merger : Merger) (rows : RowSource) (given : List (SourceKind × List ℕ)) (out : List (List ℕ × ℕ)) (taken : AreTaken kind numbers merger rows given out) (wanted : ℕ) where
+  within_all : length merger.sources.items ≤ length numbers
+  within_all = subst (λ n. length merger.sources.items ≤ n) taken.many taken.within
+
   -- it is merged already
   pub merging_of : (length merger.sources.items < length numbers → (wanted ≡ length merger.sources.items)) → wanted < length merger.sources.items → length merger.sources.items ≡ length given
   merging_of next low = at (cases_eq (length merger.sources.items) (length given))
@@ -157,9 +160,8 @@ module _ (kind : SourceKind) (numbers : List ℕ) (merger : Merger) (rows : RowS
       at : (length merger.sources.items ≡ length given) ⊎ (length merger.sources.items ≡ length given → ⊥) → length merger.sources.items ≡ length given
       at (inl same) = same
       at (inr other) =
-          let many : length given ≡ length numbers = taken.many in
-          let within : length merger.sources.items ≤ length given = taken.within in
-          let here : wanted ≡ length merger.sources.items = next (omega arith) in
+          let within : length merger.sources.items ≤ length numbers = within_all in
+          let here : wanted ≡ length merger.sources.items = next (omega (arith, taken.many)) in
           absurd (omega arith)
 
   -- its first row isn't known
@@ -168,17 +170,11 @@ module _ (kind : SourceKind) (numbers : List ℕ) (merger : Merger) (rows : RowS
     where
       at : (length merger.sources.items ≡ length numbers) ⊎ (length merger.sources.items ≡ length numbers → ⊥) → length merger.sources.items < length numbers
       at (inl same) = let low : wanted < length merger.sources.items = among same in absurd (omega arith)
-      at (inr other) =
-          let many : length given ≡ length numbers = taken.many in
-          let within : length merger.sources.items ≤ length given = taken.within in
-          omega arith
+      at (inr other) = omega (arith, within_all)
 
   -- the first row of each text is known
   pub all_known : length numbers ≤ length merger.sources.items → length merger.sources.items ≡ length given
-  all_known all =
-      let many : length given ≡ length numbers = taken.many in
-      let within : length merger.sources.items ≤ length given = taken.within in
-      omega arith
+  all_known all = omega (arith, taken.many, within_all)
 
 -- a text that is merged is wanted
 pub wanted_merging : (merge : NumberedMerge) → length merge.merger.sources.items ≡ length merge.numbers.items → IsOpen merge.merger.sources.items merge.wanted → IsWanted merge

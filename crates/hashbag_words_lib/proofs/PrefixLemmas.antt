@@ -1,5 +1,5 @@
 -- The first bytes of texts as numbers: those of texts in ascending order never descend.
-use Rattle.std.proofs.Common.{◌≡◌, ℕ, zero, suc, ◌+◌, ◌*◌, ◌<◌, ◌≤◌, List, [], ◌∷◌, get_or, drop, Ordering, Less, Equal, Greater, nat_cmp, refl, sym, ◌∙◌, ap, subst, arith}
+use Rattle.std.proofs.Common.{◌≡◌, ℕ, zero, suc, ◌+◌, ◌-◌, ◌*◌, ◌<◌, ◌≤◌, List, [], ◌∷◌, get_or, drop, Ordering, Less, Equal, Greater, nat_cmp, refl, sym, ◌∙◌, ap, subst, arith}
 use Rattle.std.specs.Cmp.{ranks}
 use Rattle.std.specs.Cmp.Lexicographic.{slice_cmp}
 use Rattle.std.specs.Ordering.{MatchOrdering, ordering_then}
@@ -17,6 +17,19 @@ lead_next zero n number [] = simp unary_clauses refl
 lead_next (suc i) n number [] = simp unary_clauses refl
 lead_next zero n number (byte ∷ text) = refl
 lead_next (suc i) n number (byte ∷ text) = lead_next i n number text
+
+-- one of eight bytes goes from those that are left to the number
+pub byte_moved : (text : List ℕ) (from i number byte : ℕ) → i < 8 → byte ≡ get_or text (from + i) 0 → lead (number * 256 + byte) (8 - (i + 1)) (drop (from + (i + 1)) text) ≡ lead number (8 - i) (drop (from + i) text)
+byte_moved text from i number byte low is =
+    let few : 8 - i ≡ suc (8 - (i + 1)) = omega arith in
+    let next : suc (from + i) ≡ from + (i + 1) = omega arith in
+    ap (λ b. lead (number * 256 + b) (8 - (i + 1)) (drop (from + (i + 1)) text)) is
+    ∙ ap (λ m. lead (number * 256 + get_or text (from + i) 0) (8 - (i + 1)) (drop m text)) (sym next)
+    ∙ sym (lead_next (from + i) (8 - (i + 1)) number text)
+    ∙ ap (λ n. lead number n (drop (from + i) text)) (sym few)
+
+pub bound_next : (i number byte : ℕ) → number < bound i → byte < 256 → number * 256 + byte < bound (i + 1)
+bound_next i number byte under small = let more : suc i ≡ i + 1 = omega arith in subst (λ m. number * 256 + byte < bound m) more (omega arith)
 
 -- before the eighth byte there is room for one more
 pub room : (i : ℕ) → i < 8 → bound i ≤ 72057594037927936

@@ -6,7 +6,7 @@ use Rattle.std.specs.Str.Parse.{digits_value, without_leading_plus}
 use Rattle.std.proofs.Math.Seq.{take-append_seam, drop-append-add}
 use Rattle.hashbag_words_lib.specs.Counted.{NoLineFeed}
 use Rattle.hashbag_words_lib.specs.Rows.{unescaped, IsLineOf}
-use Rattle.hashbag_words_lib.specs.Runs.{read_as, rows_in, rows_left, unmarked}
+use Rattle.hashbag_words_lib.specs.Runs.{read_as, rows_in, rows_to_come, unmarked}
 use Rattle.hashbag_words_lib.specs.Sorted.{row_of}
 use Rattle.hashbag_words_lib.specs.Sources.{Gives}
 use Rattle.hashbag_words_lib.specs.Tokens.{without_mark}
@@ -51,7 +51,7 @@ marked_line false line = line
 -- it was taken as a row
 pub gives_row : (form : RowForm) (bad_lines : BadLines) (marked : Bool) (front rest : List ℕ) (row : String Global × ℕ) → NoLineFeed front
     → (form ≡ Tsv → bad_lines ≡ Rejected → read_as (marked_line marked (strip_carriage_return front)) ≡ Some (row_of row))
-    → Gives (rows_left form bad_lines marked (front ++ 10 ∷ rest)) (Row row) (rows_left form bad_lines false rest)
+    → Gives (rows_to_come form bad_lines marked (front ++ 10 ∷ rest)) (Row row) (rows_to_come form bad_lines false rest)
 gives_row Tsv Rejected false front rest row none is = (
   rows_in rest,
   ap (filter_map read_as) (lines-cut front rest none) ∙ ap (λ (o : Option (List ℕ × ℕ)). cons_option o (rows_in rest)) (is refl refl),
@@ -66,7 +66,7 @@ gives_row Tsv Skipped marked front rest row none is = tt
 gives_row Uniq bad_lines marked front rest row none is = tt
 
 -- none is left at the end
-pub gives_end : (form : RowForm) (bad_lines : BadLines) (marked : Bool) → Gives (rows_left form bad_lines marked []) End (rows_left form bad_lines marked [])
+pub gives_end : (form : RowForm) (bad_lines : BadLines) (marked : Bool) → Gives (rows_to_come form bad_lines marked []) End (rows_to_come form bad_lines marked [])
 gives_end Tsv Rejected false = (refl, refl)
 gives_end Tsv Rejected true = (refl, refl)
 gives_end Tsv Skipped marked = tt
@@ -80,12 +80,12 @@ gives_none (Some rows) = refl
 -- ---- lines that are passed over
 
 -- of known rows none is, since bad lines are rejected
-pub none_passed : (form : RowForm) (bad_lines : BadLines) (marked : Bool) (bytes : List ℕ) → (form ≡ Tsv → bad_lines ≡ Rejected → ⊥) → IsSome (rows_left form bad_lines marked bytes) → ⊥
+pub none_passed : (form : RowForm) (bad_lines : BadLines) (marked : Bool) (bytes : List ℕ) → (form ≡ Tsv → bad_lines ≡ Rejected → ⊥) → IsSome (rows_to_come form bad_lines marked bytes) → ⊥
 none_passed Tsv Rejected marked bytes never known = never refl refl
 none_passed Tsv Skipped marked bytes never known = absurd (cc)
 none_passed Uniq bad_lines marked bytes never known = absurd (cc)
 
-pub known_refused : (form : RowForm) (bad_lines : BadLines) (marked : Bool) (bytes : List ℕ) → IsSome (rows_left form bad_lines marked bytes) → bad_lines ≡ Rejected
+pub known_refused : (form : RowForm) (bad_lines : BadLines) (marked : Bool) (bytes : List ℕ) → IsSome (rows_to_come form bad_lines marked bytes) → bad_lines ≡ Rejected
 known_refused Tsv Rejected marked bytes known = refl
 known_refused Tsv Skipped marked bytes known = absurd (cc)
 known_refused Uniq bad_lines marked bytes known = absurd (cc)

@@ -12,7 +12,7 @@ use Rattle.hashbag.proofs.JsonWriteLemmas.{once_in_walk}
 use Rattle.hashbag_ops.proofs.Sums.{count_written}
 use Rattle.hashbag_ops.specs.Order.{rank}
 use Rattle.hashbag_words_lib.specs.Bars.{bars_text}
-use Rattle.hashbag_words_lib.specs.Choice.{AreKept, IsShown}
+use Rattle.hashbag_words_lib.specs.Choice.{KeepsShown, IsShown}
 use Rattle.hashbag_words_lib.specs.Shown.{HasShown, AreShown, IsShownBars, IsShownText}
 use Rattle.hashbag_words_lib.specs.Sorted.{row_of, text_cmp}
 use Rattle.hashbag_words_lib.specs.Writing.{text_of}
@@ -44,7 +44,7 @@ ranked_rows (p ∷ pairs) up = (before_all p pairs up.0, ranked_rows pairs up.1)
 take_rows : (k : ℕ) (pairs : List (String Global × ℕ)) → map row_of (take k pairs) ≡ take k (map row_of pairs)
 take_rows k pairs = sym (take-map row_of k pairs)
 
-module _ {S : Type 0} (choice : Choice) (bag : Bag (String Global) S) (texts : List (List ℕ)) (kept : AreKept choice texts bag) where
+module _ {S : Type 0} (choice : Choice) (bag : Bag (String Global) S) (texts : List (List ℕ)) (kept : KeepsShown choice texts bag) where
   has_shown : (pairs : List (String Global × ℕ)) → IsSetWalkOf string_eq bag pairs → HasShown choice texts (map row_of pairs)
   has_shown pairs walk = record {
     once = distinct_rows pairs (once_in_walk string_eq_equiv bag pairs walk);

@@ -5,7 +5,7 @@ use Rattle.std.proofs.lemmas.Bool.{cases_eq}
 use Rattle.std.proofs.lemmas.List.{append-nil, get_or-set_same, get_or-set_other}
 use Rattle.std.proofs.lemmas.List.Elements.{All-nil, All-head, All-tail, All-push, All-set, All-from_get_or}
 use Rattle.std.proofs.lemmas.List.Sums.{sum_by-cons, sum_by-set, sum_by_push}
-use Rattle.hashbag_words_lib.specs.Sorted.{held_of, text_cmp, row_of, of_row, times_in, numbers, shown_of, AllBelow, HoldsAbove, IsAbove, IsMergeOf, IsNotBelow, Joins, Rises, SoFar, TakesLeast}
+use Rattle.hashbag_words_lib.specs.Sorted.{held_of, text_cmp, row_of, of_row, times_in, number_sum, shown_of, AllBelow, HoldsAbove, HoldsFirst, IsAbove, IsMergeOf, IsNotBelow, Joins, Rises, SoFar, TakesLeast}
 use Rattle.hashbag_words_lib.proofs.SortedLemmas.{AllBelow-later, AllBelow-push, Rises-nil, Rises-push, Rises-cons, IsNotBelow-from_above, less_from}
 
 -- ---- what is held
@@ -106,8 +106,8 @@ module _ (inputs old new : List (List (List ℕ × ℕ))) (out : List (List ℕ 
   times_left : (text : List ℕ) → sum_by (times_in text) old ≡ of_row text (row_of row) + sum_by (times_in text) new
   times_left text = sum_left old new (row_of row) took (times_in text) (of_row text) (λ r rs. sum_by-cons (of_row text) r rs)
 
-  numbers_left : sum_by numbers old ≡ row.1 + sum_by numbers new
-  numbers_left = sum_left old new (row_of row) took numbers (λ r. r.1) (λ r rs. sum_by-cons (λ (p : List ℕ × ℕ). p.1) r rs)
+  numbers_left : sum_by number_sum old ≡ row.1 + sum_by number_sum new
+  numbers_left = sum_left old new (row_of row) took number_sum (λ r. r.1) (λ r rs. sum_by-cons (λ (p : List ℕ × ℕ). p.1) r rs)
 
   first_left : All (IsNotBelow (string_bytes row.0)) new
   first_left = all_left old new (row_of row) took (IsNotBelow (string_bytes row.0)) took.least (IsNotBelow-from_above (string_bytes row.0) took.rest took.above)
@@ -120,59 +120,52 @@ module _ (inputs old new : List (List (List ℕ × ℕ))) (out : List (List ℕ 
       let nothing : get_or old took.at [] ≡ [] = none took.at [] took.within in
       absurd (cc)
 
+  -- how far the merge is after the row: what came out, and what is held then
+  so_far_then : (held next : Option (String Global × ℕ)) (after : List (List ℕ × ℕ)) → SoFar inputs old out held total → Rises after → HoldsAbove new after next → HoldsFirst new next
+      → ((text : List ℕ) → times_in text after + held_of text next ≡ times_in text out + held_of text held + of_row text (row_of row)) → All Counted after → SoFar inputs new after next (total + row.1)
+  so_far_then held next after so rises above first counts shown = record {
+    risen = λ risen. so.risen (risen_left old new (row_of row) took risen);
+    rises = rises;
+    above = above;
+    first = first;
+    sums = λ text.
+        let left : sum_by (times_in text) old ≡ of_row text (row_of row) + sum_by (times_in text) new = times_left text in
+        let more = counts text in
+        let before = so.sums text in omega arith;
+    shown = shown;
+    numbered = let left : sum_by number_sum old ≡ row.1 + sum_by number_sum new = numbers_left in let before = so.numbered in omega arith;
+  }
+
+  -- no row came out
+  none_came : (next : Option (String Global × ℕ)) → SoFar inputs new out next (total + row.1) → SoFar inputs new (out ++ []) next (total + row.1)
+  none_came next so = subst (λ (l : List (List ℕ × ℕ)). SoFar inputs new l next (total + row.1)) (sym (append-nil out)) so
+
   -- the first row of all is held
   row_first : SoFar inputs old out None total → SoFar inputs new (out ++ []) (Some row) (total + row.1)
-  row_first so = record {
-    risen = λ risen. so.risen (risen_left old new (row_of row) took risen);
-    rises = subst Rises (sym (append-nil out)) so.rises;
-    above = subst (λ (l : List (List ℕ × ℕ)). AllBelow (string_bytes row.0) (l ++ [])) (sym (none_yet so.above)) tt;
-    first = first_left;
-    sums = λ text.
-        let same : times_in text (out ++ []) ≡ times_in text out = ap (times_in text) (append-nil out) in
-        let left : sum_by (times_in text) old ≡ of_row text (row_of row) + sum_by (times_in text) new = times_left text in
-        let before = so.sums text in omega arith;
-    shown = subst (All Counted) (sym (append-nil out)) so.shown;
-    numbered = let left : sum_by numbers old ≡ row.1 + sum_by numbers new = numbers_left in let before = so.numbered in omega arith;
-  }
+  row_first so =
+      none_came (Some row) (so_far_then None (Some row) out so so.rises (subst (AllBelow (string_bytes row.0)) (sym (none_yet so.above)) tt) first_left (λ text. omega arith) so.shown)
 
   -- a row with the token of the one that is held
   row_same : (held : String Global × ℕ) → string_eq held.0 row.0 ≡ true → SoFar inputs old out (Some held) total → SoFar inputs new (out ++ []) (Some (held.0, held.1 + row.1)) (total + row.1)
   row_same held is so =
       let one : string_bytes held.0 ≡ string_bytes row.0 = (bytes_decides (string_bytes held.0) (string_bytes row.0)).0 is in
-      record {
-        risen = λ risen. so.risen (risen_left old new (row_of row) took risen);
-        rises = subst Rises (sym (append-nil out)) so.rises;
-        above = subst (AllBelow (string_bytes held.0)) (sym (append-nil out)) so.above;
-        first = all_left old new (row_of row) took (IsNotBelow (string_bytes held.0)) so.first
-            (IsNotBelow-from_above (string_bytes held.0) took.rest (subst (λ (t : List ℕ). IsAbove t took.rest) (sym one) took.above));
-        sums = λ text.
-            let same : times_in text (out ++ []) ≡ times_in text out = ap (times_in text) (append-nil out) in
-            let left : sum_by (times_in text) old ≡ of_row text (row_of row) + sum_by (times_in text) new = times_left text in
-            let here : of_row text (row_of row) ≡ of_row text (string_bytes held.0, row.1) = ap (λ (t : List ℕ). of_row text (t, row.1)) (sym one) in
-            let both : of_row text (string_bytes held.0, held.1 + row.1) ≡ of_row text (string_bytes held.0, held.1) + of_row text (string_bytes held.0, row.1) =
-            both_of (bytes_eq text (string_bytes held.0)) held.1 row.1 in
-            let before = so.sums text in omega arith;
-        shown = subst (All Counted) (sym (append-nil out)) so.shown;
-        numbered = let left : sum_by numbers old ≡ row.1 + sum_by numbers new = numbers_left in let before = so.numbered in omega arith;
-      }
+      none_came (Some (held.0, held.1 + row.1)) (so_far_then (Some held) (Some (held.0, held.1 + row.1)) out so so.rises so.above
+      (all_left old new (row_of row) took (IsNotBelow (string_bytes held.0)) so.first
+      (IsNotBelow-from_above (string_bytes held.0) took.rest (subst (λ (t : List ℕ). IsAbove t took.rest) (sym one) took.above)))
+      (λ text.
+      let here : of_row text (row_of row) ≡ of_row text (string_bytes held.0, row.1) = ap (λ (t : List ℕ). of_row text (t, row.1)) (sym one) in
+      let both : of_row text (string_bytes held.0, held.1 + row.1) ≡ of_row text (string_bytes held.0, held.1) + of_row text (string_bytes held.0, row.1) =
+      both_of (bytes_eq text (string_bytes held.0)) held.1 row.1 in
+      omega arith)
+      so.shown)
 
   -- a row with a later token
   row_later : (held : String Global × ℕ) → string_eq held.0 row.0 ≡ false → SoFar inputs old out (Some held) total → SoFar inputs new (out ++ shown_of (Some held)) (Some row) (total + row.1)
   row_later held apart so =
       let first : IsNotBelow (string_bytes held.0) (row_of row ∷ took.rest) = subst (IsNotBelow (string_bytes held.0)) took.was (so.first took.at [] took.within) in
       let up : text_cmp (string_bytes held.0) (string_bytes row.0) ≡ Less = less_from (string_bytes held.0) (string_bytes row.0) first apart in
-      record {
-        risen = λ risen. so.risen (risen_left old new (row_of row) took risen);
-        rises = shown_rises old out (Some held) so.rises so.above;
-        above = shown_below (string_bytes row.0) out held so.above up;
-        first = first_left;
-        sums = λ text.
-            let put : times_in text (out ++ shown_of (Some held)) ≡ times_in text out + of_row text (row_of held) = shown_sum text out (Some held) in
-            let left : sum_by (times_in text) old ≡ of_row text (row_of row) + sum_by (times_in text) new = times_left text in
-            let before = so.sums text in omega arith;
-        shown = shown_all out (Some held) so.shown;
-        numbered = let left : sum_by numbers old ≡ row.1 + sum_by numbers new = numbers_left in let before = so.numbered in omega arith;
-      }
+      so_far_then (Some held) (Some row) (out ++ shown_of (Some held)) so (shown_rises old out (Some held) so.rises so.above) (shown_below (string_bytes row.0) out held so.above up) first_left
+      (λ text. ap (λ (n : ℕ). n + of_row text (row_of row)) (shown_sum text out (Some held))) (shown_all out (Some held) so.shown)
 
   pub so_far_more : (held put next : Option (String Global × ℕ)) → Joins held row put next → SoFar inputs old out held total → SoFar inputs new (out ++ shown_of put) next (total + row.1)
   so_far_more None put next joins so =
@@ -209,21 +202,22 @@ so_far_over inputs rows out held total none so = record {
 
 -- then the total is what all inputs count
 pub total_done : (inputs rows : List (List (List ℕ × ℕ))) (out : List (List ℕ × ℕ)) (held : Option (String Global × ℕ)) (total : ℕ) → All (λ r. r ≡ []) rows
-    → SoFar inputs rows out held total → total ≡ sum_by numbers inputs
+    → SoFar inputs rows out held total → total ≡ sum_by number_sum inputs
 total_done inputs rows out held total none so =
-    let left : sum_by numbers rows ≡ 0 = sum_of_none numbers refl rows none in
+    let left : sum_by number_sum rows ≡ 0 = sum_of_none number_sum refl rows none in
     let before = so.numbered in
     omega arith
 
 pub so_far_done : (inputs rows : List (List (List ℕ × ℕ))) (out : List (List ℕ × ℕ)) (held : Option (String Global × ℕ)) (total : ℕ) → total < 2 ^ 64 → All (λ r. r ≡ []) rows
     → SoFar inputs rows out held total → IsMergeOf inputs (out ++ shown_of held)
-so_far_done inputs rows out held total fits none so = record {
-  risen = so.risen (λ k d lt. subst Rises (sym (none k d lt)) Rises-nil);
-  rises = shown_rises rows out held so.rises so.above;
-  sums = λ text.
-      let put : times_in text (out ++ shown_of held) ≡ times_in text out + held_of text held = shown_sum text out held in
-      let left : sum_by (times_in text) rows ≡ 0 = sum_of_none (times_in text) refl rows none in
-      let before = so.sums text in omega arith;
-  shown = shown_all out held so.shown;
-  fits = subst (λ (n : ℕ). n < 2 ^ 64) (total_done inputs rows out held total none so) fits;
-}
+so_far_done inputs rows out held total fits none so =
+    let over = so_far_over inputs rows out held total none so in
+    record {
+      risen = so.risen (λ k d lt. subst Rises (sym (none k d lt)) Rises-nil);
+      rises = over.rises;
+      sums = λ text.
+          let left : sum_by (times_in text) rows ≡ 0 = sum_of_none (times_in text) refl rows none in
+          let all : times_in text (out ++ shown_of held) + 0 + sum_by (times_in text) rows ≡ sum_by (times_in text) inputs = over.sums text in omega arith;
+      shown = over.shown;
+      fits = subst (λ (n : ℕ). n < 2 ^ 64) (total_done inputs rows out held total none so) fits;
+    }

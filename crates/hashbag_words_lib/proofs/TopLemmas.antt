@@ -89,13 +89,17 @@ ranked_rises (x ∷ rows) = placed_rises x (ranked rows) (ranked_rises rows)
 abbrev earlier : Row → Row → ℕ
 earlier y z = if lt z y then 1 else 0
 
-none_earlier : (y : Row) (ys : List Row) → AllByRecursion (λ z. lt z y ≡ false) ys → sum_by (earlier y) ys ≡ 0
-none_earlier y [] all = refl
-none_earlier y (z ∷ ys) all =
-    let first : earlier y z ≡ 0 = ap (λ (b : Bool). if b then 1 else 0) all.0 in
-    let rest : sum_by (earlier y) ys ≡ 0 = none_earlier y ys all.1 in
-    let sum = sum_by-cons (earlier y) z ys in
+none_passes : (passes : Row → Bool) (ys : List Row) → AllByRecursion (λ z. passes z ≡ false) ys → sum_by (λ z. if passes z then 1 else 0) ys ≡ 0
+none_passes passes [] all = refl
+none_passes passes (z ∷ ys) all =
+    let one : Row → ℕ = λ y. if passes y then 1 else 0 in
+    let first : one z ≡ 0 = ap (λ (b : Bool). if b then 1 else 0) all.0 in
+    let rest : sum_by one ys ≡ 0 = none_passes passes ys all.1 in
+    let sum = sum_by-cons one z ys in
     omega arith
+
+none_earlier : (y : Row) (ys : List Row) → AllByRecursion (λ z. lt z y ≡ false) ys → sum_by (earlier y) ys ≡ 0
+none_earlier y ys all = none_passes (λ z. lt z y) ys all
 
 head_no_earlier : (x y : Row) (xs : List Row) → earlier y x + sum_by (earlier y) xs ≡ 0 → lt x y ≡ false
 head_no_earlier x y xs none = at (lt x y) refl none
@@ -128,12 +132,7 @@ abbrev later_than : Row → Row → ℕ
 later_than r h = if lt r h then 1 else 0
 
 none_later : (r : Row) (hs : List Row) → AllByRecursion (λ h. lt r h ≡ false) hs → sum_by (later_than r) hs ≡ 0
-none_later r [] all = refl
-none_later r (h ∷ hs) all =
-    let first : later_than r h ≡ 0 = ap (λ (b : Bool). if b then 1 else 0) all.0 in
-    let rest : sum_by (later_than r) hs ≡ 0 = none_later r hs all.1 in
-    let sum = sum_by-cons (later_than r) h hs in
-    omega arith
+none_later r hs all = none_passes (λ h. lt r h) hs all
 
 all_not_later : (r : Row) (hs : List Row) → sum_by (later_than r) hs ≡ 0 → AllByRecursion (λ h. lt r h ≡ false) hs
 all_not_later r [] none = tt

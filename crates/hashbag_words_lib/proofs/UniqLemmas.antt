@@ -4,7 +4,7 @@ use Rattle.std.specs.Borrow.{Bor}
 use Rattle.std.proofs.lemmas.Fmt.{decimal_is_IsNumeral}
 use Rattle.std.proofs.lemmas.List.Elements.{All-get_or}
 use Rattle.std.proofs.lemmas.Str.Pattern.{IsSplitOnceResult, split_after}
-use Rattle.hashbag_words_lib.specs.Rows.{AreSpaces, IsWritten}
+use Rattle.hashbag_words_lib.specs.Rows.{AreSpaces, IsRowText}
 use Rattle.hashbag_words_lib.specs.declared.rows.RowForm.TheVariants.{Uniq}
 use Rattle.hashbag_words_lib.proofs.RowLemmas.{no_digit}
 
@@ -33,7 +33,7 @@ begins (x ∷ xs) ys some = refl
 
 -- what is behind the spaces is split at the space behind the count
 pub split_uniq : (r : Option (Bor (List ℕ) × Bor (List ℕ))) (line spaces past token : List ℕ) (count : ℕ) → IsSplitOnceResult 32 past r → AreSpaces spaces → line ≡ spaces ++ past → get_or past 0 0 ≢ 32
-    → count < 2 ^ 64 → IsWritten Uniq line token count → MatchOption r ⊥ (λ x. (x.0.now ≡ decimal count) × (x.1.now ≡ token))
+    → count < 2 ^ 64 → IsRowText Uniq line token count → MatchOption r ⊥ (λ x. (x.0.now ≡ decimal count) × (x.1.now ≡ token))
 split_uniq r line spaces past token count h blank parts first fits is =
     let some = (decimal_is_IsNumeral count fits).0.0 in
     let other : get_or (decimal count ++ 32 ∷ token) 0 0 ≢ 32 = λ e. no_space count fits 0 some (sym (begins (decimal count) (32 ∷ token) some) ∙ e) in

@@ -42,7 +42,7 @@ AddsRows old new rows = (text : List ℕ) → count bytes_eq text (texts_in new)
 abbrev pub HaveRows : {S : Type 0} → List (List (List ℕ × ℕ)) → Bag (String Global) S → List (List ℕ × ℕ) → Type 0
 HaveRows runs bag rows = (text : List ℕ) → count bytes_eq text (texts_in bag) + sum_by (times_in text) runs ≡ times_in text rows
 
--- `text` is `ended`, its ended lines, and then `partial`. The bag and the runs have the rows of `before` and those of `ended`
+-- `text` is `ended`, its ended lines, and then `partial`. The bag and the runs have the rows of `before` and the rows of `ended`
 pub record Added {S : Type 0} (form : RowForm) (before : List (List ℕ × ℕ)) (runs : List (List (List ℕ × ℕ))) (bag : Bag (String Global) S) (partial : List ℕ) (reading : LinesRead) (text : List ℕ) : Type 0 where
   pub ended : List ℕ
   pub cut : text ≡ ended ++ partial
@@ -53,7 +53,7 @@ pub record Added {S : Type 0} (form : RowForm) (before : List (List ℕ × ℕ))
   pub counts : HaveRows runs bag (before ++ rows)
   pub line : reading.line ≡ min (length (lines ended)) (2 ^ 64 - 1)
 
--- the counter has added the rows `before` and then this text so far; `runs` were written of what it added
+-- the counter has added the rows `before` and then this text so far; `runs` are the runs of its bag that were written
 abbrev pub HasAdded : {S H : Type 0} → List (List ℕ × ℕ) → List (List (List ℕ × ℕ)) → RowCounter S H → List ℕ → Type 0
 HasAdded before runs counter text = Added counter.form before runs counter.bag counter.partial.items counter.reading text
 
@@ -67,13 +67,13 @@ pub record AreRowsOf (form : RowForm) (bad_lines : BadLines) (text : List ℕ) (
   pub read : AreReadAs form bad_lines (unmarked (lines ended)) rows
   pub whole : bad_lines ≡ Rejected → rest ≡ []
 
--- the counter has added the rows `before` and then this whole file; `runs` were written of what it added
+-- the counter has added the rows `before` and then this whole file; `runs` are the runs of its bag that were written
 abbrev pub HasAddedAll : {S H : Type 0} → List (List ℕ × ℕ) → List (List (List ℕ × ℕ)) → BadLines → List ℕ → RowCounter S H → Type 0
 HasAddedAll before runs bad_lines text counter =
     (rows : List (List ℕ × ℕ)) × AreRowsOf counter.form bad_lines text rows × HaveRows runs counter.bag (before ++ rows)
 
--- the counter has added the rows `before` and then this whole file, and the next bytes are those of another file; `runs` were written of
--- what it added
+-- the counter has added the rows `before` and then this whole file, and the next bytes are of another file; `runs` are the runs of its bag that were
+-- written
 abbrev pub HasEndedFile : {S H : Type 0} → List (List ℕ × ℕ) → List (List (List ℕ × ℕ)) → BadLines → List ℕ → RowCounter S H → Type 0
 HasEndedFile before runs bad_lines text counter =
     (rows : List (List ℕ × ℕ)) × AreRowsOf counter.form bad_lines text rows × HasAdded (before ++ rows) runs counter []
@@ -94,6 +94,10 @@ pub record IsFirstNoRow (form : RowForm) (text : List ℕ) (reading : LinesRead)
 abbrev pub AddsRowsOfLine : {S : Type 0} → Bag (String Global) S → Bag (String Global) S → RowForm → LinesRead → List ℕ → Type 0
 AddsRowsOfLine old new form reading line =
     (rows : List (List ℕ × ℕ)) × IsReadAs form reading.bad_lines (line_at reading.line line) rows × AddsRows old new rows
+
+-- the line is no row in this form, and bad lines are rejected
+abbrev pub RejectsLine : RowForm → LinesRead → List ℕ → Type 0
+RejectsLine form reading line = (reading.bad_lines ≡ Rejected) × IsNoRow form (line_at reading.line line)
 
 -- ---- what a call changes, for any rows that were added before, any runs that were written, and any text of the file so far
 

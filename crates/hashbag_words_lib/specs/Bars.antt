@@ -28,7 +28,7 @@ abbrev pub fitting : ℕ → List ℕ → ℕ
 fitting n [] = 0
 fitting n (c ∷ cs) = if nat_le (columns_of c) n then 1 + fitting (n - columns_of c) cs else 0
 
--- a name in n columns: all of it if it fits, else as many of its characters as leave a column, and then `…`
+-- a name in n columns: the whole name if it fits, else the characters that fit into n - 1 columns, and then `…`
 abbrev pub cut : ℕ → List ℕ → List ℕ
 cut n name = if fitting n name == length name then name else take (fitting (n - 1) name) name ++ 0x2026 ∷ []
 
@@ -38,8 +38,8 @@ name_text n name = encode_utf8_all (cut n name) ++ replicate (n - columns (cut n
 
 -- ---- bars
 
--- how many marks the bar of a count has. The greatest count has `room` marks, and any other count its share of them, rounded to the nearest
--- number and up from the middle, but at least one: in 40 columns 1 of 3 has 13, 2 of 3 have 27, and 1 of 1000 has 1
+-- how many marks the bar of a count has. The greatest count has `room` marks, and any other count its share of them, rounded to the nearest number,
+-- halves up, but at least one: in 40 columns 1 of 3 has 13, 2 of 3 have 27, and 1 of 1000 has 1
 abbrev pub marks_of : ℕ → ℕ → ℕ → ℕ
 marks_of room greatest count = if count == 0 then 0 else min (max (rounded (room * count) greatest) 1) room
 

@@ -17,6 +17,6 @@ begun_in reader = option_map (λ input. (input.name.now, input.read)) reader.«o
 abbrev pub last_in : {F : Type 0} → BlockReader F → List ℕ
 last_in reader = take reader.n reader.block.items
 
--- a reader has read a block more
+-- a reader has read one more block
 abbrev pub ReadsNext : {F : Type 0} → BlockReader F → BlockReader F → Type 0
 ReadsNext old new = ReadsBlock (begun_in old) (ended_in old) (last_in new) (begun_in new) (ended_in new)

@@ -16,8 +16,8 @@ use Rattle.hashbag_words_lib.specs.declared.choice.Choice.{Choice}
 use Rattle.hashbag_words_lib.specs.declared.choice.Order.{Order}
 use Rattle.hashbag_words_lib.specs.declared.choice.Order.TheVariants.{Ascending, Unordered, MostCommon}
 
--- these pairs are shown of the bag: each text once, with its count, in ascending order of bytes or in no particular order; or the first k
--- of these pairs, the most common first
+-- these pairs of the bag are shown. Each text is there once, with its count, in ascending order of bytes or in no particular order; or only the first
+-- k of these pairs are there, the most common first
 abbrev pub IsShown : {S : Type 0} → Order → Bag (String Global) S → List (String Global × ℕ) → Type 0
 IsShown Ascending bag pairs = IsSetWalkOf string_eq bag pairs × IsStrictlySortedBy string_cmp (keys_of pairs)
 IsShown Unordered bag pairs = IsSetWalkOf string_eq bag pairs
@@ -29,8 +29,8 @@ abbrev pub is_excepted : {S : Type 0} → Option (Bor (Bag (String Global) S)) �
 is_excepted None text = false
 is_excepted (Some bag) text = nat_lt 0 (count bytes_eq text (texts_in bag.now))
 
--- a row is shown: its count and the number of its token's characters aren't below the least ones, the shard, if there is one, has the
--- token, and the token isn't excepted
+-- whether a row is shown: its count is at least `least`, its token has at least `shortest` characters, the token is in the shard if there is a shard,
+-- and the token isn't excepted
 abbrev pub shows : Choice → List ℕ × ℕ → Bool
 shows choice row =
     nat_le choice.least row.1 && nat_le choice.shortest (length (chars row.0)) && is_shown choice.shard row.0 && not (is_excepted choice.except row.0)
@@ -40,5 +40,5 @@ abbrev pub shown_count : Choice → List ℕ → ℕ → ℕ
 shown_count choice text n = if shows choice (text, n) then n else 0
 
 -- the bag has each shown text of the list as often as the list has it, and no other text
-abbrev pub AreKept : {S : Type 0} → Choice → List (List ℕ) → Bag (String Global) S → Type 0
-AreKept choice texts bag = (text : List ℕ) → count bytes_eq text (texts_in bag) ≡ shown_count choice text (count bytes_eq text texts)
+abbrev pub KeepsShown : {S : Type 0} → Choice → List (List ℕ) → Bag (String Global) S → Type 0
+KeepsShown choice texts bag = (text : List ℕ) → count bytes_eq text (texts_in bag) ≡ shown_count choice text (count bytes_eq text texts)

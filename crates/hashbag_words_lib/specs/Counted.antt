@@ -29,6 +29,14 @@ how_many test texts = length (filter test texts)
 abbrev pub NoneIsBad : Rule → List (List ℕ) → Type 0
 NoneIsBad rule texts = All (λ line. is_bad rule line ≡ false) texts
 
+-- one line more was skipped, up to `u64::MAX`
+abbrev pub SkipsLine : LinesRead → LinesRead → Type 0
+SkipsLine old new = new.skipped ≡ min (old.skipped + 1) (2 ^ 64 - 1)
+
+-- the bytes of one line more were replaced, up to `u64::MAX`
+abbrev pub ReplacesLine : LinesRead → LinesRead → Type 0
+ReplacesLine old new = new.replaced ≡ min (old.replaced + 1) (2 ^ 64 - 1)
+
 -- the line that was read last is the first bad line of the text, and bad lines are rejected
 pub record IsFirstBad (rule : Rule) (text : List ℕ) (reading : LinesRead) : Type 0 where
   pub front : List (List ℕ)
@@ -44,8 +52,8 @@ pub record IsFirstBad (rule : Rule) (text : List ℕ) (reading : LinesRead) : Ty
 abbrev pub HaveTogether : {S : Type 0} → List (List (List ℕ × ℕ)) → Bag (String Global) S → List (List ℕ) → Type 0
 HaveTogether runs bag tokens = (text : List ℕ) → count bytes_eq text (texts_in bag) + sum_by (times_in text) runs ≡ count bytes_eq text tokens
 
--- `text` is `ended`, its ended lines, and then `partial`. The bag and the runs have the tokens of `ended` and `before`, the tokens of
--- earlier texts
+-- `text` is `ended`, its ended lines, and then `partial`. The bag and the runs have the tokens `before`, which are of earlier texts, and the tokens
+-- of `ended`
 pub record Counted {S : Type 0} (rule : Rule) (before : List (List ℕ)) (runs : List (List (List ℕ × ℕ))) (bag : Bag (String Global) S) (partial : List ℕ) (reading : LinesRead) (text : List ℕ) : Type 0 where
   pub ended : List ℕ
   pub cut : text ≡ ended ++ partial
@@ -57,7 +65,7 @@ pub record Counted {S : Type 0} (rule : Rule) (before : List (List ℕ)) (runs :
   pub replaced : reading.replaced ≡ min (how_many (is_replaced rule) (lines ended)) (2 ^ 64 - 1)
   pub passed : reading.bad_lines ≡ Rejected → NoneIsBad rule (lines ended)
 
--- the counter has counted the tokens `before` and then this text so far; `runs` were written of what it counted
+-- the counter has counted the tokens `before` and then this text so far; `runs` are the runs of its bag that were written
 abbrev pub HasCounted : {S H : Type 0} → List (List ℕ) → List (List (List ℕ × ℕ)) → TextCounter S H → List ℕ → Type 0
 HasCounted before runs counter text = Counted counter.rule before runs counter.bag counter.partial.items counter.reading text
 
@@ -68,7 +76,7 @@ pub record IsReadingOf (rule : Rule) (text : List ℕ) (reading : LinesRead) : T
   pub replaced : reading.replaced ≡ min (how_many (is_replaced rule) (lines text)) (2 ^ 64 - 1)
   pub passed : reading.bad_lines ≡ Rejected → NoneIsBad rule (lines text)
 
--- the counter has counted the tokens `before` and then this whole text; `runs` were written of what it counted
+-- the counter has counted the tokens `before` and then this whole text; `runs` are the runs of its bag that were written
 abbrev pub HasEnded : {S H : Type 0} → Rule → List (List ℕ) → List (List (List ℕ × ℕ)) → TextCounter S H → List ℕ → Type 0
 HasEnded rule before runs counter text = HaveTogether runs counter.bag (before ++ tokens_of rule text) × IsReadingOf rule text counter.reading
 

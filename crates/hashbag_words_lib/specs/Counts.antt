@@ -16,6 +16,10 @@ texts_in bag = map string_bytes bag.items
 abbrev pub AddsTexts : {S : Type 0} → Bag (String Global) S → Bag (String Global) S → List (List ℕ) → Type 0
 AddsTexts old new texts = (text : List ℕ) → count bytes_eq text (texts_in new) ≡ count bytes_eq text (texts_in old) + count bytes_eq text texts
 
+-- the same for pieces, each of which is counted as its token
+abbrev pub AddsTokens : {S : Type 0} → Bool → Bag (String Global) S → Bag (String Global) S → List (List ℕ) → Type 0
+AddsTokens fold old new pieces = AddsTexts old new (map (token_of fold) pieces)
+
 -- all pieces that an iterator gave were added, each as its token
 abbrev pub AddsPieces : {I S : Type 0} → Bool → (I → Option (Bor (List ℕ)) → I → Type 0) → I → Bag (String Global) S → Bag (String Global) S → Type 0
 AddsPieces fold steps pieces old new = (came : List (Bor (List ℕ))) × Drains steps pieces came × AddsTexts old new (map (λ piece. token_of fold piece.now) came)

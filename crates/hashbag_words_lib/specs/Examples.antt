@@ -27,7 +27,7 @@ no_text = (255 ∷ [], 1) ∷ []
 no_text_counts : times_in (255 ∷ []) no_text ≡ 1
 no_text_counts = refl
 
--- a row of no text is no run of an empty bag
+-- a row whose token isn't UTF-8 isn't a run of an empty bag
 pub no_text_is_no_run : {S : Type 0} (bag : Bag (String Global) S) → bag.items ≡ [] → IsRunOf bag no_text → ⊥
 no_text_is_no_run bag none h =
     false≢true (sym (ap (λ (n : ℕ). n == 1) (h.counts (255 ∷ []) ∙ ap (λ (items : List (String Global)). count bytes_eq (255 ∷ []) (map string_bytes items)) none)))
@@ -80,10 +80,11 @@ two_decimals_are_written = refl
 bad_escape : ReadsByte 120 [] true [] None
 bad_escape rest = refl
 
--- one of three, two of three, all and none; one of a thousand has a mark, and a half of one is rounded up
+-- one of three, two of three, all and none
 bars_are_shares : (marks_of 40 3 1 ≡ 13) × (marks_of 40 3 2 ≡ 27) × (marks_of 40 3 3 ≡ 40) × (marks_of 40 3 0 ≡ 0)
 bars_are_shares = (refl, refl, refl, refl)
 
+-- one of a thousand gets one mark, and one and a half marks are rounded up
 bars_are_rounded_half_up : (marks_of 40 1000 1 ≡ 1) × (marks_of 40 80 3 ≡ 2) × (marks_of 40 81 3 ≡ 1)
 bars_are_rounded_half_up = (refl, refl, refl)
 

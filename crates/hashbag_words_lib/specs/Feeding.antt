@@ -1,4 +1,4 @@
--- What a counter has of texts that are fed in blocks, together with the runs that were kept of its bag.
+-- What a counter and the runs of its bag together have of texts that are fed in blocks.
 use mathlib.Core.Logic.{inl, inr}
 use Rattle.std.specs.Prelude.{◌≡◌, ◌⊎◌, ℕ, List, [], ◌∷◌, ◌++◌, flat_map, sum_by, Option, None, Some}
 use Rattle.hashbag_words_lib.specs.Added.{AreRowsOf, HasAdded}
@@ -40,7 +40,7 @@ abbrev pub HasAddedTexts : {S H : Type 0} → How → RowCounter S H → List (L
 HasAddedTexts (inl rule) counter runs texts text = ⊥
 HasAddedTexts (inr lines) counter runs texts text = HasAddedRows lines.0 lines.1 counter runs texts text
 
--- ---- what a call changes: it holds of whatever runs were made, whatever texts ended, and whatever text has begun. `has` says what a counter has
+-- ---- what a call changes, for any runs so far, any texts that ended, and any text that has begun. `has` says what a counter has
 
 module _ {C : Type 0} (has : How → C → List (List (List ℕ × ℕ)) → List (List ℕ) → List ℕ → Type 0) where
   -- the new counter has what the old one had
@@ -63,7 +63,7 @@ module _ {C : Type 0} (has : How → C → List (List (List ℕ × ℕ)) → Lis
   KeepsRun old new rows =
       (how : How) → (runs : List (List (List ℕ × ℕ))) → (texts : List (List ℕ)) → (text : List ℕ) → has how old runs texts text → has how new (runs ++ rows ∷ []) texts text
 
--- ---- the runs that were kept. `kept` says of runs, each as its rows, that they were kept
+-- ---- the runs that were kept. `kept keeper runs`: the keeper has kept these runs. Each run is given as its rows
 
 module _ {R : Type 0} (kept : R → List (List (List ℕ × ℕ)) → Type 0) where
   -- these runs were kept; none, if nothing keeps runs
@@ -79,7 +79,7 @@ module _ {R : Type 0} (kept : R → List (List (List ℕ × ℕ)) → Type 0) wh
   abbrev pub KeepsRows : R → R → List (List ℕ × ℕ) → Type 0
   KeepsRows old new rows = (runs : List (List (List ℕ × ℕ))) → kept old runs → kept new (runs ++ rows ∷ [])
 
--- ---- a counter and what keeps its runs, if something does, together: how runs were cut doesn't matter
+-- ---- a counter together with the keeper of its runs, if there is one. Where the runs were cut doesn't matter
 
 module _ {C R : Type 0} (has : How → C → List (List (List ℕ × ℕ)) → List (List ℕ) → List ℕ → Type 0) (kept : R → List (List (List ℕ × ℕ)) → Type 0) where
   -- the counter and the runs that were kept have together what is counted of these texts
@@ -89,7 +89,7 @@ module _ {C R : Type 0} (has : How → C → List (List (List ℕ × ℕ)) → L
     pub counted : has how counter runs texts text
 
   module _ (old new : C) (keeper keeper' : Option R) where
-    -- what they had together they have together
+    -- together, they count what they counted before
     abbrev pub HaveStill : Type 0
     HaveStill = (how : How) → (texts : List (List ℕ)) → (text : List ℕ) → HaveCounted how old keeper texts text → HaveCounted how new keeper' texts text
 

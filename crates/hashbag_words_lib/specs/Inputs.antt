@@ -2,10 +2,11 @@
 use Rattle.std.specs.Prelude.{◌≡◌, ℕ, List, [], ◌∷◌, ◌++◌, map, Option, None, Some, ⊤}
 use Rattle.std.specs.Borrow.{Bor}
 use Rattle.hashbag_text.specs.Decoders.{left_of}
-use Rattle.hashbag_text.specs.Encodings.{behind, text_in}
+use Rattle.hashbag_text.specs.Encodings.{after_bytes, text_in}
 use Rattle.hashbag_text.specs.declared.decoder.Decoder.{Decoder}
 use Rattle.hashbag_text.specs.declared.encoding.Encoding.{Encoding}
 use Rattle.hashbag_words_lib.specs.Feeding.{CountsTexts, Feeds, How}
+use Rattle.hashbag_words_lib.specs.declared.inputs.Decoding.{Decoding}
 
 -- ---- reading. An input is its name and its bytes
 
@@ -15,16 +16,22 @@ ReadsBlock None before block begun after = ⊤
 ReadsBlock (Some input) before [] begun after = after ≡ before ++ input ∷ []
 ReadsBlock (Some input) before (byte ∷ bytes) begun after = (begun ≡ Some (input.0, input.1 ++ byte ∷ bytes)) × (after ≡ before)
 
--- the text of what a decoder keeps and of these bytes; without a decoder the bytes are the text
+-- the same for a reader of inputs: `ended` has the inputs that were read to their ends, `begun` what was read of the open input, and `last` the last
+-- block
+abbrev pub ReadsNextBlock : {B : Type 0} → (B → List (List ℕ × List ℕ)) → (B → Option (List ℕ × List ℕ)) → (B → List ℕ) → B → B → Type 0
+ReadsNextBlock ended begun last old new = ReadsBlock (begun old) (ended old) (last new) (begun new) (ended new)
+
+-- the text that a decoder makes of the bytes that it keeps and of these bytes; without a decoder the bytes are the text
 abbrev pub text_left : Option Decoder → List ℕ → Option (List ℕ)
 text_left None bytes = Some bytes
 text_left (Some decoder) bytes = left_of decoder bytes
 
--- the block brings this text, whatever bytes come behind it
+-- the decoder turns the block into this text, whatever bytes follow
 abbrev pub Decodes : Option Decoder → List ℕ → List ℕ → Option Decoder → Type 0
-Decodes old block text new = (bytes : List ℕ) → text_left old (block ++ bytes) ≡ behind text (text_left new bytes)
+Decodes old block text new = (bytes : List ℕ) → text_left old (block ++ bytes) ≡ after_bytes text (text_left new bytes)
 
--- the inputs of these names were read to their ends, in order, and these are their texts. `before` and `after`: what was read to its end
+-- the inputs of these names were read to their ends, in order, and these are their texts. `before` and `after`: the inputs that had been read to
+-- their ends, before that and after it
 pub record AreRead (encoding : Option Encoding) (names : List (Bor (List ℕ))) (before after : List (List ℕ × List ℕ)) (texts : List (List ℕ)) : Type 0 where
   pub inputs : List (List ℕ × List ℕ)
   pub named : map (λ (input : List ℕ × List ℕ). input.0) inputs ≡ map (λ (name : Bor (List ℕ)). name.now) names
@@ -34,11 +41,15 @@ pub record AreRead (encoding : Option Encoding) (names : List (Bor (List ℕ))) 
 -- ---- counting. `has` says what a counter has, `kept` which runs were kept, and `ended` which inputs were read to their ends
 
 module _ {C R : Type 0} (has : How → C → List (List (List ℕ × ℕ)) → List (List ℕ) → List ℕ → Type 0) (kept : R → List (List (List ℕ × ℕ)) → Type 0) where
-  -- the counter was fed the text that a block brings
+  -- the counter was fed the text that the decoder makes of a block
   pub record FeedsNext (old new : C) (keeper keeper' : Option R) (decoder : Option Decoder) (block : List ℕ) (decoder' : Option Decoder) : Type 0 where
     pub text : List ℕ
     pub decodes : Decodes decoder block text decoder'
     pub feeds : Feeds has kept old new keeper keeper' text
+
+  -- the same for two states of a decoding
+  abbrev pub FeedsBlock : C → C → Option R → Option R → Decoding → List ℕ → Decoding → Type 0
+  FeedsBlock old new keeper keeper' from block to = FeedsNext old new keeper keeper' from.decoder block to.decoder
 
   module _ {B : Type 0} (ended : B → List (List ℕ × List ℕ)) (encoding : Option Encoding) where
     -- an input was read to its end, and the counter was fed its text

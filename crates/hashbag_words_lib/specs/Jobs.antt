@@ -8,30 +8,31 @@ use Rattle.hashbag_words_lib.specs.Added.{HaveRows}
 use Rattle.hashbag_words_lib.specs.Counted.{HaveTogether}
 use Rattle.hashbag_words_lib.specs.Feeding.{AreKeptIn, AreRowsOfAll}
 use Rattle.hashbag_words_lib.specs.Inputs.{AreRead}
-use Rattle.hashbag_words_lib.specs.MergingRuns.{bytes_in, FitsOrder}
-use Rattle.hashbag_words_lib.specs.Shown.{bytes_of, CountTexts, IsWritten}
+use Rattle.hashbag_words_lib.specs.MergingRuns.{bytes_in, FitsOrder, HasRuns, IsFaithful}
+use Rattle.hashbag_words_lib.specs.Shown.{shown_bytes, CountTexts, ShowsTexts}
 use Rattle.hashbag_words_lib.specs.Tokens.{tokens_of}
 use Rattle.hashbag_words_lib.specs.declared.choice.Choice.{Choice}
 use Rattle.hashbag_words_lib.specs.declared.jobs.Made.{Made}
 use Rattle.hashbag_words_lib.specs.declared.jobs.Made.TheVariants.{OfBag, OfRuns}
 use Rattle.hashbag_words_lib.specs.declared.lines.BadLines.{BadLines}
+use Rattle.hashbag_words_lib.specs.declared.merging_runs.MergingRuns.{MergingRuns}
 use Rattle.hashbag_words_lib.specs.declared.rows.RowForm.{RowForm}
 use Rattle.hashbag_words_lib.specs.declared.rule.Rule.{Rule}
 use Rattle.hashbag_words_lib.specs.declared.shown_text.Look.{Look}
 
 -- all bytes of what was made
-abbrev pub text_of : {F : Type 0} → Made F → List ℕ
-text_of (OfBag shown) = bytes_of shown
-text_of (OfRuns shown) = bytes_in shown
+abbrev pub made_text : {F : Type 0} → Made F → List ℕ
+made_text (OfBag shown) = shown_bytes shown
+made_text (OfRuns shown) = bytes_in shown
 
--- `kept` says of runs that they were kept, and `faithful` that what is read of them is what was written
+-- `kept keeper runs`: the keeper has kept these runs. `faithful keeper`: reading the kept runs gives what was written
 module _ {R : Type 0} (kept : R → List (List (List ℕ × ℕ)) → Type 0) (faithful : R → Type 0) where
-  -- the same if something may keep runs
+  -- `faithful` of the keeper, if there is one
   abbrev pub AreFaithful : Option R → Type 0
   AreFaithful None = ⊤
   AreFaithful (Some keeper) = faithful keeper
 
-  -- the runs that were kept have what they had and what the bag has
+  -- the kept runs have what they had before, and what the bag has
   abbrev pub KeepsBag : {S : Type 0} → R → Bag (String Global) S → R → Type 0
   KeepsBag old bag new =
       (runs : List (List (List ℕ × ℕ))) → kept old runs → (all : List (List (List ℕ × ℕ))) × kept new all
@@ -51,7 +52,7 @@ module _ {R : Type 0} (kept : R → List (List (List ℕ × ℕ)) → Type 0) (f
       pub counts : IsNew bag keeper → (runs : List (List (List ℕ × ℕ))) × AreKeptIn kept keeper' runs × HaveTogether runs bag' (flat_map (tokens_of rule) texts)
 
     -- the inputs of these names were read to their ends; the bag and the runs have together the rows of these files
-    pub record AddsRows {S : Type 0} (form : RowForm) (bad_lines : BadLines) (bag bag' : Bag (String Global) S) (keeper keeper' : Option R) : Type 0 where
+    pub record AddsFileRows {S : Type 0} (form : RowForm) (bad_lines : BadLines) (bag bag' : Bag (String Global) S) (keeper keeper' : Option R) : Type 0 where
       pub texts : List (List ℕ)
       pub read_all : AreRead encoding names before after texts
       pub counts : IsNew bag keeper → (rows : List (List ℕ × ℕ)) × AreRowsOfAll form bad_lines texts rows
@@ -60,31 +61,35 @@ module _ {R : Type 0} (kept : R → List (List (List ℕ × ℕ)) → Type 0) (f
   -- ---- writing
 
   module _ (choice : Choice) (look : Look) where
-    -- whatever tokens the runs that were kept have: the bytes are what is written of them, wherever the runs were cut
+    -- the bytes show the tokens that the kept runs have, wherever the runs were cut
     abbrev pub ShowsRuns : R → R → List ℕ → Type 0
     ShowsRuns old new bytes =
         FitsOrder look choice.order → faithful new → (runs : List (List (List ℕ × ℕ))) → kept old runs → (tokens : List (List ℕ)) → CountTexts runs tokens
-        → IsWritten choice look tokens bytes
+        → ShowsTexts choice look tokens bytes
 
-    -- the same of a bag and of runs, if something may keep them
+    -- the same for a bag and its kept runs, if there is a keeper
     abbrev pub ShowsBoth : {S : Type 0} → Bag (String Global) S → Option R → Option R → List ℕ → Type 0
     ShowsBoth bag old new bytes =
         FitsOrder look choice.order → AreFaithful new → (runs : List (List (List ℕ × ℕ))) → AreKeptIn kept old runs → (tokens : List (List ℕ)) → HaveTogether runs bag tokens
-        → IsWritten choice look tokens bytes
+        → ShowsTexts choice look tokens bytes
 
     module _ (encoding : Option Encoding) (names : List (Bor (List ℕ))) (before after : List (List ℕ × List ℕ)) where
-      -- the inputs of these names were read to their ends; the bytes are what is written of the tokens of their texts, wherever blocks and
+      -- the inputs of these names were read to their ends; the bytes show the tokens of their texts, wherever blocks and
       -- runs were cut
       pub record WritesTokens {S : Type 0} (rule : Rule) (bag : Bag (String Global) S) (keeper keeper' : Option R) (bytes : List ℕ) : Type 0 where
         pub texts : List (List ℕ)
         pub read_all : AreRead encoding names before after texts
         pub written : IsNew bag keeper → FitsOrder look choice.order → AreFaithful keeper'
-            → IsWritten choice look (flat_map (tokens_of rule) texts) bytes
+            → ShowsTexts choice look (flat_map (tokens_of rule) texts) bytes
 
-      -- the inputs of these names were read to their ends; the bytes are what is written of whatever tokens the rows of these files count
+      -- the inputs of these names were read to their ends; the bytes show the tokens that the rows of these files count
       pub record WritesRows {S : Type 0} (form : RowForm) (bad_lines : BadLines) (bag : Bag (String Global) S) (keeper keeper' : Option R) (bytes : List ℕ) : Type 0 where
         pub texts : List (List ℕ)
         pub read_all : AreRead encoding names before after texts
         pub written : IsNew bag keeper → FitsOrder look choice.order → AreFaithful keeper'
             → (lines : List (List ℕ × ℕ)) × AreRowsOfAll form bad_lines texts lines
-            × ((tokens : List (List ℕ)) → CountTexts (lines ∷ []) tokens → IsWritten choice look tokens bytes)
+            × ((tokens : List (List ℕ)) → CountTexts (lines ∷ []) tokens → ShowsTexts choice look tokens bytes)
+
+-- the bytes show the tokens of all files and runs that were kept. `read` says what was read of the text of each number
+abbrev pub ShowsKeptRuns : {T : Type 0} → (T → ℕ → List ℕ) → Choice → Look → MergingRuns T → MergingRuns T → List ℕ → Type 0
+ShowsKeptRuns read choice look old new bytes = ShowsRuns (HasRuns read) (IsFaithful read) choice look old new bytes

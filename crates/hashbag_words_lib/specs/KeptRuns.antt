@@ -24,11 +24,11 @@ pub record AreKept (taken left : List ℕ) (next : ℕ) (rows : ℕ → List (Li
   pub left_below : All (λ n. n < next) left
   pub taken_below : All (λ n. n < next) taken
 
--- those that weren't taken, and those of the numbers `taken`, have all that was fed
+-- the texts that weren't taken, and the texts numbered `taken`, have together all rows that were fed
 abbrev pub HasKeptWith : List ℕ → KeptRuns → (ℕ → List (List ℕ × ℕ)) → List (List (List ℕ × ℕ)) → Type 0
 HasKeptWith taken kept rows fed = AreKept taken (numbers_in kept) kept.next_number rows fed
 
--- the same if none are taken
+-- the texts that weren't taken have all rows that were fed
 abbrev pub HasKept : KeptRuns → (ℕ → List (List ℕ × ℕ)) → List (List (List ℕ × ℕ)) → Type 0
 HasKept kept rows fed = HasKeptWith [] kept rows fed
 
@@ -36,11 +36,11 @@ HasKept kept rows fed = HasKeptWith [] kept rows fed
 abbrev pub HasFiles : KeptRuns → Type 0
 HasFiles kept = (rows : ℕ → List (List ℕ × ℕ)) → HasKept kept rows (map rows kept.files.items)
 
--- a text of the number n was written, which has the rows of a run; those of lower numbers are the same
+-- text n was written, and has the rows of `run`; the texts with lower numbers are unchanged
 abbrev pub WritesRun : ℕ → List (List ℕ × ℕ) → (ℕ → List (List ℕ × ℕ)) → (ℕ → List (List ℕ × ℕ)) → Type 0
 WritesRun n run old new = (new n ≡ run) × ((k : ℕ) → k < n → new k ≡ old k)
 
--- a run was fed: its text is that of the next number
+-- a run was fed: its text has the next number
 abbrev pub AddsRun : KeptRuns → KeptRuns → Type 0
 AddsRun old new =
     (rows later : ℕ → List (List ℕ × ℕ)) → (fed : List (List (List ℕ × ℕ))) → (run : List (List ℕ × ℕ)) → HasKept old rows fed
@@ -64,7 +64,7 @@ TakesTexts full old new =
 
 -- ---- the numbers themselves
 
--- no number is twice among those that weren't taken; first come those of files, then those of runs, and all are below the next one
+-- the numbers that weren't taken are all different. The numbers of files come first, then those of runs, and all are below the next number
 pub record AreInOrder (kept : KeptRuns) : Type 0 where
   pub unlike : AreUnlike (numbers_in kept)
   pub files : All (λ n. n < kept.first_run) kept.files.items
@@ -72,7 +72,7 @@ pub record AreInOrder (kept : KeptRuns) : Type 0 where
   pub below : All (λ n. n < kept.next_number) (numbers_in kept)
   pub later : kept.first_run ≤ kept.next_number
 
--- what the files are is the same, and the number of the first run
+-- the kind of the files and the number of the first run are unchanged
 abbrev pub KeepsKinds : KeptRuns → KeptRuns → Type 0
 KeepsKinds old new = (new.kind ≡ old.kind) × (new.first_run ≡ old.first_run)
 
@@ -101,7 +101,7 @@ pub record TakesRuns (numbers : List ℕ) (old new : KeptRuns) : Type 0 where
 abbrev pub TakesKind : SourceKind → List ℕ → KeptRuns → KeptRuns → Type 0
 TakesKind kind numbers old new = ((kind ≡ old.kind) × TakesFiles numbers old new) ⊎ ((kind ≡ Run) × TakesRuns numbers old new)
 
--- the texts of this merge were taken, and nothing was given of them
+-- the texts of this merge were taken, and no bytes of them were given yet
 abbrev pub TakesMerge : MergedText → KeptRuns → KeptRuns → Type 0
 TakesMerge text old new = (kind : SourceKind) × BeginsOf kind text × TakesKind kind text.merge.numbers.items old new
 
@@ -110,8 +110,8 @@ abbrev pub TakesOneMerge : Option MergedText → KeptRuns → KeptRuns → Type 
 TakesOneMerge full old new = MatchOption full (TakesFiles [] old new) (λ text. TakesMerge text old new)
 
 -- there are no files, or no runs
-abbrev pub AreAlike : KeptRuns → Type 0
-AreAlike kept = (kept.files.items ≡ []) ⊎ (runs_in kept.kept ≡ [])
+abbrev pub IsOneKind : KeptRuns → Type 0
+IsOneKind kept = (kept.files.items ≡ []) ⊎ (runs_in kept.kept ≡ [])
 
 -- the rows of these numbers together count the same tokens as all rows that were fed
 abbrev pub MergesAll : List ℕ → KeptRuns → Type 0

@@ -1,5 +1,5 @@
 -- The runs that are kept, and their levels.
-use Rattle.std.specs.Prelude.{◌≡◌, ℕ, Bool, false, nat_eq, ◌-◌, List, ◌++◌, length, replicate, Option, None, Some, MatchOption}
+use Rattle.std.specs.Prelude.{◌≡◌, ℕ, Bool, false, nat_eq, ◌-◌, ◌≤◌, List, ◌++◌, length, replicate, Option, None, Some, MatchOption}
 use Rattle.std.specs.Global.{Vec}
 use Rattle.std.specs.List.{ends_with, slice_get}
 use Rattle.hashbag_words_lib.specs.declared.levels.Levels.{Levels}
@@ -20,6 +20,10 @@ end_with levels (Some level) = ends_with nat_eq levels (replicate 16 level)
 -- the last sixteen levels are the same
 abbrev pub is_full : List ℕ → Bool
 is_full levels = end_with levels (slice_get levels (length levels - 1))
+
+-- there are fewer than sixteen runs, or the last sixteen are of different levels
+abbrev pub IsNotFull : {R : Type 0} → Levels R → Type 0
+IsNotFull kept = 16 ≤ length (runs_in kept) → is_full (levels_in kept) ≡ false
 
 -- the last sixteen runs were taken, or no run was
 abbrev pub TakesSixteen : {R : Type 0} → Levels R → Option (Vec R) → Levels R → Type 0

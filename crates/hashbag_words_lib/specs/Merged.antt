@@ -2,8 +2,9 @@
 use Rattle.std.specs.Prelude.{◌≡◌, ℕ, ◌<◌, ◌^◌, true, false, List, [], ◌∷◌, ◌++◌, length, map, All, slice_index_or, slice_set, sum_by, String, string_bytes, Option, None, Some, option_map}
 use Rattle.std.specs.Global.{Global}
 use Rattle.hashbag_words_lib.specs.Runs.{rows_in, run_text}
-use Rattle.hashbag_words_lib.specs.Sorted.{numbers, row_of, IsAbove, IsMergeOf, SoFar, TakesLeast}
+use Rattle.hashbag_words_lib.specs.Sorted.{number_sum, row_of, IsAbove, IsMergeOf, SoFar, TakesLeast}
 use Rattle.hashbag_words_lib.specs.Sources.{left_with, rows_of, Holds, MayCome}
+use Rattle.hashbag_words_lib.specs.declared.row_source.RowSource.{RowSource}
 use Rattle.hashbag_words_lib.specs.declared.row_source.SourceKind.{SourceKind}
 use Rattle.hashbag_words_lib.specs.declared.row_source.SourceKind.TheVariants.{Run}
 use Rattle.hashbag_words_lib.specs.declared.row_source.Next.{Next}
@@ -17,7 +18,7 @@ use Rattle.hashbag_words_lib.specs.declared.sources.Source.{Source}
 
 -- ---- one source
 
--- the rows that a source has left: the next one, which is known, and those behind it; no rows if there is no next one
+-- the rows that a source has left: the next row, which is known, and the rows after it; no rows if there is no next row
 abbrev pub with_head : Option (String Global × ℕ) → Option (List (List ℕ × ℕ)) → Option (List (List ℕ × ℕ))
 with_head None left = Some []
 with_head (Some row) left = option_map (λ rest. row_of row ∷ rest) left
@@ -37,16 +38,20 @@ abbrev pub OpensWith : SourceKind → List ℕ → Opened → Type 0
 OpensWith kind text (Ready source) = HoldsAll kind text source
 OpensWith kind text (OpenedWants rows) = Holds kind text rows × (rows.is_ended ≡ false)
 
--- `Row`: the next of these rows was taken, and the row behind it has a greater token. `Wants`: no row was taken. `End`: no row is left
-abbrev pub Takes : List (List ℕ × ℕ) → Next → Option (List (List ℕ × ℕ)) → Type 0
-Takes old (Row row) new = (rest : List (List ℕ × ℕ)) × (old ≡ row_of row ∷ rest) × (new ≡ Some rest) × IsAbove (string_bytes row.0) rest
-Takes old Wants new = new ≡ Some old
-Takes old End new = (old ≡ []) × (new ≡ Some [])
+-- whatever text the source was given so far, what was opened was given that text
+abbrev pub Opens : RowSource → Opened → Type 0
+Opens source opened = (kind : SourceKind) → (text : List ℕ) → Holds kind text source → OpensWith kind text opened
 
--- the next row was taken, or none was, as `Takes` says, whatever bytes come
+-- `Row`: the next of these rows was taken, and the row after it has a greater token. `Wants`: no row was taken. `End`: no row is left
+abbrev pub TakesNextRow : List (List ℕ × ℕ) → Next → Option (List (List ℕ × ℕ)) → Type 0
+TakesNextRow old (Row row) new = (rest : List (List ℕ × ℕ)) × (old ≡ row_of row ∷ rest) × (new ≡ Some rest) × IsAbove (string_bytes row.0) rest
+TakesNextRow old Wants new = new ≡ Some old
+TakesNextRow old End new = (old ≡ []) × (new ≡ Some [])
+
+-- the next row was taken, or none was, as `TakesNextRow` says, whatever bytes come
 abbrev pub TakesWhateverComes : Source → Next → Source → Type 0
 TakesWhateverComes old next new =
-    (more : List ℕ) → MayCome old.rows more → (rows : List (List ℕ × ℕ)) → all_with old more ≡ Some rows → Takes rows next (all_with new more)
+    (more : List ℕ) → MayCome old.rows more → (rows : List (List ℕ × ℕ)) → all_with old more ≡ Some rows → TakesNextRow rows next (all_with new more)
 
 -- ---- several sources
 
@@ -76,11 +81,11 @@ abbrev pub TakesRowWhateverComes : List Source → Merged → List Source → Ty
 TakesRowWhateverComes old next new =
     (mores : ℕ → List ℕ) → MayComeTo old mores → (rows : List (List (List ℕ × ℕ))) → AreLeft old mores rows → TakesRow mores rows next new
 
--- the source of this place has not been ended
+-- the source with this index hasn't been ended
 abbrev pub IsOpen : List Source → ℕ → Type 0
 IsOpen sources i = (i < length sources) × ((source : Source) → (slice_index_or sources i source).rows.is_ended ≡ false)
 
--- the source of this place has been ended
+-- the source with this index has been ended
 abbrev pub IsEnded : List Source → ℕ → Type 0
 IsEnded sources i = (source : Source) → (slice_index_or sources i source).rows.is_ended ≡ true
 
@@ -114,17 +119,17 @@ HasMerged given merger out = IsSoFar given merger.sources.items merger.held merg
 -- `out` is the merge of the rows of the texts, whatever bytes come next, and the total is the sum of their counts
 abbrev pub IsWhole : List (SourceKind × List ℕ) → Merger → List (List ℕ × ℕ) → Type 0
 IsWhole given merger out =
-    (mores : ℕ → List ℕ) (inputs : List (List (List ℕ × ℕ))) → MayComeTo merger.sources.items mores → AreInputs given mores inputs → IsMergeOf inputs out × (merger.total ≡ sum_by numbers inputs)
+    (mores : ℕ → List ℕ) (inputs : List (List (List ℕ × ℕ))) → MayComeTo merger.sources.items mores → AreInputs given mores inputs → IsMergeOf inputs out × (merger.total ≡ sum_by number_sum inputs)
 
--- what the merger returned next: one more row, behind `out`; or no row, because source i is to be given more bytes, or all rows are merged
+-- what the merger returned next: one more row, after those in `out`; or no row, because source i is to be given more bytes, or all rows are merged
 abbrev pub Follows : List (SourceKind × List ℕ) → List (List ℕ × ℕ) → Merged → Merger → Type 0
 Follows given out (MergedRow row) new = HasMerged given new (out ++ row_of row ∷ [])
 Follows given out (MergedWants i) new = HasMerged given new out × IsOpen new.sources.items i
 Follows given out MergedEnd new = HasMerged given new out × IsWhole given new out
 
 -- the texts of runs
-abbrev pub texts_of : List (List (List ℕ × ℕ)) → List (SourceKind × List ℕ)
-texts_of runs = map (λ rows. (Run, run_text rows)) runs
+abbrev pub run_texts : List (List (List ℕ × ℕ)) → List (SourceKind × List ℕ)
+run_texts runs = map (λ rows. (Run, run_text rows)) runs
 
 -- each run is read again as it was written
 abbrev pub AreReadAgain : List (List (List ℕ × ℕ)) → Type 0
@@ -145,4 +150,4 @@ FollowsWhatCameOut old next new =
 -- if the texts are those of runs, which are read again as they were written, the rows that were returned are the merge of the runs
 abbrev pub HasMergedItsRuns : Merger → Type 0
 HasMergedItsRuns merger =
-    (runs : List (List (List ℕ × ℕ))) → (out : List (List ℕ × ℕ)) → AreReadAgain runs → HasMerged (texts_of runs) merger out → IsMergeOf runs out
+    (runs : List (List (List ℕ × ℕ))) → (out : List (List ℕ × ℕ)) → AreReadAgain runs → HasMerged (run_texts runs) merger out → IsMergeOf runs out

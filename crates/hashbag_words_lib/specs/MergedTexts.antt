@@ -1,4 +1,4 @@
--- What of the text of a merge was built so far.
+-- How far the text of a merge is built.
 use Rattle.std.specs.Prelude.{◌≡◌, ℕ, Bool, true, false, List, [], ◌∷◌, ◌++◌, filter, map, slice_index_or, slice_set, Option, None, Some}
 use Rattle.hashbag_words_lib.specs.Bars.{bars_text}
 use Rattle.hashbag_words_lib.specs.NumberedMerges.{HasTaken, IsWanted}
@@ -26,28 +26,28 @@ use Rattle.hashbag_words_lib.specs.declared.shown_text.Look.TheVariants.{Rows as
 use Rattle.hashbag_words_lib.specs.declared.writing.Format.{Format}
 use Rattle.hashbag_words_lib.specs.declared.writing.Format.TheVariants.{Tsv}
 
--- all rows are shown that are chosen, in the order in which they come
-abbrev pub AreAll : Order → Type 0
-AreAll Ascending = Unit {0}
-AreAll Unordered = Unit {0}
-AreAll (MostCommon k) = ⊥
+-- this order shows all chosen rows, as they come
+abbrev pub ShowsAllRows : Order → Type 0
+ShowsAllRows Ascending = Unit {0}
+ShowsAllRows Unordered = Unit {0}
+ShowsAllRows (MostCommon k) = ⊥
 
 -- the rows that are shown
 abbrev pub shown_in : Choice → List (List ℕ × ℕ) → List (List ℕ × ℕ)
 shown_in choice rows = filter (shows choice) rows
 
--- what is written of the most common rows. With bars, only what the format has before all rows comes first: `[` for JSON, else nothing
+-- the text of the most common rows. With bars, only the head of the format comes before the bars: `[` for JSON, else nothing
 abbrev pub top_text : Format → Option ℕ → List (List ℕ × ℕ) → List ℕ
 top_text format None rows = text_of format rows
 top_text format (Some width) rows = head_text format ++ bars_text width rows
 
--- what is written of rows that are shown: all, as they come; or the k most common of them, with bars if there are columns for bars
+-- the text of rows that are shown: all, as they come; or the k most common of them, with bars if `bars` has the width of a terminal
 abbrev pub whole_text : Format → Order → Option ℕ → List (List ℕ × ℕ) → List ℕ
 whole_text format Ascending bars rows = text_of format rows
 whole_text format Unordered bars rows = text_of format rows
 whole_text format (MostCommon k) bars rows = top_text format bars (most_common k rows)
 
--- how the rows of a merge look: in this format; or with bars, if the most common are written and there are columns for bars
+-- how the rows of a merge look: in this format; or with bars, if the most common are written and `bars` has the width of a terminal
 abbrev pub look_of : Format → Order → Option ℕ → Look
 look_of format Ascending bars = InRows format
 look_of format Unordered bars = InRows format
@@ -64,20 +64,24 @@ BeginsAs (WithBars width) format = head_text format ≡ []
 abbrev pub look_in : RowLayout → Look
 look_in layout = look_of layout.format layout.choice.order layout.bars
 
--- where the most common rows are kept, if only these are written. None came
+-- the text has the look of this layout
+abbrev pub HasLook : MergedText → RowLayout → Type 0
+HasLook text layout = look_of text.rows.sink.format text.rows.choice.order text.bars ≡ look_in layout
+
+-- the empty store of the most common rows, if only these are written
 abbrev pub IsTopOf : Choice → Option (ShownRows TopRows) → Type 0
-IsTopOf choice None = AreAll choice.order
+IsTopOf choice None = ShowsAllRows choice.order
 IsTopOf choice (Some top) = (choice.order ≡ MostCommon top.sink.most) × (top.choice ≡ choice) × KeepsTop top.sink []
 
--- these rows came. If all are written that are shown: what was taken, with the part behind it, is their text without its end. If only the most common
--- are written: those are kept, and of the text there is only what the format has before all rows
+-- `rows` were put. All rows: `taken`, then the part, is their text without its end. Most common only: `top` keeps them, and `taken`, then the
+-- part, is the head of the format
 abbrev pub HaveCome : Choice → Option (ShownRows TopRows) → RowParts → List (List ℕ × ℕ) → List ℕ → Type 0
-HaveCome choice None parts rows taken = AreAll choice.order × HasBuilt parts (shown_in choice rows) taken
+HaveCome choice None parts rows taken = ShowsAllRows choice.order × HasBuilt parts (shown_in choice rows) taken
 HaveCome choice (Some top) parts rows taken =
     (choice.order ≡ MostCommon top.sink.most) × (top.choice ≡ choice) × KeepsTop top.sink (shown_in choice rows) × HasBuilt parts [] taken
 
--- these texts were given so far, and these bytes were taken. Until the end is built, the rows that are merged so far have come (`built`). After that,
--- the bytes and the part behind them are the text of the whole merge (`over`)
+-- these texts were given so far, and these bytes were taken. Until the end is built, the rows that are merged so far have been put (`built`). After
+-- that, the bytes, then the part, are the text of the whole merge (`over`)
 pub record ArePut (given : List (SourceKind × List ℕ)) (merge : NumberedMerge) (choice : Choice) (top : Option (ShownRows TopRows)) (bars : Option ℕ) (parts : RowParts) (is_over : Bool) (taken : List ℕ) : Type 0 where
   pub out : List (List ℕ × ℕ)
   pub merged : HasTaken given merge out
@@ -85,11 +89,11 @@ pub record ArePut (given : List (SourceKind × List ℕ)) (merge : NumberedMerge
   pub built : is_over ≡ false → HaveCome choice top parts out taken
   pub over : is_over ≡ true → IsWhole given merge.merger out × (taken ++ parts.part.items ≡ whole_text parts.format choice.order bars (shown_in choice out))
 
--- the same of a text
+-- `ArePut` of a merged text
 abbrev pub HasGivenAndTaken : List (SourceKind × List ℕ) → MergedText → List ℕ → Type 0
 HasGivenAndTaken given text taken = ArePut given text.merge text.rows.choice text.top text.bars text.rows.sink text.is_over taken
 
--- it is the merge of texts of this kind, of which nothing was given
+-- the text is of a merge of texts of this kind, and no bytes of them were given yet
 abbrev pub BeginsOf : SourceKind → MergedText → Type 0
 BeginsOf kind text = HasGivenAndTaken (map (λ n. (kind, [])) text.merge.numbers.items) text []
 
@@ -105,7 +109,7 @@ KeepsLayout old new = (new.rows.choice ≡ old.rows.choice) × (new.rows.sink.fo
 pub record ShowsRun (choice : Choice) (format : Format) : Type 0 where
   pub all : (row : List ℕ × ℕ) → shows choice row ≡ true
   pub tsv : format ≡ Tsv
-  pub order : AreAll choice.order
+  pub order : ShowsAllRows choice.order
 
 abbrev pub IsRunLayout : RowLayout → Type 0
 IsRunLayout layout = ShowsRun layout.choice layout.format
@@ -113,20 +117,20 @@ IsRunLayout layout = ShowsRun layout.choice layout.format
 abbrev pub WritesAsRun : MergedText → Type 0
 WritesAsRun text = ShowsRun text.rows.choice text.rows.sink.format
 
--- the bytes are the text of what is shown of the merge of all rows of these texts
+-- the bytes are the text of the shown rows of the merge of these texts
 pub record IsMergedText (choice : Choice) (format : Format) (bars : Option ℕ) (inputs : List (List (List ℕ × ℕ))) (bytes : List ℕ) : Type 0 where
   pub rows : List (List ℕ × ℕ)
   pub merged : IsMergeOf inputs rows
   pub is : bytes ≡ whole_text format choice.order bars (shown_in choice rows)
 
--- these bytes are the text of the merge of all rows of these texts; and whatever tokens the texts count, the bytes are what is written of them
+-- these bytes are the text of the merge of all rows of these texts; and whatever tokens the texts count, the bytes show them
 abbrev pub EndsWith : List (List (List ℕ × ℕ)) → List ℕ → MergedText → Type 0
 EndsWith inputs bytes text =
     IsMergedText text.rows.choice text.rows.sink.format text.bars inputs bytes
     × WritesTogether text.rows.choice (look_of text.rows.sink.format text.rows.choice.order text.bars) inputs text.merge.merger.total bytes
 
--- what is wanted next: bytes of a text; or that the part is taken; or nothing, and what was taken is the text of the merge of all texts as they were
--- given: what is written of the tokens that they count
+-- what is wanted next. `Block`: bytes of a text. `Part`: that the part is taken. `End`: nothing; the bytes that were taken are the text of the merge
+-- of all texts as they were given, and show the tokens that the texts count
 abbrev pub PutsNext : List (SourceKind × List ℕ) → List ℕ → Wants → MergedText → Type 0
 PutsNext given taken (Block number) new = HasGivenAndTaken given new taken × (new.is_over ≡ false) × IsWanted new.merge × (number ≡ slice_index_or new.merge.numbers.items new.merge.wanted number)
 PutsNext given taken Part new = HasGivenAndTaken given new taken
@@ -138,7 +142,7 @@ abbrev pub WantsNext : MergedText → Wants → MergedText → Type 0
 WantsNext old wants new =
     (given : List (SourceKind × List ℕ)) → (taken : List ℕ) → HasGivenAndTaken given old taken → PutsNext given taken wants new
 
--- the wanted text was given these bytes more, and no other text was given any
+-- the wanted text was given these bytes, after its earlier bytes. The other texts were given nothing
 abbrev pub GivesText : List ℕ → MergedText → MergedText → Type 0
 GivesText block old new =
     IsWanted old.merge → old.is_over ≡ false → (given : List (SourceKind × List ℕ)) → (taken : List ℕ) → HasGivenAndTaken given old taken
@@ -150,18 +154,18 @@ abbrev pub KeepsGivenAndTaken : MergedText → MergedText → Type 0
 KeepsGivenAndTaken old new =
     IsWanted old.merge → old.is_over ≡ false → (given : List (SourceKind × List ℕ)) → (taken : List ℕ) → HasGivenAndTaken given old taken → HasGivenAndTaken given new taken
 
--- the part was taken, behind those before it
+-- the part was taken, after the parts before it
 abbrev pub TakesPart : MergedText → MergedText → Type 0
 TakesPart old new =
     (given : List (SourceKind × List ℕ)) → (taken : List ℕ) → HasGivenAndTaken given old taken → HasGivenAndTaken given new (taken ++ old.rows.sink.part.items)
 
--- one row more came
+-- one more row was put
 abbrev pub PutsRow : List ℕ × ℕ → MergedText → MergedText → Type 0
 PutsRow row old new =
     (rows : List (List ℕ × ℕ)) → (taken : List ℕ) → HaveCome old.rows.choice old.top old.rows.sink rows taken
     → HaveCome new.rows.choice new.top new.rows.sink (rows ++ row ∷ []) taken
 
--- whatever rows came, with the last part the text is whole
+-- whatever rows were put: the bytes that were taken, then the new part, are the whole text
 abbrev pub EndsMergedText : RowParts → Option (ShownRows TopRows) → Option ℕ → RowParts → Type 0
 EndsMergedText old top bars new =
     (choice : Choice) → (rows : List (List ℕ × ℕ)) → (taken : List ℕ) → HaveCome choice top old rows taken

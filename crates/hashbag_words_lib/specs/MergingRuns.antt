@@ -1,11 +1,11 @@
 -- Files of counts and runs, as they are merged into runs.
 use Rattle.std.specs.Global.{Vec}
 use Rattle.std.specs.Prelude.{◌≡◌, ◌≢◌, ℕ, ◌<◌, ◌≤◌, List, [], ◌∷◌, ◌++◌, All, length, map, Some}
-use Rattle.hashbag_words_lib.specs.KeptRuns.{numbers_in, AddsMerged, AddsNumber, AddsRun, AreAlike, AreInOrder, HasKept, KeepsKinds, MergesAll, TakesMerge, TakesThese}
+use Rattle.hashbag_words_lib.specs.KeptRuns.{numbers_in, AddsMerged, AddsNumber, AddsRun, IsOneKind, AreInOrder, HasKept, KeepsKinds, MergesAll, TakesMerge, TakesThese}
 use Rattle.hashbag_words_lib.specs.MergedTexts.{look_in, WritesAsRun}
 use Rattle.hashbag_words_lib.specs.Numbered.{HasRead, IsNext, ReadsOnly}
 use Rattle.hashbag_words_lib.specs.Runs.{rows_in}
-use Rattle.hashbag_words_lib.specs.Shown.{CountTexts, IsWritten}
+use Rattle.hashbag_words_lib.specs.Shown.{CountTexts, ShowsTexts}
 use Rattle.hashbag_words_lib.specs.Sources.{rows_of}
 use Rattle.hashbag_words_lib.specs.declared.choice.Choice.{Choice}
 use Rattle.hashbag_words_lib.specs.declared.choice.Order.{Order}
@@ -31,7 +31,7 @@ IsGone kept n = (n < kept.next_number) × All (λ k. k ≢ n) (numbers_in kept)
 abbrev pub AllOf : (ℕ → Type 0) → List (Vec ℕ) → Type 0
 AllOf P merges = All (λ merge. All P merge.items) merges
 
--- bars are of the most common rows
+-- bars are only for the order `MostCommon`
 abbrev pub FitsOrder : Look → Order → Type 0
 FitsOrder (InRows format) order = Unit {0}
 FitsOrder WithShares order = Unit {0}
@@ -39,14 +39,14 @@ FitsOrder (WithBars width) Ascending = ⊥
 FitsOrder (WithBars width) Unordered = ⊥
 FitsOrder (WithBars width) (MostCommon k) = Unit {0}
 
--- the text of all
+-- all bytes of the text
 abbrev pub bytes_in : {F : Type 0} → ShownRuns F → List ℕ
 bytes_in (Text text is_empty) = text.items
 bytes_in (File made) = made.written
 
 -- `read` says what was read of the text of each number
 module _ {T : Type 0} (read : T → ℕ → List ℕ) where
-  -- what was merged is gone, and nothing was read of what is kept, nor of the numbers that come later
+  -- the merged texts are gone. Nothing was read of the texts that are kept, nor of texts with later numbers
   pub record AreUnread (runs : MergingRuns T) : Type 0 where
     pub order : AreInOrder runs.kept
     pub gone : AllOf (IsGone runs.kept) runs.merged
@@ -54,18 +54,18 @@ module _ {T : Type 0} (read : T → ℕ → List ℕ) where
     pub later : (n : ℕ) → runs.kept.next_number ≤ n → read runs.texts n ≡ []
 
   -- `rows` has the rows of each text that was merged, as it was read, and of each run, as it was written. This is all that is supposed of temporary
-  -- files: that the rows that are read of one are those that were written
+  -- files: the rows that are read from a file are the rows that were written to it
   pub record AgreesWith (rows : ℕ → List (List ℕ × ℕ)) (runs : MergingRuns T) : Type 0 where
     pub of_files : AllOf (λ n. n < runs.kept.first_run → rows_of runs.kept.kind (read runs.texts n) ≡ Some (rows n)) runs.merged
     pub of_runs : AllOf (λ n. runs.kept.first_run ≤ n → rows_of Run (read runs.texts n) ≡ Some (rows n)) runs.merged
     pub as_written : All (λ run. rows_in run.bytes.value ≡ rows run.number) runs.written
 
-  -- what is read of temporary files is what was written
+  -- reading a temporary file gives what was written to it
   abbrev pub IsFaithful : MergingRuns T → Type 0
   IsFaithful runs = (rows : ℕ → List (List ℕ × ℕ)) × AgreesWith rows runs
 
-  -- of what was merged nothing more is read, and what was written stays
-  pub record GoesOn (old new : MergingRuns T) : Type 0 where
+  -- merging goes on: nothing more is read of merged texts, and the runs that were written are still there
+  pub record GoesOnMerging (old new : MergingRuns T) : Type 0 where
     pub kinds : KeepsKinds old.kept new.kept
     pub same : AllOf (λ n. read new.texts n ≡ read old.texts n) old.merged
     pub merges : List (Vec ℕ)
@@ -76,12 +76,12 @@ module _ {T : Type 0} (read : T → ℕ → List ℕ) where
   -- runs of these texts were added, and runs may have been merged: the texts that are kept have together what they had before, and the rows of these runs
   pub record Adds (texts : List (List ℕ)) (old new : MergingRuns T) : Type 0 where
     pub unread : AreUnread new
-    pub goes : GoesOn old new
+    pub goes : GoesOnMerging old new
     pub counts : (rows : ℕ → List (List ℕ × ℕ)) → AgreesWith rows new → (all : List (List (List ℕ × ℕ))) → HasKept old.kept rows all
         → HasKept new.kept rows (all ++ map rows_in texts)
 
-  abbrev pub AddsTexts : List (List ℕ) → MergingRuns T → MergingRuns T → Type 0
-  AddsTexts texts old new = AreUnread old → Adds texts old new
+  abbrev pub AddsRuns : List (List ℕ) → MergingRuns T → MergingRuns T → Type 0
+  AddsRuns texts old new = AreUnread old → Adds texts old new
 
   -- the texts that are kept have together the rows of these runs, and nothing was read of them
   pub record HasRuns (kept : MergingRuns T) (runs : List (List (List ℕ × ℕ))) : Type 0 where
@@ -90,9 +90,9 @@ module _ {T : Type 0} (read : T → ℕ → List ℕ) where
 
   -- runs may have been merged, and none was added
   abbrev pub Merges : MergingRuns T → MergingRuns T → Type 0
-  Merges old new = AddsTexts [] old new
+  Merges old new = AddsRuns [] old new
 
-  -- a file of these bytes is the run of the next number
+  -- a file with these bytes was added, as the run with the next number
   pub record AddsFile (text : List ℕ) (old new : MergingRuns T) : Type 0 where
     pub next : AddsNumber old.kept new.kept
     pub added : AddsRun old.kept new.kept
@@ -104,13 +104,13 @@ module _ {T : Type 0} (read : T → ℕ → List ℕ) where
     pub written : new.written ≡ old.written ++ run ∷ []
     pub same : new.merged ≡ old.merged
 
-  -- these bytes were written of a merge: of its texts all was read that it wanted, and of others nothing
+  -- these bytes are the whole text of a merge. All that the merge wanted of its texts was read, and nothing of other texts
   abbrev pub WritesText : List ℕ → T → MergedText → T → MergedText → Type 0
   WritesText bytes texts old later new =
       (kind : SourceKind) → HasRead kind (read texts) old []
       → IsNext kind (read later) bytes End new × (new.merge.numbers ≡ old.merge.numbers) × ReadsOnly old.merge.numbers.items (read texts) (read later)
 
-  -- if the texts of this merge were taken before, they were merged into a run, which was added
+  -- if the texts of this merge had been taken, they were merged into a run, and the run was added
   abbrev pub MergesTaken : MergedText → MergingRuns T → MergingRuns T → Type 0
   MergesTaken text old new =
       (before : MergingRuns T) → before.texts ≡ old.texts → before.written ≡ old.written → before.merged ≡ old.merged → TakesMerge text before.kept old.kept
@@ -122,37 +122,37 @@ module _ {T : Type 0} (read : T → ℕ → List ℕ) where
       AreUnread old → (rows : ℕ → List (List ℕ × ℕ)) → AgreesWith rows new → (all : List (List (List ℕ × ℕ))) → HasKept old.kept rows all
       → (tokens : List (List ℕ)) → CountTexts all tokens → P tokens
 
-  -- the bytes are what is written of the tokens, in this layout; `ShowsAlike`: if there are no files, or no runs
+  -- the bytes show the tokens, in this layout; `ShowsOneKind`: if there are no files, or no runs
   abbrev pub ShowsAll : RowLayout → MergingRuns T → MergingRuns T → List ℕ → Type 0
-  ShowsAll layout old new bytes = (AreUnread old → GoesOn old new) × IfCounted old new (λ tokens. IsWritten layout.choice (look_in layout) tokens bytes)
+  ShowsAll layout old new bytes = (AreUnread old → GoesOnMerging old new) × IfCounted old new (λ tokens. ShowsTexts layout.choice (look_in layout) tokens bytes)
 
-  abbrev pub ShowsAlike : RowLayout → MergingRuns T → MergingRuns T → List ℕ → Type 0
-  ShowsAlike layout old new bytes = AreAlike old.kept → ShowsAll layout old new bytes
+  abbrev pub ShowsOneKind : RowLayout → MergingRuns T → MergingRuns T → List ℕ → Type 0
+  ShowsOneKind layout old new bytes = IsOneKind old.kept → ShowsAll layout old new bytes
 
-  -- the bytes are what is written of the tokens, in this look
+  -- if bars are only for `MostCommon`: merging goes on, and the bytes show, in this look, the tokens that all added rows count together
   abbrev pub ShowsTokens : Choice → Look → MergingRuns T → MergingRuns T → List ℕ → Type 0
   ShowsTokens choice look old new bytes =
-      FitsOrder look choice.order → (AreUnread old → GoesOn old new) × IfCounted old new (λ tokens. IsWritten choice look tokens bytes)
+      FitsOrder look choice.order → (AreUnread old → GoesOnMerging old new) × IfCounted old new (λ tokens. ShowsTexts choice look tokens bytes)
 
-  -- there are as many tokens
+  -- `total` is the number of the tokens
   abbrev pub CountsAll : MergingRuns T → MergingRuns T → ℕ → Type 0
   CountsAll old new total = IfCounted old new (λ tokens. total ≡ length tokens)
 
-  abbrev pub CountsAlike : MergingRuns T → MergingRuns T → ℕ → Type 0
-  CountsAlike old new total = AreAlike old.kept → CountsAll old new total
+  abbrev pub CountsOneKind : MergingRuns T → MergingRuns T → ℕ → Type 0
+  CountsOneKind old new total = IsOneKind old.kept → CountsAll old new total
 
-  -- if the texts of this merge were all that there were before, the total is how many tokens there are
+  -- if the merge has taken all texts that there were, `total` is the number of all tokens
   abbrev pub TotalsTaken : MergedText → MergingRuns T → MergingRuns T → ℕ → Type 0
   TotalsTaken text old new total =
       (before : MergingRuns T) → before.texts ≡ old.texts → before.written ≡ old.written → before.merged ≡ old.merged → TakesMerge text before.kept old.kept
       → MergesAll text.merge.numbers.items before.kept → CountsAll before new total
 
-  -- what is written in this layout has this look. For shares all may have been merged into one run, to know how many tokens there are
+  -- what is written in this layout has this look. For shares all texts may have been merged into one run, to know the number of all tokens
   pub record LaysOut (choice : Choice) (look : Look) (old new : MergingRuns T) (layout : RowLayout) : Type 0 where
     pub merges : Merges old new
-    pub alike : AreAlike new.kept
+    pub alike : IsOneKind new.kept
     pub same : layout.choice ≡ choice
-    pub means : IfCounted old new (λ tokens. (bytes : List ℕ) → IsWritten choice (look_in layout) tokens bytes → IsWritten choice look tokens bytes)
+    pub means : IfCounted old new (λ tokens. (bytes : List ℕ) → ShowsTexts choice (look_in layout) tokens bytes → ShowsTexts choice look tokens bytes)
 
-  abbrev pub LaysOutAlike : Choice → Look → MergingRuns T → MergingRuns T → RowLayout → Type 0
-  LaysOutAlike choice look old new layout = AreAlike old.kept → FitsOrder look choice.order → LaysOut choice look old new layout
+  abbrev pub LaysOutOneKind : Choice → Look → MergingRuns T → MergingRuns T → RowLayout → Type 0
+  LaysOutOneKind choice look old new layout = IsOneKind old.kept → FitsOrder look choice.order → LaysOut choice look old new layout

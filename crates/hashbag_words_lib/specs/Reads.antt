@@ -13,11 +13,11 @@ abbrev mutual
   reads_before (Some' s b) = reads_to b
 
 -- all that was read of the text of a number
-abbrev pub bytes_of : List (ℕ × List ℕ) → ℕ → List ℕ
-bytes_of [] number = []
-bytes_of (read ∷ reads) number = if number == read.0 then bytes_of reads number ++ read.1 else bytes_of reads number
+abbrev pub bytes_of_text : List (ℕ × List ℕ) → ℕ → List ℕ
+bytes_of_text [] number = []
+bytes_of_text (read ∷ reads) number = if number == read.0 then bytes_of_text reads number ++ read.1 else bytes_of_text reads number
 
--- whether these are no bytes
+-- whether the list has no bytes
 abbrev pub is_end : List ℕ → Bool
 is_end [] = true
 is_end (b ∷ bytes) = false

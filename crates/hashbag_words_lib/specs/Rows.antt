@@ -31,16 +31,16 @@ row token count = escaped token ++ 9 ∷ decimal count
 abbrev pub AreSpaces : List ℕ → Type 0
 AreSpaces xs = All (λ b. b ≡ 32) xs
 
--- this line is what is written of a token and its count in this form; `uniq -c` may write any number of spaces before the count
-abbrev pub IsWritten : RowForm → List ℕ → List ℕ → ℕ → Type 0
-IsWritten Tsv line token count = line ≡ row token count
-IsWritten Uniq line token count = (spaces : List ℕ) × AreSpaces spaces × (line ≡ spaces ++ (decimal count ++ 32 ∷ token))
+-- this line is the text of a token and its count in this form; `uniq -c` may write any number of spaces before the count
+abbrev pub IsRowText : RowForm → List ℕ → List ℕ → ℕ → Type 0
+IsRowText Tsv line token count = line ≡ row token count
+IsRowText Uniq line token count = (spaces : List ℕ) × AreSpaces spaces × (line ≡ spaces ++ (decimal count ++ 32 ∷ token))
 
--- if this line is what is written of a token that is UTF-8 and a count of 64 bits, P holds of this token and count
+-- if this line is the text of a token that is UTF-8 and of a count of 64 bits, P holds of this token and this count
 abbrev pub IfRow : RowForm → List ℕ → (List ℕ → ℕ → Type 0) → Type 0
-IfRow form line P = (token : List ℕ) (count : ℕ) → IsUtf8 token → count < 2 ^ 64 → IsWritten form line token count → P token count
+IfRow form line P = (token : List ℕ) (count : ℕ) → IsUtf8 token → count < 2 ^ 64 → IsRowText form line token count → P token count
 
--- this line isn't UTF-8, or isn't what is written of any token and count
+-- this line isn't UTF-8, or isn't the text of any token and count
 abbrev pub IsNoRow : RowForm → List ℕ → Type 0
 IsNoRow form line = IsUtf8 line → IfRow form line (λ _ _. ⊥)
 
@@ -50,6 +50,10 @@ unescaped false [] = Some []
 unescaped true [] = None
 unescaped false (b ∷ bs) = if b == 92 then unescaped true bs else option_map (λ t. b ∷ t) (unescaped false bs)
 unescaped true (b ∷ bs) = option_and_then (λ byte. option_map (λ t. byte ∷ t) (unescaped false bs)) (byte_of b)
+
+-- these bytes are the escaped form of no text
+abbrev pub IsNoEscapedText : List ℕ → Type 0
+IsNoEscapedText written = (text : List ℕ) → IsUtf8 text → unescaped false written ≢ Some text
 
 -- these bytes are read as this number of 64 bits: its digits, with or without a plus sign before them
 pub record IsNumber (digits : List ℕ) (count : ℕ) : Type 0 where
@@ -89,6 +93,6 @@ resumed token (Some is_marked) rest = option_map (λ more. token ++ more) (unesc
 abbrev pub IsRead : {E : Type 0} → List ℕ → ℕ → Result (String Global × ℕ) E → Type 0
 IsRead token count read = IsOkAnd read (λ p. (string_bytes p.0 ≡ token) × (p.1 ≡ count))
 
--- with this byte, the token so far and the flag change so that the whole token is the same, whatever escaped bytes follow
+-- reading this byte changes the token so far and the flag, but not the whole token (`resumed`), whatever escaped bytes follow
 abbrev pub ReadsByte : ℕ → List ℕ → Bool → List ℕ → Option Bool → Type 0
 ReadsByte byte old is_marked new marked = (rest : List ℕ) → resumed old (Some is_marked) (byte ∷ rest) ≡ resumed new marked rest

@@ -1,4 +1,4 @@
--- The rows of a run: a file of `tsv` that was written here.
+-- The rows of a run, which is a file of `tsv` that this crate wrote.
 use Rattle.std.specs.Prelude.{◌≡◌, ℕ, ◌==◌, Bool, true, false, List, [], ◌∷◌, ◌++◌, filter_map, flat_map, String, Option, None, Some, option_map}
 use Rattle.std.specs.Global.{Global}
 use Rattle.std.specs.List.{before_first, after_first}
@@ -16,7 +16,7 @@ use Rattle.hashbag_words_lib.specs.declared.lines.BadLines.TheVariants.{Rejected
 use Rattle.hashbag_words_lib.specs.declared.rows.RowForm.{RowForm}
 use Rattle.hashbag_words_lib.specs.declared.rows.RowForm.TheVariants.{Tsv, Uniq}
 
--- the row that a line is read as: the token before the first tab, unescaped, and the number behind it; none if the token has a bad escape
+-- the row that a line is read as: the token before the first tab, unescaped, and the number after the tab; none if the token has a bad escape
 abbrev pub read_as : List ℕ → Option (List ℕ × ℕ)
 read_as line =
     option_map (λ token. (token, digits_value 10 (without_leading_plus (after_first (λ b. b == 9) line)))) (unescaped false (before_first (λ b. b == 9) line))
@@ -36,11 +36,11 @@ rows_of_file bytes = filter_map read_as (unmarked (lines bytes))
 
 -- the rows of the bytes that are left; `None` if the form isn't `tsv`, or bad lines are skipped. The flag says whether the first line may
 -- begin with a byte order mark
-abbrev pub rows_left : RowForm → BadLines → Bool → List ℕ → Option (List (List ℕ × ℕ))
-rows_left Tsv Rejected false bytes = Some (rows_in bytes)
-rows_left Tsv Rejected true bytes = Some (rows_of_file bytes)
-rows_left Tsv Skipped marked bytes = None
-rows_left Uniq bad_lines marked bytes = None
+abbrev pub rows_to_come : RowForm → BadLines → Bool → List ℕ → Option (List (List ℕ × ℕ))
+rows_to_come Tsv Rejected false bytes = Some (rows_in bytes)
+rows_to_come Tsv Rejected true bytes = Some (rows_of_file bytes)
+rows_to_come Tsv Skipped marked bytes = None
+rows_to_come Uniq bad_lines marked bytes = None
 
 -- the text of rows: their lines, each with a line feed
 abbrev pub run_text : List (List ℕ × ℕ) → List ℕ
@@ -51,3 +51,7 @@ pub record IsRunOf {S : Type 0} (bag : Bag (String Global) S) (rows : List (List
   pub rises : Rises rows
   pub counts : (text : List ℕ) → times_in text rows ≡ count bytes_eq text (texts_in bag)
   pub again : rows_in (run_text rows) ≡ rows
+
+-- the bytes are the text of a run of the bag
+abbrev pub IsRunTextOf : {S : Type 0} → Bag (String Global) S → List ℕ → Type 0
+IsRunTextOf bag bytes = (rows : List (List ℕ × ℕ)) × IsRunOf bag rows × (bytes ≡ run_text rows)

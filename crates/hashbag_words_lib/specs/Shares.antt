@@ -1,7 +1,7 @@
 -- Shares of a total, in percent.
 use Rattle.std.specs.Prelude.{ℕ, ◌+◌, ◌*◌, ◌/◌, ◌%◌, List, [], ◌∷◌, ◌++◌, decimal}
 
--- n / d, rounded to the nearest number, and up from the middle between two
+-- n / d, rounded to the nearest number, halves up
 abbrev pub rounded : ℕ → ℕ → ℕ
 rounded n d = (2 * n + d) / (2 * d)
 

@@ -1,4 +1,4 @@
--- What is shown of texts that were counted, and the bytes that are written of it.
+-- Which of the counted texts are shown, and the bytes that show them.
 use Rattle.std.specs.Prelude.{◌≡◌, ℕ, List, [], length, sum_by, take, String}
 use Rattle.std.specs.Global.{Global}
 use Rattle.std.specs.List.{IsDistinct}
@@ -9,7 +9,7 @@ use Rattle.hashbag.specs.Bag.{Bag}
 use Rattle.hashbag.specs.Occurrences.{count}
 use Rattle.hashbag_ops.specs.Order.{rank}
 use Rattle.hashbag_words_lib.specs.Bars.{bars_text}
-use Rattle.hashbag_words_lib.specs.Choice.{shown_count, AreKept}
+use Rattle.hashbag_words_lib.specs.Choice.{shown_count, KeepsShown}
 use Rattle.hashbag_words_lib.specs.Counted.{HaveTogether}
 use Rattle.hashbag_words_lib.specs.RowText.{bytes_left}
 use Rattle.hashbag_words_lib.specs.Sorted.{text_cmp, times_in, Rises}
@@ -24,59 +24,59 @@ use Rattle.hashbag_words_lib.specs.declared.shown_text.Shown.TheVariants.{Rows, 
 use Rattle.hashbag_words_lib.specs.declared.writing.Format.{Format}
 use Rattle.hashbag_words_lib.specs.declared.writing.Format.TheVariants.{Shares}
 
--- the rows have each of these texts that is shown once, with its count in the list, and nothing else
+-- the rows have each text of the list that `choice` shows, once, with its count in the list, and no other text
 pub record HasShown (choice : Choice) (texts : List (List ℕ)) (rows : List (List ℕ × ℕ)) : Type 0 where
   pub once : IsDistinct bytes_eq (keys_of rows)
   pub counts : (text : List ℕ) → times_in text rows ≡ shown_count choice text (count bytes_eq text texts)
 
--- these rows are shown, in that order: tokens in ascending order, or as they come; or the first k of them, the most common first, and tokens that
--- are equally common in ascending order
+-- these rows are shown, in this order: tokens in ascending order, or as they come; or the first k of them, the most common first, and tokens that are
+-- equally common in ascending order
 abbrev pub AreShown : Order → Choice → List (List ℕ) → List (List ℕ × ℕ) → Type 0
 AreShown Ascending choice texts rows = HasShown choice texts rows × Rises rows
 AreShown Unordered choice texts rows = HasShown choice texts rows
 AreShown (MostCommon k) choice texts rows =
     (all : List (List ℕ × ℕ)) × HasShown choice texts all × IsStrictlySortedBy (rank text_cmp) all × (rows ≡ take k all)
 
--- the bytes are what is written of these tokens
+-- the bytes show these tokens, as `choice` and `format` say
 pub record IsShownText (choice : Choice) (format : Format) (texts : List (List ℕ)) (bytes : List ℕ) : Type 0 where
   pub rows : List (List ℕ × ℕ)
   pub shown : AreShown choice.order choice texts rows
   pub is : bytes ≡ text_of format rows
 
--- for any list of tokens of which the bag has exactly those that are shown, with their counts: the bytes are what is written of the list
+-- for any list of tokens: if the bag has exactly the tokens of the list that are shown, with their counts, the bytes show the list
 abbrev pub IsTextOfKept : {S : Type 0} → Choice → Format → Bag (String Global) S → List ℕ → Type 0
-IsTextOfKept choice format bag bytes = (texts : List (List ℕ)) → AreKept choice texts bag → IsShownText choice format texts bytes
+IsTextOfKept choice format bag bytes = (texts : List (List ℕ)) → KeepsShown choice texts bag → IsShownText choice format texts bytes
 
--- the bytes are what is written of these tokens with bars, on a terminal of that width
+-- the bytes show these tokens with bars, on a terminal of that width
 pub record IsShownBars (choice : Choice) (width : ℕ) (texts : List (List ℕ)) (bytes : List ℕ) : Type 0 where
   pub rows : List (List ℕ × ℕ)
   pub shown : AreShown choice.order choice texts rows
   pub is : bytes ≡ bars_text width rows
 
--- for any list of tokens of which the bag has exactly those that are shown: the bytes are what is written of the list with bars
+-- for any list of tokens: if the bag has exactly the tokens of the list that are shown, the bytes show the list with bars
 abbrev pub AreBarsOfKept : {S : Type 0} → Choice → ℕ → Bag (String Global) S → List ℕ → Type 0
-AreBarsOfKept choice width bag bytes = (texts : List (List ℕ)) → AreKept choice texts bag → IsShownBars choice width texts bytes
+AreBarsOfKept choice width bag bytes = (texts : List (List ℕ)) → KeepsShown choice texts bag → IsShownBars choice width texts bytes
 
--- the bytes are what is written of these tokens in this look. A share is of all of them, shown or not
-abbrev pub IsWritten : Choice → Look → List (List ℕ) → List ℕ → Type 0
-IsWritten choice (InRows format) texts bytes = IsShownText choice format texts bytes
-IsWritten choice WithShares texts bytes = IsShownText choice (Shares (length texts)) texts bytes
-IsWritten choice (WithBars width) texts bytes = IsShownBars choice width texts bytes
+-- the bytes show these tokens, as `choice` and `look` say. A share is of all of them, shown or not
+abbrev pub ShowsTexts : Choice → Look → List (List ℕ) → List ℕ → Type 0
+ShowsTexts choice (InRows format) texts bytes = IsShownText choice format texts bytes
+ShowsTexts choice WithShares texts bytes = IsShownText choice (Shares (length texts)) texts bytes
+ShowsTexts choice (WithBars width) texts bytes = IsShownBars choice width texts bytes
 
--- the bytes are what is written of the tokens that the bag has
+-- the bytes show the tokens that the bag has
 abbrev pub ShowsCounted : {S : Type 0} → Choice → Look → Bag (String Global) S → List ℕ → Type 0
-ShowsCounted choice look bag bytes = (texts : List (List ℕ)) → HaveTogether [] bag texts → IsWritten choice look texts bytes
+ShowsCounted choice look bag bytes = (texts : List (List ℕ)) → HaveTogether [] bag texts → ShowsTexts choice look texts bytes
 
--- these tokens are what the inputs count, together
+-- together, the inputs count exactly these tokens
 abbrev pub CountTexts : List (List (List ℕ × ℕ)) → List (List ℕ) → Type 0
 CountTexts inputs texts = (text : List ℕ) → sum_by (times_in text) inputs ≡ count bytes_eq text texts
 
--- whatever tokens the inputs count, however their counts are divided among these: the bytes are what is written of the tokens, and the total is how many there are
+-- the bytes show the tokens that the inputs count together, however the counts are divided among the inputs; the total is the number of these tokens
 abbrev pub WritesTogether : Choice → Look → List (List (List ℕ × ℕ)) → ℕ → List ℕ → Type 0
 WritesTogether choice look inputs total bytes =
-    (texts : List (List ℕ)) → CountTexts inputs texts → IsWritten choice look texts bytes × (total ≡ length texts)
+    (texts : List (List ℕ)) → CountTexts inputs texts → ShowsTexts choice look texts bytes × (total ≡ length texts)
 
 -- all bytes of a text
-abbrev pub bytes_of : Shown → List ℕ
-bytes_of (Rows text) = bytes_left text
-bytes_of (Bars text) = text.items
+abbrev pub shown_bytes : Shown → List ℕ
+shown_bytes (Rows text) = bytes_left text
+shown_bytes (Bars text) = text.items

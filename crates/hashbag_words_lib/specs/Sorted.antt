@@ -18,17 +18,17 @@ text_cmp x y = slice_cmp nat_cmp x y
 abbrev pub row_of : String Global × ℕ → List ℕ × ℕ
 row_of row = (string_bytes row.0, row.1)
 
--- what a row counts of a text
+-- how often a row counts a text: its count if the token is the text, else 0
 abbrev pub of_row : List ℕ → List ℕ × ℕ → ℕ
 of_row text row = if bytes_eq text row.0 then row.1 else 0
 
--- what rows count of a text, added up
+-- how often rows count a text, in all
 abbrev pub times_in : List ℕ → List (List ℕ × ℕ) → ℕ
 times_in text rows = sum_by (of_row text) rows
 
 -- what rows count in all
-abbrev pub numbers : List (List ℕ × ℕ) → ℕ
-numbers rows = sum_by (λ row. row.1) rows
+abbrev pub number_sum : List (List ℕ × ℕ) → ℕ
+number_sum rows = sum_by (λ row. row.1) rows
 
 -- each token is greater than the token before
 abbrev pub Rises : List (List ℕ × ℕ) → Type 0
@@ -38,14 +38,14 @@ Rises rows = IsStrictlySortedBy text_cmp (keys_of rows)
 abbrev pub AllBelow : List ℕ → List (List ℕ × ℕ) → Type 0
 AllBelow text rows = AllByRecursion (λ key. text_cmp key text ≡ Less) (keys_of rows)
 
--- `merged` is the merge of sources: all have tokens in ascending order, `merged` too; it has each text with the sum of its counts, unless
--- that is 0
+-- `merged` is the merge of sources. In each source, and in `merged`, the tokens are in ascending order. `merged` has each token with the sum of its
+-- counts, unless the sum is 0
 pub record IsMergeOf (sources : List (List (List ℕ × ℕ))) (merged : List (List ℕ × ℕ)) : Type 0 where
   pub risen : All Rises sources
   pub rises : Rises merged
   pub sums : (text : List ℕ) → times_in text merged ≡ sum_by (times_in text) sources
   pub shown : All (λ row. 0 < row.1) merged
-  pub fits : sum_by numbers sources < 2 ^ 64
+  pub fits : sum_by number_sum sources < 2 ^ 64
 
 -- the first of these rows, if there is one, comes after the text
 abbrev pub IsAbove : List ℕ → List (List ℕ × ℕ) → Type 0
@@ -90,7 +90,7 @@ abbrev pub one_of : Option (String Global × ℕ) → List (List ℕ × ℕ)
 one_of None = []
 one_of (Some row) = row_of row ∷ []
 
--- the rows that a done row gives: none if its count is 0
+-- a row that is done, as a list: without rows if its count is 0
 abbrev pub shown_of : Option (String Global × ℕ) → List (List ℕ × ℕ)
 shown_of None = []
 shown_of (Some row) = if row.1 == 0 then [] else row_of row ∷ []
@@ -119,4 +119,4 @@ pub record SoFar (inputs left : List (List (List ℕ × ℕ))) (out : List (List
   pub first : HoldsFirst left held
   pub sums : (text : List ℕ) → times_in text out + held_of text held + sum_by (times_in text) left ≡ sum_by (times_in text) inputs
   pub shown : All (λ row. 0 < row.1) out
-  pub numbered : total + sum_by numbers left ≡ sum_by numbers inputs
+  pub numbered : total + sum_by number_sum left ≡ sum_by number_sum inputs

@@ -1,7 +1,7 @@
 -- What a source of rows has left, whatever bytes come next.
 use Rattle.std.specs.Prelude.{◌≡◌, ℕ, true, List, [], ◌∷◌, ◌++◌, String, Option, None, Some, IsSome, IsSomeAnd}
 use Rattle.std.specs.Global.{Global}
-use Rattle.hashbag_words_lib.specs.Runs.{read_as, rows_in, rows_left}
+use Rattle.hashbag_words_lib.specs.Runs.{read_as, rows_in, rows_to_come}
 use Rattle.hashbag_words_lib.specs.Sorted.{row_of}
 use Rattle.hashbag_words_lib.specs.declared.row_source.SourceKind.{SourceKind}
 use Rattle.hashbag_words_lib.specs.declared.row_source.SourceKind.TheVariants.{Run, File}
@@ -12,11 +12,11 @@ use Rattle.hashbag_words_lib.specs.declared.row_source.RowSource.{RowSource}
 -- the rows of a whole text of this kind; `None` for a file that isn't `tsv`, or whose bad lines are skipped
 abbrev pub rows_of : SourceKind → List ℕ → Option (List (List ℕ × ℕ))
 rows_of Run text = Some (rows_in text)
-rows_of (File form bad_lines) text = rows_left form bad_lines true text
+rows_of (File form bad_lines) text = rows_to_come form bad_lines true text
 
 -- the rows that a source has left if these bytes come next, and then the end
 abbrev pub left_with : RowSource → List ℕ → Option (List (List ℕ × ℕ))
-left_with source more = rows_left source.form source.reading.bad_lines source.may_be_marked (source.unread ++ more)
+left_with source more = rows_to_come source.form source.reading.bad_lines source.may_be_marked (source.unread ++ more)
 
 -- these bytes may come next: after the end, no bytes
 abbrev pub MayCome : RowSource → List ℕ → Type 0

@@ -11,6 +11,6 @@ abbrev mutual
   bytes_before None' = []
   bytes_before (Some' s b) = bytes_of b
 
-abbrev pub bytes_in : Option (Snapshot Part) → List ℕ
-bytes_in None = []
-bytes_in (Some s) = bytes_of s.value
+abbrev pub tape_bytes : Option (Snapshot Part) → List ℕ
+tape_bytes None = []
+tape_bytes (Some s) = bytes_of s.value

@@ -1,5 +1,5 @@
 -- The most common of rows that come one by one.
-use Rattle.std.specs.Prelude.{ℕ, List, [], ◌∷◌, ◌++◌, map, take, if◌then◌else◌, String, string_bytes}
+use Rattle.std.specs.Prelude.{◌≡◌, ℕ, List, [], ◌∷◌, ◌++◌, map, take, if◌then◌else◌, String, string_bytes}
 use Rattle.std.specs.BinaryHeap.{heap_items, IsHeap}
 use Rattle.std.specs.Global.{Global}
 use Rattle.std.specs.declared.cmp.Ordering.{Ordering}
@@ -13,7 +13,7 @@ abbrev pub placed : List ℕ × ℕ → List (List ℕ × ℕ) → List (List �
 placed row [] = row ∷ []
 placed row (r ∷ rows) = if comes_first text_cmp r row then r ∷ placed row rows else row ∷ r ∷ rows
 
--- rows in that order
+-- rows, in the order that `placed` says
 abbrev pub ranked : List (List ℕ × ℕ) → List (List ℕ × ℕ)
 ranked [] = []
 ranked (row ∷ rows) = placed row (ranked rows)
@@ -26,14 +26,18 @@ most_common k rows = take k (ranked rows)
 abbrev pub kept_row : Reverse ℕ × String Global → List ℕ × ℕ
 kept_row item = (string_bytes item.1, item.0.0)
 
--- the order of such items
+-- the order of the items of the heap
 abbrev pub kept_cmp : Reverse ℕ × String Global → Reverse ℕ × String Global → Ordering
 kept_cmp x y = rank text_cmp (kept_row x) (kept_row y)
 
--- `top` keeps the first of these rows, `top.most` of them
+-- `top` keeps the first `top.most` of these rows, in the order of `ranked`
 pub record KeepsTop (top : TopRows) (rows : List (List ℕ × ℕ)) : Type 0 where
   pub heap : IsHeap kept_cmp (heap_items top.kept)
   pub first : IsFirstOf (comes_first text_cmp) top.most rows (map kept_row (heap_items top.kept))
+
+-- these items are the most common of all rows that were put, whatever rows were put
+abbrev pub AreTop : TopRows → List (Reverse ℕ × String Global) → Type 0
+AreTop top items = (rows : List (List ℕ × ℕ)) → KeepsTop top rows → map kept_row items ≡ most_common top.most rows
 
 -- if `old` keeps the first of some rows, `new` keeps the first of these rows and of `row`
 abbrev pub PutsTop : TopRows → List ℕ × ℕ → TopRows → Type 0

@@ -39,6 +39,10 @@ comma Json true = []
 comma Json false = 44 ∷ []
 comma Uniq first = []
 
+-- the text of a row with what comes before it; `first` says whether it is the first row of all
+abbrev pub next_row_text : Format → Bool → List ℕ × ℕ → List ℕ
+next_row_text format first r = comma format first ++ row_text format r
+
 -- what comes before all rows
 abbrev pub head_text : Format → List ℕ
 head_text Tsv = []

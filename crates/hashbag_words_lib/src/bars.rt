@@ -114,7 +114,7 @@ fn push_times(text: &mut Vec<u8>, byte: u8, n: usize) -> Result<(), AllocError>
     Ok(())
 }
 
-// Appends a token in `room` columns: cut to them, or with spaces behind it.
+// Appends a token in `room` columns. A wider token is cut, and spaces follow a narrower one.
 fn push_name(alloc: Global, text: &mut Vec<u8>, room: usize, token: &str) -> Result<(), AllocError>
     ensures { OnOk result (text.new.items ≡ text.old.items ++ name_text room (name_of token.now)) }
 {
@@ -218,6 +218,7 @@ pub fn bars_of(
     width: usize,
     rows: &[(&String, usize)],
 ) -> Result<Vec<u8>, AllocError>
+    // A line for each row, in order: its token, a space, its count, a space and its bar, laid out for `width` columns, at least 40 and at most 1000.
     ensures { IfOk result (λ text. text.items ≡ bars_text width (map row_of (map seen rows.now))) }
 {
     let layout = layout_of(alloc, width, rows)?;

@@ -1,4 +1,4 @@
-//! Inputs that are read block by block, with what was read of them.
+//! A reader of inputs, block by block. For contracts it has what was read.
 ghost use Rattle.std.specs.Prelude.{◌≡◌, [], take, Some, OnOk};
 ghost use Rattle.std.specs.Io.{ReadsAtMost};
 ghost use Rattle.hashbag_words_lib.specs.BlockReaders.{begun_in, ended_in, last_in, ReadsNext};
@@ -17,6 +17,7 @@ const BLOCK: usize = 1 << 16;
 ///
 /// The system's error.
 pub fn read_block<F: Read>(input: &mut F, block: &mut [u8]) -> io::Result<usize>
+    // The number of bytes isn't greater than the length of the block.
     ensures { ReadsAtMost result block.new }
 {
     for _ in 0..u64::MAX {
@@ -43,13 +44,14 @@ pub struct BlockReader<'a, F: Drop> {
     // The inputs that were read to their ends.
     ended: Trace<(&'a str, Tape)>,
     block: Vec<u8>,
-    // How many bytes of the block were read last.
+    // How many bytes of `block` the last read filled.
     n: usize,
 }
 
 impl<'a, F: Read + Drop> BlockReader<'a, F> {
     /// Returns a reader that has read nothing.
     pub fn new(alloc: Global) -> BlockReader<'a, F>
+        // No input was read to its end.
         ensures { ended_in result ≡ [] }
     {
         BlockReader {
@@ -60,12 +62,13 @@ impl<'a, F: Read + Drop> BlockReader<'a, F> {
         }
     }
 
-    /// Begins an input, whose name this is.
+    /// Begins to read an input. `name` is its name.
     ///
     /// # Errors
     ///
     /// An allocation fails.
     pub fn begin(&mut self, alloc: Global, name: &'a str, input: F) -> Result<(), AllocError>
+        // The input named `name` is open, and nothing of it was read. The inputs that were read to their ends are unchanged.
         ensures begun { OnOk result (begun_in self.new ≡ Some (name.entry.now, [])) }
         ensures ended { OnOk result (ended_in self.new ≡ ended_in self.old) }
     {
@@ -81,12 +84,13 @@ impl<'a, F: Read + Drop> BlockReader<'a, F> {
         Ok(())
     }
 
-    /// Reads the next block of the input. It has no bytes if the input has ended.
+    /// Reads the next block of the input. The block is empty if the input has ended.
     ///
     /// # Errors
     ///
     /// The system's error.
     pub fn read(&mut self) -> io::Result<()>
+        // The block is appended to what was read of the open input, if one is open. An empty block appends this input to those read to their ends.
         ensures { OnOk result (ReadsNext self.old self.new) }
     {
         let Some(mut open) = self.open.take() else {

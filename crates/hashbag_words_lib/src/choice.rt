@@ -5,7 +5,7 @@ ghost use Rattle.std.specs.Map.{keys_of};
 ghost use Rattle.std.specs.Str.{chars};
 ghost use Rattle.std.specs.String.{string_cmp, string_eq};
 ghost use Rattle.hashbag.specs.Walks.{IsSetWalkOf, seen};
-ghost use Rattle.hashbag_words_lib.specs.Choice.{is_excepted, shows, AreKept, IsShown};
+ghost use Rattle.hashbag_words_lib.specs.Choice.{is_excepted, shows, KeepsShown, IsShown};
 ghost use Rattle.hashbag_words_lib.specs.Counted.{HaveTogether};
 
 use crate::shards::{Shard, is_shown};
@@ -44,6 +44,7 @@ pub struct Choice<'e> {
 impl Choice<'_> {
     /// Returns whether a token with this count is shown.
     pub fn shows(&self, token: &str, count: usize) -> bool
+        // A token is shown if `count` ≥ `least`, and it has at least `shortest` characters, is in `shard` (if any) and isn't in the bag `except` (if any).
         ensures { result ≡ shows self.now (token.now, count) }
     {
         self.least <= count
@@ -70,14 +71,13 @@ fn is_excepted(except: Option<&HashBag<String, RandomState>>, token: &str) -> bo
     }
 }
 
-// Keeps the tokens that are shown, and removes the others. Returns the bag's total before that. Reads each token once, and allocates
-// nothing.
+// Keeps the tokens that are shown, and removes the others. Returns the bag's total before the removals. Reads each token once, and allocates nothing.
 pub(crate) fn keep_shown<S: BuildHasher + Drop>(
     bag: &mut HashBag<String, S>,
     choice: Choice<'_>,
 ) -> usize
     // `texts` lists the bag's texts. Each text that is shown keeps its count; no other text is left.
-    ensures kept { (texts : List (List ℕ)) → HaveTogether [] bag.old texts → AreKept choice.entry texts bag.new }
+    ensures kept { (texts : List (List ℕ)) → HaveTogether [] bag.old texts → KeepsShown choice.entry texts bag.new }
     ensures total { (texts : List (List ℕ)) → HaveTogether [] bag.old texts → result ≡ length texts }
 {
     let total = bag.len();
@@ -108,7 +108,7 @@ fn rising<'a, S: BuildHasher + Drop>(
     Ok(sorted)
 }
 
-/// Returns tokens with their counts: those that `order` asks for, in that order.
+/// Returns the tokens of a bag with their counts, in the order `order`: all tokens, or the most common ones.
 ///
 /// # Errors
 ///
@@ -122,6 +122,7 @@ pub fn chosen<'a, S: BuildHasher + Drop>(
     bag: &'a HashBag<String, S>,
     order: Order,
 ) -> Result<Vec<(&'a String, usize)>, BagError>
+    // The rows have each token of the bag once, with its count, ordered as `order` says; with `MostCommon(k)` they are the first k of these.
     ensures { IfOk result (λ rows. IsShown order bag.now (map seen rows.items)) }
 {
     match order {

@@ -1,10 +1,9 @@
 //! Counting the fields of a column of CSV texts.
-ghost use Rattle.std.specs.Prelude.{◌≡◌, ◌∷◌, [], false, true, get_or, map, All, OnOk};
+ghost use Rattle.std.specs.Prelude.{◌≡◌, ◌∷◌, [], false, true, All, OnOk};
 ghost use Rattle.hashbag_csv.specs.Readers.{records_in};
-ghost use Rattle.hashbag_csv.specs.Sheets.{FitHeader, fits_sheet, left, place, read_last};
+ghost use Rattle.hashbag_csv.specs.Sheets.{FitHeader, fits_sheet, last_field, left, place};
 ghost use Rattle.hashbag_words_lib.specs.Columns.{HasColumn, column_at, column_in};
-ghost use Rattle.hashbag_words_lib.specs.Counts.{AddsTexts};
-ghost use Rattle.hashbag_words_lib.specs.Tokens.{token_of};
+ghost use Rattle.hashbag_words_lib.specs.Counts.{AddsTokens};
 
 use crate::counting::add_piece;
 use hashbag::{BagError, HashBag};
@@ -22,7 +21,7 @@ fn add_record<S: BuildHasher + Drop>(
     sheet: &Sheet<'_>,
     column: Column<'_>,
 ) -> Result<(), SheetError>
-    ensures { OnOk result (AddsTexts bag.old bag.new (token_of fold (get_or (read_last sheet.now) (place column.entry) []) ∷ [])) }
+    ensures { OnOk result (AddsTokens fold bag.old bag.new (last_field sheet.now column.entry ∷ [])) }
 {
     let field = sheet.field(column)?;
     match add_piece(alloc, bag, fold, field) {
@@ -43,7 +42,7 @@ fn add_records<S: BuildHasher + Drop>(
     sheet: &mut Sheet<'_>,
     column: Column<'_>,
 ) -> Result<(), SheetError>
-    ensures counts { OnOk result (AddsTexts bag.old bag.new (map (token_of fold) (column_at (place column.entry) (left sheet.old)))) }
+    ensures counts { OnOk result (AddsTokens fold bag.old bag.new (column_at (place column.entry) (left sheet.old))) }
     ensures fits { OnOk result (All (λ r. fits_sheet sheet.old r ≡ true) (left sheet.old)) }
 {
     'records: while sheet.read()? {
@@ -72,7 +71,8 @@ pub fn count_column<S: BuildHasher + Drop>(
     name: &str,
     delimiter: Delimiter,
 ) -> Result<(), SheetError>
-    ensures counts { OnOk result (AddsTexts bag.old bag.new (map (token_of fold) (column_in delimiter name.now text.now))) }
+    // Each field of the column below the header is counted once: case-folded with `fold`, else as it is. No other text is counted.
+    ensures counts { OnOk result (AddsTokens fold bag.old bag.new (column_in delimiter name.now text.now)) }
 
     // The header has exactly one column of this name, and each other record has as many fields as the header.
     ensures named { OnOk result (HasColumn name.now (records_in delimiter text.now)) }

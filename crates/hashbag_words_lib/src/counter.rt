@@ -1,16 +1,19 @@
 //! Counting the tokens of texts that come in blocks, however they are cut.
 //!
-//! A [`TextCounter`] is given bytes, so its clauses hold for any source of the bytes. In the clauses, `text` is what was fed of this text,
-//! `before` are the tokens that the bag had at first and those of earlier texts, and `runs` the runs that were written. A run is a bag's
-//! counts, written to a file to free memory. `HasCounted`: the bag and `runs` together have the tokens of `before` and of the lines of
-//! `text` that have ended.
-ghost use Rattle.std.specs.Prelude.{◌≡◌, ℕ, List, [], ◌∷◌, ◌++◌, IfOk, OnOk};
+//! A [`TextCounter`] is given bytes, so its clauses hold for any source of the bytes. A run is a bag's counts, written to a file to free memory. In
+//! the clauses:
+//!
+//! - `text` is what was fed of this text so far;
+//! - `before` are the tokens of earlier texts, after the tokens that the bag had at first;
+//! - `runs` are the runs that were written;
+//! - `HasCounted`: the bag and `runs` together have the tokens of `before`, and of the lines of `text` that have ended.
+ghost use Rattle.std.specs.Prelude.{◌≡◌, [], ◌∷◌, ◌++◌, IfOk, OnOk};
 ghost use Rattle.hashbag_core.specs.declared.bag.BagError.{BagError};
 ghost use Rattle.hashbag_words_lib.specs.Counted.{fed_of, CountsBytes, CountsWholeText, EndsWholeText, HasCounted, HaveTogether, IsFirstBadOfText, IsFirstBadOfTextWith, IsFirstBadWhateverFollows, IsReadingOfText, IsWithin, KeepsCountedInRun, NoLineFeed};
 ghost use Rattle.hashbag_words_lib.specs.Counts.{texts_in};
 ghost use Rattle.hashbag_words_lib.specs.Faults.{OnBadLine};
 ghost use Rattle.hashbag_words_lib.specs.RowText.{bytes_left};
-ghost use Rattle.hashbag_words_lib.specs.Runs.{run_text, IsRunOf};
+ghost use Rattle.hashbag_words_lib.specs.Runs.{IsRunTextOf};
 ghost use Rattle.std.specs.Str.Lines.{strip_carriage_return};
 
 use crate::counting::add_bytes;
@@ -43,7 +46,7 @@ pub struct TextCounter<'r, S: BuildHasher + Drop> {
 pub enum Fed {
     /// The whole block.
     Whole,
-    /// Only the first bytes of the block, this many. Then the bag was full.
+    /// Only this many bytes, from the beginning of the block. The bag was full then.
     Full(usize),
 }
 
@@ -81,7 +84,7 @@ impl<'r, S: BuildHasher + Drop> TextCounter<'r, S> {
         bad_lines: BadLines,
         gauge: Option<Gauge>,
     ) -> TextCounter<'r, S>
-        // No text was fed so far, and `before` is what the bag has.
+        // No text was fed and no run was written so far. `before` is what the bag has.
         ensures begins { HasCounted (texts_in bag) [] result [] }
         ensures rule { result.rule ≡ rule.entry }
         ensures bad_lines { result.reading.bad_lines ≡ bad_lines }
@@ -166,8 +169,8 @@ impl<'r, S: BuildHasher + Drop> TextCounter<'r, S> {
 
     /// Counts the lines that end in these bytes. The bytes after the last line feed are kept.
     ///
-    /// Returns `Fed::Whole`, or `Fed::Full(n)` if the bag was full when that was asked. Then only the first `n` bytes were fed, to the end of the
-    /// line after which it was asked. With a gauge it is asked after every 16 lines.
+    /// Returns `Fed::Whole` if the whole block was fed. The gauge, if there is one, is asked after every 16 lines whether the bag is full. If it is,
+    /// returns `Fed::Full(n)`: only the first `n` bytes were fed, up to the end of the line after which the gauge was asked.
     ///
     /// # Errors
     ///
@@ -242,8 +245,8 @@ impl<'r, S: BuildHasher + Drop> TextCounter<'r, S> {
     ///
     /// `Memory` if an allocation fails.
     pub fn run(&self) -> Result<RowText<'_>, BagError>
-        // Same as [`run_of`].
-        ensures { IfOk result (λ text. (rows : List (List ℕ × ℕ)) × IsRunOf self.now.bag rows × (bytes_left text ≡ run_text rows)) }
+        // The text is rows of `tsv`, in ascending order of tokens, which count each token as often as the bag has it. Reading it gives these rows.
+        ensures { IfOk result (λ text. IsRunTextOf self.now.bag (bytes_left text)) }
     {
         run_of(self.alloc, &self.bag)
     }

@@ -1,10 +1,11 @@
 //! Counting the tokens of lines.
-ghost use Rattle.std.specs.Prelude.{◌≡◌, ◌+◌, ◌-◌, ◌^◌, ◌∷◌, [], filter, map, min, slice_range, true, false, OnOk};
+ghost use Rattle.std.specs.Prelude.{◌≡◌, ◌+◌, ◌-◌, ◌^◌, ◌∷◌, [], filter, min, slice_range, true, false, OnOk};
 ghost use Rattle.std.specs.Iterator.{IsFinite};
 ghost use Rattle.std.specs.Str.{is_utf8};
 ghost use Rattle.std.specs.Str.Lossy.{utf8_lossy};
 ghost use Rattle.unicode_segmentation.specs.Word.{words};
-ghost use Rattle.hashbag_words_lib.specs.Counts.{AddsTexts, AddsPieces};
+ghost use Rattle.hashbag_words_lib.specs.Counted.{ReplacesLine, SkipsLine};
+ghost use Rattle.hashbag_words_lib.specs.Counts.{AddsPieces, AddsTexts, AddsTokens};
 ghost use Rattle.hashbag_words_lib.specs.Faults.{OnBadLine};
 ghost use Rattle.hashbag_words_lib.specs.Tokens.{groups_in, is_bad, is_replaced, nonempty, part_of, pieces_of, spaced_words, token_of, tokens_of_line, tokens_of_lines, without_mark};
 
@@ -83,7 +84,7 @@ fn add_words<S: BuildHasher + Drop>(
     fold: bool,
     line: &str,
 ) -> Result<(), BagError>
-    ensures { OnOk result (AddsTexts bag.old bag.new (map (token_of fold) (spaced_words line.now))) }
+    ensures { OnOk result (AddsTokens fold bag.old bag.new (spaced_words line.now)) }
 {
     add_pieces(alloc, bag, fold, line.split_whitespace())
 }
@@ -95,7 +96,7 @@ fn add_unicode_words<S: BuildHasher + Drop>(
     fold: bool,
     line: &str,
 ) -> Result<(), BagError>
-    ensures { OnOk result (AddsTexts bag.old bag.new (map (token_of fold) (words line.now))) }
+    ensures { OnOk result (AddsTokens fold bag.old bag.new (words line.now)) }
 {
     add_pieces(alloc, bag, fold, line.unicode_words())
 }
@@ -107,7 +108,7 @@ fn add_match<S: BuildHasher + Drop>(
     fold: bool,
     piece: &str,
 ) -> Result<(), BagError>
-    ensures { OnOk result (AddsTexts bag.old bag.new (map (token_of fold) (nonempty (piece.now ∷ [])))) }
+    ensures { OnOk result (AddsTokens fold bag.old bag.new (nonempty (piece.now ∷ []))) }
 {
     if piece.is_empty() {
         return Ok(());
@@ -123,7 +124,7 @@ fn add_matches<S: BuildHasher + Drop>(
     pattern: &Regex,
     line: &str,
 ) -> Result<(), BagError>
-    ensures { OnOk result (AddsTexts bag.old bag.new (map (token_of fold) (pieces_of (Pieces.Matches pattern.entry) line.now))) }
+    ensures { OnOk result (AddsTokens fold bag.old bag.new (pieces_of (Pieces.Matches pattern.entry) line.now)) }
 {
     let mut matcher = pattern.matcher(alloc)?;
     for found in matcher.find_iter(line) {
@@ -151,7 +152,7 @@ fn add_text<S: BuildHasher + Drop>(
     fold: bool,
     bytes: &[u8],
 ) -> Result<(), BagError>
-    ensures { OnOk result (AddsTexts bag.old bag.new (map (token_of fold) (nonempty (filter is_utf8 (bytes.now ∷ []))))) }
+    ensures { OnOk result (AddsTokens fold bag.old bag.new (nonempty (filter is_utf8 (bytes.now ∷ [])))) }
 {
     match str::from_utf8(bytes) {
         Ok(text) => add_match(alloc, bag, fold, text),
@@ -159,7 +160,7 @@ fn add_text<S: BuildHasher + Drop>(
     }
 }
 
-// Counts the bytes between two places of a line, if they are given. Between the ends of a group the bytes are always UTF-8.
+// Counts the bytes of a line between two places, or nothing if `place` is `None`. The bytes of a group are always UTF-8.
 fn add_part<S: BuildHasher + Drop>(
     alloc: Global,
     bag: &mut HashBag<String, S>,
@@ -167,7 +168,7 @@ fn add_part<S: BuildHasher + Drop>(
     line: &str,
     place: Option<(usize, usize)>,
 ) -> Result<(), BagError>
-    ensures { OnOk result (AddsTexts bag.old bag.new (map (token_of fold) (nonempty (part_of line.now place)))) }
+    ensures { OnOk result (AddsTokens fold bag.old bag.new (nonempty (part_of line.now place))) }
 {
     match place {
         Some((start, end)) => add_text(alloc, bag, fold, between(line, start, end)),
@@ -184,7 +185,7 @@ fn add_groups<S: BuildHasher + Drop>(
     index: usize,
     line: &str,
 ) -> Result<(), BagError>
-    ensures { OnOk result (AddsTexts bag.old bag.new (map (token_of fold) (nonempty (groups_in pattern.now (index + 1) line.now)))) }
+    ensures { OnOk result (AddsTokens fold bag.old bag.new (nonempty (groups_in pattern.now (index + 1) line.now))) }
 {
     if index >= pattern.captures_len().saturating_sub(1) {
         return Ok(());
@@ -208,7 +209,7 @@ fn add_field<S: BuildHasher + Drop>(
     separator: Separator,
     line: &str,
 ) -> Result<(), BagError>
-    ensures { OnOk result (AddsTexts bag.old bag.new (map (token_of fold) (pieces_of (Pieces.Field index separator) line.now))) }
+    ensures { OnOk result (AddsTokens fold bag.old bag.new (pieces_of (Pieces.Field index separator) line.now)) }
 {
     match field_at(line, separator, index) {
         Some(field) => add_piece(alloc, bag, fold, field),
@@ -285,9 +286,9 @@ fn add_other<S: BuildHasher + Drop>(
     ensures passed { OnOk result (reading.old.bad_lines ≡ BadLines.Rejected → is_bad rule.now line.now ≡ false) }
     ensures bad { OnBadLine result ((reading.old.bad_lines ≡ BadLines.Rejected) × (is_bad rule.now line.now ≡ true)) }
     ensures kept { is_bad rule.now line.now ≡ false → reading.new.skipped ≡ reading.old.skipped }
-    ensures skipped { is_bad rule.now line.now ≡ true → OnOk result (reading.new.skipped ≡ min (reading.old.skipped + 1) (2 ^ 64 - 1)) }
+    ensures skipped { is_bad rule.now line.now ≡ true → OnOk result (SkipsLine reading.old reading.new) }
     ensures plain { is_replaced rule.now line.now ≡ false → reading.new.replaced ≡ reading.old.replaced }
-    ensures replaced { is_replaced rule.now line.now ≡ true → OnOk result (reading.new.replaced ≡ min (reading.old.replaced + 1) (2 ^ 64 - 1)) }
+    ensures replaced { is_replaced rule.now line.now ≡ true → OnOk result (ReplacesLine reading.old reading.new) }
     ensures bad_lines { reading.new.bad_lines ≡ reading.old.bad_lines }
     ensures line { reading.new.line ≡ reading.old.line }
 {
@@ -315,9 +316,9 @@ pub(crate) fn add_bytes<S: BuildHasher + Drop>(
 
     // A bad line that is skipped raises `skipped` by 1, up to `u64::MAX`. A line whose bytes are replaced raises `replaced` likewise.
     ensures kept { is_bad rule.now line.now ≡ false → reading.new.skipped ≡ reading.old.skipped }
-    ensures skipped { is_bad rule.now line.now ≡ true → OnOk result (reading.new.skipped ≡ min (reading.old.skipped + 1) (2 ^ 64 - 1)) }
+    ensures skipped { is_bad rule.now line.now ≡ true → OnOk result (SkipsLine reading.old reading.new) }
     ensures plain { is_replaced rule.now line.now ≡ false → reading.new.replaced ≡ reading.old.replaced }
-    ensures replaced { is_replaced rule.now line.now ≡ true → OnOk result (reading.new.replaced ≡ min (reading.old.replaced + 1) (2 ^ 64 - 1)) }
+    ensures replaced { is_replaced rule.now line.now ≡ true → OnOk result (ReplacesLine reading.old reading.new) }
     ensures bad_lines { reading.new.bad_lines ≡ reading.old.bad_lines }
     ensures line { reading.new.line ≡ min (reading.old.line + 1) (2 ^ 64 - 1) }
 {

@@ -10,7 +10,7 @@ use thiserror::Error;
 #[derive(Clone, Copy, Debug, PartialEq, Eq, Error)]
 pub enum BadLine {
     /// The line isn't UTF-8.
-    #[error("not UTF-8; if it is Windows-1252, `iconv -f CP1252` converts it")]
+    #[error("not UTF-8; if it is Windows-1252, `--encoding Windows-1252` reads it")]
     NotText,
     /// A line of counts has no tab.
     #[error("no tab")]

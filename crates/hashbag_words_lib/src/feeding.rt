@@ -1,7 +1,7 @@
 //! Counting in a bag that is emptied into runs whenever it is full.
 //!
-//! What counts is a [`Counter`], and a [`KeepsRuns`] keeps the runs. In the clauses `has` says what a bag and runs have together: what is counted of
-//! texts that ended, and of one that has begun. A run is its rows: those that are read of its text.
+//! A [`Counter`] counts, and a [`KeepsRuns`] keeps the runs. In the clauses a run is the list of its rows, and `has` says what the bag and the runs
+//! have together: the counts of the texts that ended, and of the text that has begun.
 ghost use Rattle.std.specs.Prelude.{◌≡◌, true, ℕ, List, IfOk, OnOk};
 ghost use Rattle.hashbag_words_lib.specs.Counted.{fed_of, IsWithin};
 ghost use Rattle.hashbag_words_lib.specs.Feeding.{Ends, EndsText, Feeds, HasAlso, HasNothing, HasStill, HaveStill, How, KeepsRows, KeepsRun};
@@ -24,22 +24,25 @@ use hashbag_shell::trouble::Trouble;
 use std::alloc::Global;
 use std::hash::BuildHasher;
 
-/// Counts what texts have, which are fed in blocks. Its bag may be emptied into runs.
+/// Counts the contents of texts that are fed in blocks. The counter's bag may be emptied into runs.
 pub trait Counter {
-    /// Holds of runs, of texts that ended and of a text that has begun, if the bag and these runs together have what is counted of these texts
-    /// in this way.
+    /// `has how counter runs ended text`: the bag and `runs` together have what `how` counts in the texts `ended`, and in the lines of `text`
+    /// that have ended.
     ghost has: { How → Self → List (List (List ℕ × ℕ)) → List (List ℕ) → List ℕ → Type 0 };
 
-    /// Holds of rows that are a run of the bag.
+    /// `is_run counter rows`: the rows are a run of the bag.
     ghost is_run: { Self → List (List ℕ × ℕ) → Type 0 };
 
-    /// Counts what a block brings, as far as the bag has room.
+    /// Counts the lines that end in a block, until the bag is full.
     ///
     /// # Errors
     ///
     /// What is wrong with a line. Then the counter is of no use.
     fn feed(&mut self, block: &[u8]) -> Result<Fed, InputFault>
+        // If the counter had `text`, it now has `text` and the bytes that were fed: the whole block, or its first n bytes with `Fed::Full(n)`.
         ensures counted { IfOk result (λ fed. HasAlso has self.old self.new (fed_of fed block.now)) }
+
+        // `Full(n)`: n is above 0 and at most the length of the block.
         ensures within { IfOk result (λ fed. IsWithin fed block.now) };
 
     /// Ends a text. Returns how its lines were read.
@@ -48,6 +51,7 @@ pub trait Counter {
     ///
     /// What is wrong with its last line. Then the counter is of no use.
     fn end(&mut self) -> Result<LinesRead, InputFault>
+        // The text is now the last one of those that ended, and no text has begun.
         ensures { OnOk result (EndsText has self.old self.new) };
 
     /// Returns how the lines of the present text were read.
@@ -55,6 +59,7 @@ pub trait Counter {
 
     /// Returns whether the bag is full.
     fn is_full(&mut self) -> bool
+        // The bag and the runs have together what they had before.
         ensures { HasStill has self.old self.new };
 
     /// Returns the text of a run of the bag.
@@ -63,10 +68,12 @@ pub trait Counter {
     ///
     /// `Memory` if an allocation fails.
     fn run(&self) -> Result<RowText<'_>, BagError>
+        // The rows that are read from the text are a run of the bag.
         ensures { IfOk result (λ text. is_run self.now (rows_in (bytes_left text))) };
 
     /// Empties the bag, since a run of it was kept.
     fn end_run(&mut self)
+        // If `rows` are a run of the old bag: with these as one more run, the bag and the runs have together what they had before.
         ensures { (rows : List (List ℕ × ℕ)) → is_run self.old rows → KeepsRun has self.old self.new rows };
 }
 
@@ -138,10 +145,10 @@ impl<S: BuildHasher + Drop> Counter for RowCounter<S> {
 
 /// Keeps runs.
 pub trait KeepsRuns<'a> {
-    /// Holds of runs if the runs that were kept have together what these have.
+    /// `kept self runs`: together, the kept runs count what `runs` count.
     ghost kept: { Self → List (List (List ℕ × ℕ)) → Type 0 };
 
-    /// Holds if what is read of the runs is what was written.
+    /// `faithful self`: reading the runs gives what was written.
     ghost faithful: { Self → Type 0 };
 
     /// A temporary file.
@@ -153,22 +160,25 @@ pub trait KeepsRuns<'a> {
     ///
     /// Why it isn't kept.
     fn keep(&mut self, text: &mut RowText<'_>) -> Result<(), Trouble<'a>>
+        // The rows that are read from the bytes left of `text` are kept as one more run.
         ensures { OnOk result (KeepsRows kept self.old self.new (rows_in (bytes_left text.old))) };
 
     /// Returns whether no run was kept.
     fn is_empty(&self) -> bool
+        // If `true` is returned, and reading the runs gives what was written, the runs count nothing.
         ensures { result ≡ true → faithful self.now → HasNothing kept self.now };
 
-    /// Merges all runs, and returns what is shown of them.
+    /// Merges all runs, and returns the text that shows their tokens.
     ///
     /// # Errors
     ///
     /// Why a run isn't read or written.
     fn show(&mut self, choice: Choice<'_>, look: Look) -> Result<ShownRuns<Self::File>, Trouble<'a>>
+        // The text shows the tokens that the runs count, as `choice` and `look` say, if reading gives what was written. Bars need `MostCommon`.
         ensures { IfOk result (λ shown. ShowsRuns kept faithful choice.entry look self.old self.new (bytes_in shown)) };
 }
 
-// Keeps a run of what is in the bag, and empties the bag. Without runs nothing changes.
+// Keeps the bag's counts as a run, and empties the bag. If `runs` is `None`, nothing changes.
 fn make_run<'a, C: Counter, R: KeepsRuns<'a>>(
     counter: &mut C,
     runs: &mut Option<R>,
@@ -186,7 +196,7 @@ fn make_run<'a, C: Counter, R: KeepsRuns<'a>>(
     Ok(())
 }
 
-/// Counts all that a block of the text `name` brings. Each time the bag is full, a run is kept and the bag is emptied.
+/// Counts a whole block of the text `name`. Each time the bag is full, a run is kept and the bag is emptied.
 ///
 /// # Errors
 ///
@@ -198,7 +208,7 @@ pub fn feed<'a, C: Counter, R: KeepsRuns<'a>>(
     name: &'a str,
     block: &[u8],
 ) -> Result<(), Trouble<'a>>
-    // The bag and all runs have what is counted of the whole block too.
+    // Together, the bag and all runs now also have the counts of the whole block.
     ensures { OnOk result (Feeds C.has R.kept counter.old counter.new runs.old runs.new block.now) }
 {
     let mut rest = block;
@@ -225,7 +235,7 @@ pub fn end<'a, C: Counter, R: KeepsRuns<'a>>(
     runs: &mut Option<R>,
     name: &'a str,
 ) -> Result<LinesRead, Trouble<'a>>
-    // The bag and all runs have what is counted of the whole text, and the next text hasn't begun.
+    // Together, the bag and all runs have the counts of the whole text. The next text hasn't begun.
     ensures { OnOk result (Ends C.has R.kept counter.old counter.new runs.old runs.new) }
 {
     let reading = match counter.end() {

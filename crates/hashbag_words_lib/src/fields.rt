@@ -31,6 +31,7 @@ fn is_field(part: &str, separator: Separator) -> bool
 ///
 /// Reads each character up to the end of the field at most once, and allocates nothing.
 pub fn field_at(line: &str, separator: Separator, index: usize) -> Option<&str>
+    // The fields are the parts of the line between separators. With `Blanks`, spaces and tabs separate, and empty parts aren't fields.
     ensures { option_copied result ≡ slice_get (fields_of separator line.now) index }
 {
     let mut rest = line;

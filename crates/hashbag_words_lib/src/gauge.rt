@@ -11,7 +11,7 @@ const TOKEN: usize = 32;
 // With less room than this the next lines may need more slots.
 const LITTLE_ROOM: usize = 1024;
 
-// After how many lines it is asked whether the bag is full.
+// After this many lines the gauge checks whether the bag is full.
 const STEP: usize = 16;
 
 /// How many bytes a bag of texts may take, and an upper bound of the bytes that it takes.
@@ -20,11 +20,11 @@ pub struct Gauge {
     most: usize,
     // An upper bound of the bytes of the bag's texts.
     texts: usize,
-    // The lines that were counted since that was asked.
+    // Lines since the last check.
     lines: usize,
 }
 
-// Returns the bytes that a bag takes, or takes after its next growth, if its texts have `texts` bytes.
+// Returns how many bytes a bag takes whose texts have `texts` bytes. If the bag has little room, returns how many it takes while it grows next.
 fn bytes_of<S: BuildHasher + Drop>(bag: &HashBag<String, S>, texts: usize) -> usize {
     let slots = bag.slots().saturating_add(bag.waiting());
     let next = if bag.room() < LITTLE_ROOM {
@@ -85,8 +85,8 @@ impl Gauge {
         bytes_of(bag, self.texts) >= self.most - self.most / 8
     }
 
-    /// Returns whether the bag is full after one more line, of `read` bytes. Only after each 16th line this is asked, as by
-    /// [`Gauge::is_full`]; after the others the bag isn't full.
+    /// Returns whether the bag is full after one more line, of `read` bytes. It checks after every 16th line, as
+    /// [`Gauge::is_full`] does, and returns `false` after the others.
     pub fn is_full_after_line<S: BuildHasher + Drop>(
         &mut self,
         bag: &HashBag<String, S>,

@@ -1,11 +1,11 @@
-//! Rows that come next, each with the first bytes of its token.
+//! The next row of a source, with the first bytes of its token.
 ghost use Rattle.std.specs.Prelude.{◌≡◌, true, false, Some};
 ghost use Rattle.hashbag_words_lib.specs.Sorted.{IsNoLater};
 
 use crate::sorting::prefix;
 use std::marker::Model;
 
-/// A row that comes next. Contracts see the row alone.
+/// The next row of a source. Contracts see the row alone.
 ///
 /// The first eight bytes of its token are kept with it, as a number. Two tokens are compared only if these bytes are the same.
 #[derive(Drop)]
@@ -30,7 +30,7 @@ impl Model for Head {
 impl Head {
     /// Returns the head of a row.
     pub fn new(row: (String, usize)) -> Head
-        // A head is its row in clauses.
+        // In clauses a head means its row.
         ensures { result ≡ row }
     {
         let prefix = prefix(row.0.as_str());
@@ -51,8 +51,9 @@ impl Head {
         self.row
     }
 
-    /// Returns whether the token of this row comes before that of another.
+    /// Returns whether the token of this row comes before the token of `other`.
     pub fn is_before(&self, other: &Head) -> bool
+        // `true`: this row's token isn't greater than that of `other`. `false`: the token of `other` isn't greater than this row's.
         ensures less { result ≡ true → IsNoLater (Some self.now) (Some other.now) }
         ensures later { result ≡ false → IsNoLater (Some other.now) (Some self.now) }
     {

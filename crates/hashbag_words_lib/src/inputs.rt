@@ -1,7 +1,7 @@
 //! Counting all inputs of a call, which are read block by block. They come from any [`Blocks`], so the clauses hold for any bytes.
-ghost use Rattle.std.specs.Prelude.{◌≡◌, ℕ, List, [], ◌∷◌, ◌++◌, Option, None, Some, map, OnOk, IfOk};
+ghost use Rattle.std.specs.Prelude.{◌≡◌, ℕ, List, [], Option, Some, OnOk};
 ghost use Rattle.hashbag_text.specs.Encodings.{text_in};
-ghost use Rattle.hashbag_words_lib.specs.Inputs.{text_left, Counts, FeedsNext, Reads, ReadsBlock, Takes};
+ghost use Rattle.hashbag_words_lib.specs.Inputs.{text_left, Counts, FeedsBlock, Reads, ReadsNextBlock, Takes};
 
 use crate::feeding::{Counter, KeepsRuns, end, feed};
 use crate::lines::LinesRead;
@@ -33,13 +33,14 @@ pub trait Blocks<'a> {
         ensures begun { OnOk result (begun self.new ≡ Some (name.entry.now, [])) }
         ensures ended { OnOk result (ended self.new ≡ ended self.old) };
 
-    /// Reads the next block of the input that is open. It has no bytes if the input has ended.
+    /// Reads the next block of the input that is open. The block is empty if the input has ended.
     ///
     /// # Errors
     ///
     /// Why it can't be read.
     fn read(&mut self) -> Result<(), Trouble<'a>>
-        ensures { OnOk result (ReadsBlock (begun self.old) (ended self.old) (last self.new) (begun self.new) (ended self.new)) };
+        // The block is appended to what was read of the open input, if one is open. An empty block appends this input to `ended`.
+        ensures { OnOk result (ReadsNextBlock ended begun last self.old self.new) };
 
     /// The block that was read last.
     fn block(&self) -> &[u8]
@@ -66,14 +67,14 @@ struct Decoding<'a> {
     name: &'a str,
     // `None` if the bytes are UTF-8.
     decoder: Option<Decoder>,
-    // What the decoder has made of the last block.
+    // The text that the decoder returned for the last block.
     text: String,
     // Whether the text has a NUL byte so far.
     has_nul: bool,
 }
 
 impl<'a> Decoding<'a> {
-    // Returns the text of an input of which no block has come.
+    // Returns the decoding of an input before its first block.
     fn new(alloc: Global, name: &'a str, encoding: Option<Encoding>) -> Decoding<'a>
         ensures { (bytes : List ℕ) → text_left result.decoder bytes ≡ text_in encoding bytes }
     {
@@ -90,14 +91,14 @@ impl<'a> Decoding<'a> {
         }
     }
 
-    // Counts the text that the next block brings.
+    // Decodes the next block, and counts its text.
     fn feed<C: Counter, R: KeepsRuns<'a>>(
         &mut self,
         counter: &mut C,
         runs: &mut Option<R>,
         block: &[u8],
     ) -> Result<(), Trouble<'a>>
-        ensures { OnOk result (FeedsNext C.has R.kept counter.old counter.new runs.old runs.new self.old.decoder block.now self.new.decoder) }
+        ensures { OnOk result (FeedsBlock C.has R.kept counter.old counter.new runs.old runs.new self.old block.now self.new) }
     {
         let Some(decoder) = &mut self.decoder else {
             feed(self.alloc, counter, runs, self.name, block)?;
@@ -114,7 +115,7 @@ impl<'a> Decoding<'a> {
         Ok(())
     }
 
-    // Ends the text, since no block comes any more. Returns whether it has a NUL byte.
+    // Ends the text after the last block. Returns whether the text has a NUL byte.
     fn end(self) -> Result<bool, Trouble<'a>>
         ensures { OnOk result (text_left self.entry.decoder [] ≡ Some []) }
     {
@@ -128,7 +129,7 @@ impl<'a> Decoding<'a> {
     }
 }
 
-// Counts the text of the input of that name, and doesn't end it. Returns whether it has a NUL byte.
+// Counts the text of the input of that name, and doesn't end the text. Returns whether the text has a NUL byte.
 fn read_input<'a, B: Blocks<'a>, C: Counter, R: KeepsRuns<'a>>(
     alloc: Global,
     inputs: &mut B,
@@ -185,7 +186,8 @@ pub fn count_all<'a, B: Blocks<'a>, C: Counter, R: KeepsRuns<'a>>(
     encoding: Option<Encoding>,
     names: &[&'a str],
 ) -> Result<(), Trouble<'a>>
-    // Exactly these inputs were read to their ends, each is text in the encoding, and the counter and all runs have what is counted of all texts.
+    // Exactly these inputs were read to their ends, and each is text in the encoding. Together, the counter and all runs have the counts of all
+    // texts.
     ensures { OnOk result (Counts C.has R.kept B.ended encoding names.now inputs.old inputs.new counter.old counter.new runs.old runs.new) }
 {
     for name in names {

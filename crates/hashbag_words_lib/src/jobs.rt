@@ -1,8 +1,8 @@
-//! Whole jobs: the inputs of a call are counted, and what is shown of them is made.
+//! Whole jobs: from the inputs of a call to the text that shows their tokens.
 //!
-//! The premise of the clauses on what is written is that what is read of temporary files is what was written there (`AreFaithful`).
+//! The clauses about the text have a premise, `AreFaithful`: reading a temporary file gives what was written to it.
 ghost use Rattle.std.specs.Prelude.{IfOk, OnOk};
-ghost use Rattle.hashbag_words_lib.specs.Jobs.{text_of, AddsRows, CountsTokens, KeepsBag, ShowsBoth, WritesRows, WritesTokens};
+ghost use Rattle.hashbag_words_lib.specs.Jobs.{made_text, AddsFileRows, CountsTokens, KeepsBag, ShowsBoth, WritesRows, WritesTokens};
 ghost use Rattle.hashbag_words_lib.specs.Shown.{ShowsCounted};
 
 use crate::choice::Choice;
@@ -29,13 +29,13 @@ use std::mem;
 pub struct Reading {
     /// Their encoding, `None` for UTF-8.
     pub encoding: Option<Encoding>,
-    /// What becomes of bad lines.
+    /// Whether a bad line is an error or is skipped.
     pub bad_lines: BadLines,
-    /// What says when the bag is full, if the memory has a bound.
+    /// The gauge, which decides when the bag is full, if the memory has a bound.
     pub gauge: Option<Gauge>,
 }
 
-/// What is shown of all inputs.
+/// The text that shows the tokens of all inputs.
 #[derive(Drop)]
 pub enum Made<'b, F: Drop> {
     /// No run was kept: the text of a bag.
@@ -44,14 +44,14 @@ pub enum Made<'b, F: Drop> {
     OfRuns(ShownRuns<F>),
 }
 
-// Returns what is shown of a bag.
+// Returns the text that shows the tokens of a bag.
 fn show_bag<'a, 'b, S: BuildHasher + Drop, F: Drop>(
     alloc: Global,
     bag: &'b mut HashBag<String, S>,
     choice: Choice<'_>,
     look: Look,
 ) -> Result<Made<'b, F>, Trouble<'a>>
-    ensures { IfOk result (λ made. ShowsCounted choice.entry look bag.old (text_of made)) }
+    ensures { IfOk result (λ made. ShowsCounted choice.entry look bag.old (made_text made)) }
 {
     match shown_of(alloc, bag, choice, look) {
         Ok(shown) => Ok(Made::OfBag(shown)),
@@ -59,7 +59,7 @@ fn show_bag<'a, 'b, S: BuildHasher + Drop, F: Drop>(
     }
 }
 
-// Keeps a run of a bag, unless it is empty.
+// Keeps a run of a bag, unless the bag is empty.
 fn add_bag<'a, R: KeepsRuns<'a>, S: BuildHasher + Drop>(
     alloc: Global,
     runs: &mut R,
@@ -76,7 +76,8 @@ fn add_bag<'a, R: KeepsRuns<'a>, S: BuildHasher + Drop>(
     }
 }
 
-/// Returns what is shown of a bag and of the runs that were made of it. Runs are merged, and the rest of the bag with them.
+/// Returns the text that shows the tokens of a bag and of its runs. If there are runs, the rest of the bag is kept as one more run, and all runs are
+/// merged.
 ///
 /// # Errors
 ///
@@ -88,7 +89,7 @@ pub fn show_both<'a, 'b, R: KeepsRuns<'a> + Drop, S: BuildHasher + Drop>(
     choice: Choice<'_>,
     look: Look,
 ) -> Result<Made<'b, R::File>, Trouble<'a>>
-    ensures { IfOk result (λ made. ShowsBoth R.kept R.faithful choice.entry look bag.old runs.old runs.new (text_of made)) }
+    ensures { IfOk result (λ made. ShowsBoth R.kept R.faithful choice.entry look bag.old runs.old runs.new (made_text made)) }
 {
     let Some(kept) = runs else {
         return show_bag(alloc, bag, choice, look);
@@ -131,7 +132,7 @@ fn add_rows<'a, B: Blocks<'a>, R: KeepsRuns<'a> + Drop, S: BuildHasher + Copy + 
     reading: Reading,
     names: &[&'a str],
 ) -> Result<(), Trouble<'a>>
-    ensures { OnOk result (AddsRows R.kept R.faithful reading.encoding names.now (B.ended inputs.old) (B.ended inputs.new) form reading.bad_lines bag.old bag.new runs.old runs.new) }
+    ensures { OnOk result (AddsFileRows R.kept R.faithful reading.encoding names.now (B.ended inputs.old) (B.ended inputs.new) form reading.bad_lines bag.old bag.new runs.old runs.new) }
 {
     let none = HashBag::with_hasher(alloc, *bag.hasher());
     let given = mem::replace(bag, none);
@@ -141,7 +142,7 @@ fn add_rows<'a, B: Blocks<'a>, R: KeepsRuns<'a> + Drop, S: BuildHasher + Copy + 
     added
 }
 
-/// Counts the tokens of the inputs of these names, and returns what is shown of them.
+/// Counts the tokens of the inputs of these names, and returns the text that shows the tokens.
 ///
 /// # Errors
 ///
@@ -157,15 +158,15 @@ pub fn show_tokens<'a, 'b, B: Blocks<'a>, R: KeepsRuns<'a> + Drop, S: BuildHashe
     choice: Choice<'_>,
     look: Look,
 ) -> Result<Made<'b, R::File>, Trouble<'a>>
-    // If nothing was counted before, what is made is what is written of the tokens of all bytes of all inputs.
-    ensures { IfOk result (λ made. WritesTokens R.kept R.faithful choice.entry look reading.encoding names.now (B.ended inputs.old) (B.ended inputs.new) rule.entry bag.old runs.old runs.new (text_of made)) }
+    // If nothing was counted before, the text shows the tokens of all bytes of all inputs.
+    ensures { IfOk result (λ made. WritesTokens R.kept R.faithful choice.entry look reading.encoding names.now (B.ended inputs.old) (B.ended inputs.new) rule.entry bag.old runs.old runs.new (made_text made)) }
 {
     count_tokens(alloc, inputs, runs, bag, rule, reading, names)?;
     inputs.end_report();
     show_both(alloc, bag, runs, choice, look)
 }
 
-/// Adds the counts of the files of these names, and returns what is shown of them.
+/// Adds the counts of the files of these names, and returns the text that shows the sums.
 ///
 /// # Errors
 ///
@@ -181,8 +182,8 @@ pub fn show_rows<'a, 'b, B: Blocks<'a>, R: KeepsRuns<'a> + Drop, S: BuildHasher 
     choice: Choice<'_>,
     look: Look,
 ) -> Result<Made<'b, R::File>, Trouble<'a>>
-    // If nothing was counted before, what is made is what is written of the tokens that the rows of all files count.
-    ensures { IfOk result (λ made. WritesRows R.kept R.faithful choice.entry look reading.encoding names.now (B.ended inputs.old) (B.ended inputs.new) form reading.bad_lines bag.old runs.old runs.new (text_of made)) }
+    // If nothing was counted before, the text shows the tokens that the rows of all files count.
+    ensures { IfOk result (λ made. WritesRows R.kept R.faithful choice.entry look reading.encoding names.now (B.ended inputs.old) (B.ended inputs.new) form reading.bad_lines bag.old runs.old runs.new (made_text made)) }
 {
     add_rows(alloc, inputs, runs, bag, form, reading, names)?;
     inputs.end_report();

@@ -1,11 +1,11 @@
-//! Which numbered texts are merged with which.
+//! Decides which numbered texts are merged together.
 //!
 //! A [`KeptRuns`] holds no file: it knows files of counts and runs by their numbers, and says which numbers are merged. In the clauses `rows` has
 //! the rows of the text of each number, and `fed` are the rows of all files and runs that were added.
 ghost use Rattle.std.specs.Prelude.{◌≡◌, ◌≢◌, ◌↔◌, true, ℕ, ◌<◌, [], length, slice_index_or, IfOk, IfSome, IsSomeAnd, OnOk, None};
-ghost use Rattle.hashbag_words_lib.specs.KeptRuns.{numbers_in, AddsMerged, AddsNumber, AddsRun, AreAlike, AreInOrder, HasFiles, MergesAll, TakesMerge, TakesOneMerge, TakesTexts, TakesThese};
+ghost use Rattle.hashbag_words_lib.specs.KeptRuns.{numbers_in, AddsMerged, AddsNumber, AddsRun, IsOneKind, AreInOrder, HasFiles, MergesAll, TakesMerge, TakesOneMerge, TakesTexts, TakesThese};
 ghost use Rattle.hashbag_words_lib.specs.Levels.{runs_in};
-ghost use Rattle.hashbag_words_lib.specs.MergedTexts.{look_in, look_of, BeginsOf, IsRunLayout, WritesAsRun};
+ghost use Rattle.hashbag_words_lib.specs.MergedTexts.{BeginsOf, HasLook, IsRunLayout, WritesAsRun};
 
 use crate::levels::{FAN, Levels};
 use crate::merged_text::{MergedText, RowLayout, run_layout};
@@ -13,11 +13,11 @@ use crate::row_source::SourceKind;
 use std::alloc::{AllocError, Global};
 use std::mem;
 
-/// The numbers of the files and runs that are to be merged. First come the numbers of the files, from 0.
+/// The numbers of the files and runs that are to be merged. Files have the first numbers, from 0.
 #[derive(Drop)]
 pub struct KeptRuns {
     alloc: Global,
-    // What each file is, and the numbers of those that weren't taken. The numbers of files are below that of the first run.
+    // The kind of all files, the numbers of the files that weren't taken, and the number of the first run, which is above the numbers of all files.
     kind: SourceKind,
     files: Vec<usize>,
     first_run: usize,
@@ -28,7 +28,7 @@ pub struct KeptRuns {
     next_level: u32,
 }
 
-// Returns the numbers below this one.
+// Returns the numbers from 0 to `many - 1`.
 fn numbers_below(alloc: Global, many: usize) -> Result<Vec<usize>, AllocError>
     ensures many { IfOk result (λ numbers. length numbers.items ≡ many) }
     ensures each { IfOk result (λ numbers. (i : ℕ) → i < many → (d : ℕ) → slice_index_or numbers.items i d ≡ i) }
@@ -41,17 +41,21 @@ fn numbers_below(alloc: Global, many: usize) -> Result<Vec<usize>, AllocError>
 }
 
 impl KeptRuns {
-    /// Returns that many files of this kind, and no run.
+    /// Returns the numbers of `files` files of this kind, and no run.
     ///
     /// # Errors
     ///
     /// An allocation fails.
     pub fn new(alloc: Global, kind: SourceKind, files: usize) -> Result<KeptRuns, AllocError>
-        // Each number below `files` is that of a file.
+        // Each number below `files` is the number of a file.
         ensures many { IfOk result (λ kept. length kept.files.items ≡ files) }
         ensures each { IfOk result (λ kept. (i : ℕ) → i < files → (d : ℕ) → slice_index_or kept.files.items i d ≡ i) }
+
+        // All numbers differ. The numbers of files come before those of runs, and all are below the next number.
         ensures order { IfOk result AreInOrder }
         ensures next { IfOk result (λ kept. kept.next_number ≡ files) }
+
+        // `fed` are the rows of the files, and no others.
         ensures kept { IfOk result HasFiles }
     {
         Ok(KeptRuns {
@@ -88,9 +92,11 @@ impl KeptRuns {
     ///
     /// An allocation fails.
     pub fn add(&mut self) -> Result<(), AllocError>
-        // `fed`: if the run has new rows, they are fed. `merged`: if it is the merge of what was taken, nothing more is fed.
+        // Clause `fed`: a run of new rows adds these to the rows `fed`. Clause `merged`: a run that merges the texts that were taken adds none.
         ensures fed { OnOk result (AddsRun self.old self.new) }
         ensures merged { OnOk result (AddsMerged self.old self.new) }
+
+        // The run is the last one, and has the next number, which rises by 1. The files are unchanged.
         ensures added { OnOk result (AddsNumber self.old self.new) }
     {
         let Some(next) = self.next_number.checked_add(1) else {
@@ -102,7 +108,7 @@ impl KeptRuns {
         Ok(())
     }
 
-    // Returns the merge of those texts into a run. It is an `Option` only since the callers return one: it is always `Some`.
+    // Returns the merge of the texts of these numbers into a run. The result is always `Some`; it is an `Option` because the callers return one.
     fn run_of(
         &self,
         kind: SourceKind,
@@ -116,12 +122,18 @@ impl KeptRuns {
         Ok(Some(text))
     }
 
-    /// Takes sixteen runs of one level, if there are as many. The caller merges them, and adds the merged run: it is of the next level.
+    /// Takes sixteen runs of one level, if there are sixteen. The caller merges them, and adds the merged run, which is of the next level.
     pub fn take_full(&mut self) -> Result<Option<MergedText<'static>>, AllocError>
-        // What is taken is no longer kept, and nothing else is taken.
+        // The texts that were taken and the texts that are left have together the rows `fed`.
         ensures taken { IfOk result (λ full. TakesTexts full self.old self.new) }
+
+        // Only runs are taken, and no bytes of them were given yet.
         ensures begins { IfOk result (λ full. IfSome full (BeginsOf SourceKind.Run)) }
+
+        // The numbers of the merge are those of the last runs, which are no longer kept. With `None` nothing changes.
         ensures numbers { IfOk result (λ full. TakesOneMerge full self.old self.new) }
+
+        // The merge is written as a run: all rows, as `tsv`.
         ensures run { IfOk result (λ full. IfSome full WritesAsRun) }
         ensures next { self.new.next_number ≡ self.old.next_number }
     {
@@ -138,12 +150,20 @@ impl KeptRuns {
     /// Takes the next sixteen files, or all that are left. The caller merges them, and adds the merged run. None are taken if at most sixteen are
     /// left and there is no run.
     pub fn take_files(&mut self) -> Result<Option<MergedText<'static>>, AllocError>
-        // What is taken is no longer kept, and nothing else is taken. At the end there are files or runs, and not both.
+        // The texts that were taken and the texts that are left have together the rows `fed`.
         ensures taken { IfOk result (λ full. TakesTexts full self.old self.new) }
+
+        // Only files are taken, and no bytes of them were given yet.
         ensures begins { IfOk result (λ full. IfSome full (BeginsOf self.old.kind)) }
+
+        // The numbers of the merge are those of the first files, which are no longer kept. With `None` nothing changes.
         ensures numbers { IfOk result (λ full. TakesOneMerge full self.old self.new) }
+
+        // The merge is written as a run: all rows, as `tsv`.
         ensures run { IfOk result (λ full. IfSome full WritesAsRun) }
-        ensures end { IfOk result (λ full. full ≡ None → AreAlike self.new) }
+
+        // After `None` there are no files or no runs.
+        ensures end { IfOk result (λ full. full ≡ None → IsOneKind self.new) }
         ensures next { self.new.next_number ≡ self.old.next_number }
     {
         let many = self.files.len();
@@ -157,17 +177,25 @@ impl KeptRuns {
 
     /// Takes all runs, or all files if there is no run. Call it once [`KeptRuns::take_files`] has returned `None`.
     pub fn take_all<'e>(&mut self, layout: RowLayout<'e>) -> Result<MergedText<'e>, AllocError>
-        // If there are no files or no runs, all are taken, and together they have each token as often as all rows that were fed.
-        ensures taken { IfOk result (λ text. AreAlike self.old → TakesThese text.merge.numbers.items self.old self.new) }
-        ensures all { IfOk result (λ text. AreAlike self.old → MergesAll text.merge.numbers.items self.old) }
-        ensures choice { IfOk result (λ text. text.rows.choice ≡ layout.entry.choice) }
-        ensures look { IfOk result (λ text. look_of text.rows.sink.format text.rows.choice.order text.bars ≡ look_in layout.entry) }
+        // If there are no files or no runs, the texts that were taken count what `fed` counts: with those left (`taken`), and by themselves (`all`).
+        ensures taken { IfOk result (λ text. IsOneKind self.old → TakesThese text.merge.numbers.items self.old self.new) }
+        ensures all { IfOk result (λ text. IsOneKind self.old → MergesAll text.merge.numbers.items self.old) }
 
-        // Nothing was given of them. They are runs, if there are any, and else files.
+        // Which rows are written, and how, is as in `layout`.
+        ensures choice { IfOk result (λ text. text.rows.choice ≡ layout.entry.choice) }
+        ensures look { IfOk result (λ text. HasLook text layout.entry) }
+
+        // No bytes of the texts were given yet. The texts are runs if there are runs, else files.
         ensures files { runs_in self.old.kept ≡ [] → IfOk result (BeginsOf self.old.kind) }
         ensures runs { runs_in self.old.kept ≢ [] → IfOk result (BeginsOf SourceKind.Run) }
+
+        // The numbers of the merge are those of the first files or of the last runs, which are no longer kept.
         ensures numbers { IfOk result (λ text. TakesMerge text self.old self.new) }
-        ensures left { OnOk result (AreAlike self.old → numbers_in self.new ≡ []) }
+
+        // If there were no files or no runs, nothing is kept any more.
+        ensures left { OnOk result (IsOneKind self.old → numbers_in self.new ≡ []) }
+
+        // With the layout of a run, the merge is written as a run: all rows, as `tsv`.
         ensures run { IsRunLayout layout.entry → IfOk result WritesAsRun }
         ensures next { self.new.next_number ≡ self.old.next_number }
     {

@@ -1,8 +1,8 @@
 //! Which runs are merged with which. A run that was written from a bag has level 0, and `FAN` runs of one level are merged into a run of
 //! the next. So each row is merged few times, and few runs are kept. The type of a run is generic, so the clauses also hold for runs in
 //! files.
-ghost use Rattle.std.specs.Prelude.{◌≡◌, ◌↔◌, ◌≤◌, ◌++◌, ◌∷◌, [], length, true, false, None, IfOk, OnOk};
-ghost use Rattle.hashbag_words_lib.specs.Levels.{is_full, levels_in, runs_in, TakesSixteen};
+ghost use Rattle.std.specs.Prelude.{◌≡◌, ◌↔◌, ◌++◌, ◌∷◌, [], true, None, IfOk, OnOk};
+ghost use Rattle.hashbag_words_lib.specs.Levels.{is_full, levels_in, runs_in, IsNotFull, TakesSixteen};
 
 use std::alloc::{AllocError, Global};
 
@@ -75,7 +75,7 @@ impl<R: Drop> Levels<R> {
         ensures taken { IfOk result (λ full. TakesSixteen self.old full self.new) }
 
         // `None` is returned only if fewer than 16 runs are kept, or the last 16 are of different levels.
-        ensures few { IfOk result (λ full. full ≡ None → 16 ≤ length (runs_in self.old) → is_full (levels_in self.old) ≡ false) }
+        ensures few { IfOk result (λ full. full ≡ None → IsNotFull self.old) }
     {
         if self.runs.len() < FAN || !self.is_full() {
             return Ok(None);

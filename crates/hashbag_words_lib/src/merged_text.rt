@@ -1,14 +1,14 @@
-//! The text of the merge of numbered texts, in parts.
+//! Builds the text of a merge of numbered texts, in parts.
 //!
 //! A [`MergedText`] reads and writes nothing: it says what it wants, and the caller reads and writes. So the clauses hold wherever the texts are. In
-//! them `given` is what it was given of each text so far, in the order of their numbers, and `taken` are the parts that were taken.
-ghost use Rattle.std.specs.Prelude.{◌≡◌, ◌⊎◌, ℕ, ◌++◌, ◌≤◌, [], List, length, true, false, map, string_bytes, IfOk, OnOk};
+//! the clauses `given` has the bytes that were given of each text so far, in the order of the numbers, and `taken` are the parts that were taken.
+ghost use Rattle.std.specs.Prelude.{◌≡◌, ◌⊎◌, ℕ, [], List, true, map, string_bytes, IfOk, OnOk};
 ghost use Rattle.hashbag.specs.Walks.{seen};
 ghost use Rattle.hashbag_words_lib.specs.Bars.{bars_text};
-ghost use Rattle.hashbag_words_lib.specs.NumberedMerges.{EndsWanted, IsWanted};
+ghost use Rattle.hashbag_words_lib.specs.NumberedMerges.{EndsOpening, EndsWanted, IsWanted};
 ghost use Rattle.hashbag_words_lib.specs.Choice.{shows};
-ghost use Rattle.hashbag_words_lib.specs.MergedTexts.{look_in, look_of, AreAll, BeginsAs, BuildsEnd, EndsMergedText, GivesText, HasGivenAndTaken, IsTopOf, KeepsMergeAndLayout, KeepsGivenAndTaken, KeepsLayout, PutsRow, TakesPart, WantsNext};
-ghost use Rattle.hashbag_words_lib.specs.RowParts.{BuildsAll};
+ghost use Rattle.hashbag_words_lib.specs.MergedTexts.{look_in, look_of, ShowsAllRows, BeginsAs, BuildsEnd, EndsMergedText, GivesText, HasGivenAndTaken, HasLook, IsTopOf, KeepsMergeAndLayout, KeepsGivenAndTaken, KeepsLayout, PutsRow, TakesPart, WantsNext};
+ghost use Rattle.hashbag_words_lib.specs.RowParts.{AppendsText, BuildsAll};
 ghost use Rattle.hashbag_words_lib.specs.Sorted.{row_of};
 ghost use Rattle.hashbag_words_lib.specs.Top.{kept_row};
 
@@ -24,15 +24,15 @@ use crate::writing::Format;
 use std::alloc::{AllocError, Global};
 use std::cmp::Reverse;
 
-// How long a part is, at least, but for the last one.
+// The least length of a part. Only the last part may be shorter.
 const PART: usize = 1 << 16;
 
 /// What a merge wants next of its caller.
 #[derive(Clone, Copy, Debug, PartialEq, Eq)]
 pub enum Wants {
-    /// The next bytes of the text of that number, or to hear that it has ended.
+    /// The next bytes of the text of that number; or, if the text has ended, a call of [`MergedText::end`].
     Block(usize),
-    /// That the part is written behind the parts before it, and then taken.
+    /// That the caller writes the part after the parts before it, and then takes it: [`MergedText::clear_part`].
     Part,
     /// Nothing: the text is written whole.
     End,
@@ -41,11 +41,11 @@ pub enum Wants {
 /// Which merged rows are written, and how.
 #[derive(Clone, Copy)]
 pub struct RowLayout<'e> {
-    /// How they are written.
+    /// How the rows are written.
     pub format: Format,
     /// Which rows are written.
     pub choice: Choice<'e>,
-    /// How many columns there are for the bars of the most common rows, if they have bars. Then the format isn't used.
+    /// How many columns the terminal has, if the most common rows are written with bars. Then the format isn't used.
     pub bars: Option<usize>,
 }
 
@@ -53,7 +53,9 @@ pub struct RowLayout<'e> {
 pub fn run_layout() -> RowLayout<'static>
     ensures all { (row : List ℕ × ℕ) → shows result.choice row ≡ true }
     ensures format { result.format ≡ Format.Tsv }
-    ensures order { AreAll result.choice.order }
+
+    // The order isn't `MostCommon(k)`, which shows only k rows.
+    ensures order { ShowsAllRows result.choice.order }
 {
     let choice = Choice {
         order: Order::Ascending,
@@ -69,20 +71,20 @@ pub fn run_layout() -> RowLayout<'static>
     }
 }
 
-/// The text of the merge of numbered texts, of which the part that wasn't taken is kept.
+/// The text of a merge of numbered texts. Only the part that wasn't taken is kept.
 #[derive(Drop)]
 pub struct MergedText<'e> {
     merge: NumberedMerge,
     rows: ShownRows<'e, RowParts>,
     // The most common rows, if only these are written. They are written once the last row is merged.
     top: Option<ShownRows<'e, TopRows>>,
-    // How many columns there are for their bars, if they have bars.
+    // How many columns the terminal has, if these rows are written with bars.
     bars: Option<usize>,
     // Whether the last row and the end of the text are built.
     is_over: bool,
 }
 
-// Returns the format in which the text begins: with bars `Tsv`, which writes nothing before the first row.
+// Returns the format of the rows. With bars, the format is `Tsv`, since `Tsv` writes nothing before the first row.
 fn rows_format(layout: RowLayout<'_>) -> Format
     ensures look { look_of result layout.entry.choice.order layout.entry.bars ≡ look_in layout.entry }
     ensures begins { BeginsAs (look_of result layout.entry.choice.order layout.entry.bars) result }
@@ -97,7 +99,7 @@ fn rows_format(layout: RowLayout<'_>) -> Format
     }
 }
 
-// Returns where the most common rows are kept, if only these are written.
+// Returns the empty store of the most common rows, if only these are written.
 fn top_of<'e>(alloc: Global, choice: Choice<'e>) -> Option<ShownRows<'e, TopRows>>
     ensures { IsTopOf choice.entry result }
 {
@@ -127,14 +129,14 @@ fn push_bars(
     rows: &Vec<(Reverse<usize>, String)>,
     width: usize,
 ) -> Result<(), AllocError>
-    ensures part { OnOk result (parts.new.part.items ≡ parts.old.part.items ++ bars_text width (map kept_row rows.now.items)) }
+    ensures part { OnOk result (AppendsText parts.old parts.new (bars_text width (map kept_row rows.now.items))) }
     ensures format { parts.new.format ≡ parts.old.format }
 {
     let text = bars_of(*rows.allocator(), width, &lent(rows)?)?;
     parts.push_text(&text)
 }
 
-// Appends these rows and the end of the text. No row may have come before.
+// Appends these rows and the end of the text. No row may have been appended before.
 fn push_all(parts: &mut RowParts, rows: &Vec<(Reverse<usize>, String)>) -> Result<(), AllocError>
     ensures text { OnOk result (BuildsAll parts.old parts.new (map kept_row rows.now.items)) }
     ensures format { parts.new.format ≡ parts.old.format }
@@ -147,7 +149,7 @@ fn push_all(parts: &mut RowParts, rows: &Vec<(Reverse<usize>, String)>) -> Resul
     parts.end()
 }
 
-// Appends to the part what the text has after it: the most common rows, if only these are written, and the end.
+// Appends the rest of the text to the part: the most common rows, if only these are written, and the end.
 fn push_rest(
     parts: &mut RowParts,
     top: Option<ShownRows<'_, TopRows>>,
@@ -167,7 +169,7 @@ fn push_rest(
 }
 
 impl<'e> MergedText<'e> {
-    /// Returns the text of the merge of the texts of these numbers. Nothing was given of them.
+    /// Returns the text of a merge. It merges the texts of these numbers, of which no bytes were given yet.
     ///
     /// # Errors
     ///
@@ -178,9 +180,12 @@ impl<'e> MergedText<'e> {
         numbers: Vec<usize>,
         layout: RowLayout<'e>,
     ) -> Result<MergedText<'e>, AllocError>
+        // No bytes of the texts were given yet, and no part was taken.
         ensures begins { IfOk result (λ text. HasGivenAndTaken (map (λ n. (kind, [])) text.merge.numbers.items) text []) }
+
+        // Which rows are written, and how, is as in `layout`.
         ensures choice { IfOk result (λ text. text.rows.choice ≡ layout.entry.choice) }
-        ensures look { IfOk result (λ text. look_of text.rows.sink.format text.rows.choice.order text.bars ≡ look_in layout.entry) }
+        ensures look { IfOk result (λ text. HasLook text layout.entry) }
         ensures numbers { IfOk result (λ text. text.merge.numbers ≡ numbers) }
     {
         let parts = RowParts::begin(alloc, rows_format(layout))?;
@@ -208,21 +213,21 @@ impl<'e> MergedText<'e> {
         self.merge.reading(i)
     }
 
-    /// Returns what the counts of all merged rows add up to, of rows that are written and of others.
+    /// Returns the sum of the counts of all merged rows, written or not.
     pub fn total(&self) -> usize
         ensures { result ≡ self.now.merge.merger.total }
     {
         self.merge.total()
     }
 
-    /// Returns whether no row is in the text so far. With `MostCommon` none is until the end is built.
+    /// Returns whether the text has no row so far. With `MostCommon`, it has none until the end is built.
     pub fn has_no_text(&self) -> bool
         ensures { result ≡ self.now.rows.sink.is_empty }
     {
         self.rows.sink.has_no_text()
     }
 
-    /// Returns how many bytes of the wanted text it keeps: those that were given and haven't been read.
+    /// Returns how many bytes of the wanted text were given and haven't been read.
     pub fn kept(&self) -> usize {
         self.merge.kept()
     }
@@ -233,8 +238,10 @@ impl<'e> MergedText<'e> {
     ///
     /// An allocation fails.
     pub fn give(&mut self, block: &[u8]) -> Result<(), AllocError>
-        // The wanted text was given the block more, and no other text anything.
+        // The wanted text was given the block, after its earlier bytes. The other texts were given nothing.
         ensures given { OnOk result (GivesText block.now self.old self.new) }
+
+        // If bytes of a text were wanted, they still are, and of the same text.
         ensures wants { OnOk result (IsWanted self.old.merge → IsWanted self.new.merge) }
         ensures same { (self.new.merge.wanted ≡ self.old.merge.wanted) × (self.new.is_over ≡ self.old.is_over) }
         ensures numbers { self.new.merge.numbers ≡ self.old.merge.numbers }
@@ -243,30 +250,31 @@ impl<'e> MergedText<'e> {
         self.merge.give(block)
     }
 
-    /// Says that no more bytes of the wanted text come.
+    /// Ends the wanted text: no more bytes of it are given.
     pub fn end(&mut self)
-        // What was given is unchanged.
+        // What was given and what was taken are unchanged.
         ensures given { KeepsGivenAndTaken self.old self.new }
 
         // The wanted text has ended: one that is merged (`merged`), or the one whose first row isn't known (`opening`).
         ensures merged { EndsWanted self.old.merge self.new.merge }
-        ensures opening { length self.old.merge.merger.sources.items ≤ self.old.merge.wanted → self.new.merge.rows.is_ended ≡ true }
+        ensures opening { EndsOpening self.old.merge self.new.merge }
         ensures numbers { self.new.merge.numbers ≡ self.old.merge.numbers }
         ensures layout { KeepsLayout self.old self.new }
     {
         self.merge.end();
     }
 
-    /// Returns the part: what was built and not taken.
+    /// Returns the part: the text that was built and not taken.
     pub fn part(&self) -> &Vec<u8>
         ensures { result.now ≡ self.now.rows.sink.part }
     {
         self.rows.sink.part()
     }
 
-    /// Takes the part: the next one begins.
+    /// Takes the part: empties it, and the next part begins.
     #[tactic(auto, using(crate::proofs::MergedTextLemmas::take_put))]
     pub fn clear_part(&mut self)
+        // What was taken now also has the part, after the parts before it.
         ensures taken { TakesPart self.old self.new }
         ensures numbers { self.new.merge.numbers ≡ self.old.merge.numbers }
         ensures layout { KeepsLayout self.old self.new }
@@ -323,8 +331,8 @@ impl<'e> MergedText<'e> {
     ///
     /// Same as [`Merger::next_row`]; `Stop::Memory` if an allocation fails. Then the merge is of no use.
     pub fn next(&mut self) -> Result<Wants, Stop>
-        // A text wants bytes, or a part is built; or the parts that were taken are the text of the merge, which is what is written of the tokens that
-        // all texts count, however their counts are divided among these (`IsWritten` of specs/Shown).
+        // Bytes of a text are wanted, or a part is built; or the parts that were taken are the whole text of the merge. That text shows the tokens
+        // that all texts count, however the counts are divided among the texts (`WritesTogether` of specs/Shown).
         ensures next { IfOk result (λ wants. WantsNext self.old wants self.new) }
         ensures numbers { OnOk result (self.new.merge.numbers ≡ self.old.merge.numbers) }
         ensures layout { OnOk result (KeepsLayout self.old self.new) }

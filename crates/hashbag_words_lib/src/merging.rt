@@ -22,6 +22,7 @@ pub(crate) fn read_in_form(
     form: RowForm,
     line: &str,
 ) -> Result<Result<(String, usize), BadLine>, AllocError>
+    // `row`: a line that was written from a token and a count is read as these. `line`: a row that is returned is what the line says.
     ensures row { IfOk result (λ read. IfRow form line.now (λ token count. IsRead token count read)) }
     ensures line { IfOk result (λ read. IfOk read (λ p. IsRowOf form line.now (row_of p))) }
 {
@@ -43,8 +44,8 @@ pub fn add_row<S: BuildHasher + Drop>(
     form: RowForm,
     line: &[u8],
 ) -> Result<(), InputFault>
-    // `row`: for a line that was written from a token and a count, these are added. `line`: what is added is what the line says. `bad`: a
-    // bad line is no row.
+    // `row`: for a line that was written from a token and a count, the token is added that often. `line`: the line is read as the token and the count
+    // that are added. `bad`: a bad line isn't UTF-8, or can't have been written from any token and count.
     ensures row { IfRow form line.now (λ token count. OnOk result (AddsTimes bag.old bag.new token count)) }
     ensures line { OnOk result (AddsLine form line.now bag.old bag.new) }
     ensures bad { OnBadLine result (IsNoRow form line.now) }

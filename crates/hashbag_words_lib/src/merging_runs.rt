@@ -1,13 +1,13 @@
-//! Files of counts and runs that are merged into runs, sixteen at a time, and at last all.
+//! Merges files of counts and runs, sixteen at a time into one run, and at last all that are left into one text.
 //!
-//! The files are in any [`NumberedTexts`]. In the clauses `rows n` are the rows of the text numbered n: those that were read of it, and of a run also
-//! those that were written (`AgreesWith`).
+//! The files are in any [`NumberedTexts`]. In the clauses `rows n` are the rows of text n, as they were read; of a run also as they were written
+//! (`AgreesWith`).
 ghost use Rattle.std.specs.Prelude.{◌≡◌, ◌↔◌, [], ℕ, length, true, IfOk, OnOk};
 ghost use Rattle.hashbag_words_lib.specs.Feeding.{HasNothing, KeepsRows};
-ghost use Rattle.hashbag_words_lib.specs.Jobs.{ShowsRuns};
-ghost use Rattle.hashbag_words_lib.specs.KeptRuns.{numbers_in, AddsNumber, AreAlike, HasFiles};
+ghost use Rattle.hashbag_words_lib.specs.Jobs.{ShowsKeptRuns};
+ghost use Rattle.hashbag_words_lib.specs.KeptRuns.{numbers_in, AddsNumber, IsOneKind, HasFiles};
 ghost use Rattle.hashbag_words_lib.specs.MergedTexts.{KeepsLayout};
-ghost use Rattle.hashbag_words_lib.specs.MergingRuns.{bytes_in, AddsFile, AreUnread, CountsAlike, HasRuns, IsFaithful, LaysOutAlike, Merges, MergesTaken, ShowsAlike, ShowsTokens, TotalsTaken, WritesText};
+ghost use Rattle.hashbag_words_lib.specs.MergingRuns.{bytes_in, AddsFile, AreUnread, CountsOneKind, HasRuns, IsFaithful, LaysOutOneKind, Merges, MergesTaken, ShowsOneKind, ShowsTokens, TotalsTaken, WritesText};
 ghost use Rattle.hashbag_words_lib.specs.RowText.{bytes_left};
 ghost use Rattle.hashbag_words_lib.specs.Runs.{rows_in};
 
@@ -57,11 +57,11 @@ pub struct MergedFile<F: Drop> {
     pub written: Tape,
     /// Whether it shows nothing.
     pub is_empty: bool,
-    /// What all counts add up to, of rows that are shown and of others.
+    /// The sum of all counts, of rows that are shown and of rows that aren't.
     pub total: usize,
 }
 
-/// What was written of all texts.
+/// The text that shows the tokens of all texts.
 #[derive(Drop)]
 pub enum ShownRuns<F: Drop> {
     /// A text in memory, and whether it shows nothing.
@@ -119,7 +119,7 @@ fn write_memory<'a, T: NumberedTexts<'a>>(
 }
 
 impl<'a, T: NumberedTexts<'a> + Drop> MergingRuns<T> {
-    /// Returns that many files of counts of this kind, which have the numbers from 0, and no run.
+    /// Returns the numbers of `files` files of counts of this kind, from 0, and no run.
     ///
     /// # Errors
     ///
@@ -130,9 +130,14 @@ impl<'a, T: NumberedTexts<'a> + Drop> MergingRuns<T> {
         kind: SourceKind,
         files: usize,
     ) -> Result<MergingRuns<T>, AllocError>
+        // If nothing was read of `texts`: the numbers are in order, merged texts aren't kept, and nothing was read of texts that are kept or come later.
         ensures unread { IfOk result (λ runs. ((n : ℕ) → T.bytes_read texts n ≡ []) → AreUnread T.bytes_read runs) }
+
+        // The texts that are kept have the rows of the files, and no others.
         ensures kept { IfOk result (λ runs. HasFiles runs.kept) }
         ensures files { IfOk result (λ runs. length runs.kept.files.items ≡ files) }
+
+        // Without files, and if nothing was read of `texts`, the texts that are kept have no rows.
         ensures none { IfOk result (λ runs. files ≡ 0 → ((n : ℕ) → T.bytes_read texts n ≡ []) → HasRuns T.bytes_read runs []) }
     {
         let kept = KeptRuns::new(alloc, kind, files)?;
@@ -148,12 +153,14 @@ impl<'a, T: NumberedTexts<'a> + Drop> MergingRuns<T> {
     /// Returns whether neither a file nor a run is kept.
     pub fn is_empty(&self) -> bool
         ensures empty { (result ≡ true) ↔ (numbers_in self.now.kept ≡ []) }
+
+        // If nothing is kept, and temporary files are read as they were written, the runs that were added count nothing.
         ensures nothing { result ≡ true → IsFaithful T.bytes_read self.now → HasNothing (HasRuns T.bytes_read) self.now }
     {
         self.kept.is_empty()
     }
 
-    // Adds a run, which is in this file. These bytes were written of it.
+    // Adds the run in this file. `written` has the bytes of the file.
     fn add(&mut self, file: T::File, written: &Tape) -> Result<(), Trouble<'a>>
         ensures { OnOk result (AddsFile T.bytes_read written.now self.old self.new) }
     {
@@ -167,7 +174,7 @@ impl<'a, T: NumberedTexts<'a> + Drop> MergingRuns<T> {
         Ok(())
     }
 
-    // Merges the taken texts into a run, and adds the run. Returns what its counts add up to.
+    // Merges the taken texts into a run, and adds the run. Returns the sum of the run's counts.
     fn merge_taken(&mut self, text: &mut MergedText<'_>) -> Result<usize, Trouble<'a>>
         ensures merges { OnOk result (MergesTaken T.bytes_read text.old self.old self.new) }
         ensures total { IfOk result (λ total. TotalsTaken T.bytes_read text.old self.old self.new total) }
@@ -179,9 +186,9 @@ impl<'a, T: NumberedTexts<'a> + Drop> MergingRuns<T> {
         Ok(made.total)
     }
 
-    // Merges runs into one of the next level, as long as there are enough of one level.
+    // Merges sixteen runs of one level into one run of the next level, as long as there are sixteen of one level.
     fn merge_full(&mut self) -> Result<(), Trouble<'a>>
-        // All that the runs had together they have now.
+        // Together, the runs count the same tokens as before.
         ensures { OnOk result (Merges T.bytes_read self.old self.new) }
     {
         'levels: for _ in 0..u64::MAX {
@@ -199,7 +206,7 @@ impl<'a, T: NumberedTexts<'a> + Drop> MergingRuns<T> {
     ///
     /// Why the run isn't written, or runs aren't merged.
     pub fn write(&mut self, text: &mut RowText<'_>) -> Result<(), Trouble<'a>>
-        // What the texts had together they have now, and the rows of this run.
+        // Together, the texts count the same tokens as before, and the tokens of this run.
         ensures { OnOk result (KeepsRows (HasRuns T.bytes_read) self.old self.new (rows_in (bytes_left text.old))) }
     {
         let mut file = self.texts.create()?;
@@ -213,11 +220,11 @@ impl<'a, T: NumberedTexts<'a> + Drop> MergingRuns<T> {
         Ok(())
     }
 
-    // Merges the files of counts into runs, if there are more of them than are merged at once.
+    // Merges the files of counts into runs, if there are more than sixteen.
     fn merge_files(&mut self) -> Result<(), Trouble<'a>>
-        // All that the texts had together they have now. There are files or runs, and not both.
+        // Together, the texts count the same tokens as before. There are files or runs, and not both.
         ensures merges { OnOk result (Merges T.bytes_read self.old self.new) }
-        ensures alike { OnOk result (AreAlike self.new.kept) }
+        ensures alike { OnOk result (IsOneKind self.new.kept) }
     {
         'merges: for _ in 0..u64::MAX {
             let Some(mut merge) = self.kept.take_files()? else {
@@ -230,21 +237,21 @@ impl<'a, T: NumberedTexts<'a> + Drop> MergingRuns<T> {
         Err(Trouble::Memory)
     }
 
-    // Merges all into one run. Returns what its counts add up to.
+    // Merges all texts into one run. Returns the sum of the run's counts.
     fn merge_all(&mut self) -> Result<usize, Trouble<'a>>
-        // All that the texts had together the run has. The total is the number of all tokens.
-        ensures merges { OnOk result (AreAlike self.old.kept → Merges T.bytes_read self.old self.new) }
-        ensures alike { OnOk result (AreAlike self.old.kept → AreAlike self.new.kept) }
-        ensures total { IfOk result (λ total. CountsAlike T.bytes_read self.old self.new total) }
+        // The run counts the same tokens as the texts together. The total is the number of all tokens.
+        ensures merges { OnOk result (IsOneKind self.old.kept → Merges T.bytes_read self.old self.new) }
+        ensures alike { OnOk result (IsOneKind self.old.kept → IsOneKind self.new.kept) }
+        ensures total { IfOk result (λ total. CountsOneKind T.bytes_read self.old self.new total) }
     {
         let mut text = self.kept.take_all(run_layout())?;
         let total = self.merge_taken(&mut text)?;
         Ok(total)
     }
 
-    // Writes the merge of all into a file.
+    // Writes the merge of all texts into a file.
     fn show_in_file(&mut self, layout: RowLayout<'_>) -> Result<MergedFile<T::File>, Trouble<'a>>
-        ensures { IfOk result (λ made. ShowsAlike T.bytes_read layout.entry self.old self.new made.written) }
+        ensures { IfOk result (λ made. ShowsOneKind T.bytes_read layout.entry self.old self.new made.written) }
     {
         let mut text = self.kept.take_all(layout)?;
         let made = write_file(self.alloc, &mut self.texts, &mut text)?;
@@ -252,9 +259,9 @@ impl<'a, T: NumberedTexts<'a> + Drop> MergingRuns<T> {
         Ok(made)
     }
 
-    // Writes the merge of all into memory. Returns the text, and whether it shows nothing.
+    // Writes the merge of all texts into memory. Returns the text, and whether the text shows no row.
     fn show_in_memory(&mut self, layout: RowLayout<'_>) -> Result<(Vec<u8>, bool), Trouble<'a>>
-        ensures { IfOk result (λ made. ShowsAlike T.bytes_read layout.entry self.old self.new made.0.items) }
+        ensures { IfOk result (λ made. ShowsOneKind T.bytes_read layout.entry self.old self.new made.0.items) }
     {
         let mut text = self.kept.take_all(layout)?;
         let shown = write_memory(self.alloc, &mut self.texts, &mut text)?;
@@ -262,13 +269,13 @@ impl<'a, T: NumberedTexts<'a> + Drop> MergingRuns<T> {
         Ok((shown, text.has_no_text()))
     }
 
-    // Returns the layout of this look. With shares the total has to be known before, so all become one run first.
+    // Returns the layout of this look. A share needs the total, so with shares all texts are first merged into one run.
     fn layout_of<'e>(
         &mut self,
         choice: Choice<'e>,
         look: Look,
     ) -> Result<RowLayout<'e>, Trouble<'a>>
-        ensures { IfOk result (λ layout. LaysOutAlike T.bytes_read choice.entry look self.old self.new layout) }
+        ensures { IfOk result (λ layout. LaysOutOneKind T.bytes_read choice.entry look self.old self.new layout) }
     {
         match look {
             Look::Rows(format) => {
@@ -295,7 +302,8 @@ impl<'a, T: NumberedTexts<'a> + Drop> MergingRuns<T> {
         })
     }
 
-    /// Merges all texts, and writes what is shown of them: the most common rows into memory, and else into a file. Afterwards no text is kept.
+    /// Merges all texts, and writes the text that shows their tokens: into memory if only the most common rows are shown, else into a file.
+    /// Afterwards no text is kept.
     ///
     /// # Errors
     ///
@@ -305,11 +313,13 @@ impl<'a, T: NumberedTexts<'a> + Drop> MergingRuns<T> {
         choice: Choice<'_>,
         look: Look,
     ) -> Result<ShownRuns<T::File>, Trouble<'a>>
-        // What is written is what is written of a bag of all tokens that the rows count, however their counts are divided among the texts.
+        // Let `rows` have the rows of each merged text as it was read, and of each run as it was written. The text shows, as `choice` and `look` say
+        // (bars only with `MostCommon`), the tokens that the texts count together by `rows`. Nothing more is read of texts that were merged before.
         ensures tokens { IfOk result (λ shown. ShowsTokens T.bytes_read choice.entry look self.old self.new (bytes_in shown)) }
 
-        // The same of the rows of runs.
-        ensures runs { IfOk result (λ shown. ShowsRuns (HasRuns T.bytes_read) (IsFaithful T.bytes_read) choice.entry look self.old self.new (bytes_in shown)) }
+        // If each temporary file is read as it was written (`IsFaithful`), the text shows the tokens that the runs given to `keep` count. It is the
+        // clause of `KeepsRuns::show`.
+        ensures runs { IfOk result (λ shown. ShowsKeptRuns T.bytes_read choice.entry look self.old self.new (bytes_in shown)) }
     {
         self.merge_files()?;
         let layout = self.layout_of(choice, look)?;

@@ -1,11 +1,11 @@
-//! Texts that have numbers, and their merge as it is written.
+//! Numbered texts, and the writing of their merge.
 //!
-//! They are in any [`NumberedTexts`]. In the clauses `bytes_read` has what was read of the text of each number so far, and `taken` is what was
-//! written of the merge.
+//! The texts are in any [`NumberedTexts`]. In the clauses `bytes_read` has the bytes that were read of each text so far, and `taken` the bytes that
+//! were written of the merge.
 ghost use Rattle.std.specs.Prelude.{◌≡◌, ◌≢◌, ◌⊎◌, ◌≤◌, ℕ, List, length, take, IfOk, OnOk};
 ghost use Rattle.std.specs.Io.KnownBytes.{Appends};
 ghost use Rattle.hashbag_words_lib.specs.MergedTexts.{KeepsLayout};
-ghost use Rattle.hashbag_words_lib.specs.Numbered.{GivesRead, ReadsOn, ReadsText, Wanted, WritesMerge};
+ghost use Rattle.hashbag_words_lib.specs.Numbered.{GivesRead, ReadsTextOf, ReadsUntil, Wanted, WritesMerge};
 
 use crate::lines::LinesRead;
 use crate::merged_text::{MergedText, Wants};
@@ -22,7 +22,7 @@ pub trait NumberedTexts<'a> {
     /// The bytes that were read of the text of each number so far.
     ghost bytes_read: { Self → ℕ → List ℕ };
 
-    /// Holds of the numbers whose texts were read to their ends.
+    /// `is_read texts n`: text n was read to its end.
     ghost is_read: { Self → ℕ → Type 0 };
 
     /// Reads the next bytes of the text of that number into the block, and returns how many there were: 0 at its end.
@@ -32,7 +32,9 @@ pub trait NumberedTexts<'a> {
     /// Why the text isn't read.
     fn read(&mut self, number: usize, block: &mut Vec<u8>) -> Result<usize, Trouble<'a>>
         ensures within { IfOk result (λ n. n ≤ length block.new.items) }
-        ensures bytes { IfOk result (λ n. ReadsText (bytes_read self.old) (bytes_read self.new) number (take n block.new.items)) }
+
+        // The first n bytes of the block are appended to what was read of text `number`. Nothing was read of other texts.
+        ensures bytes { IfOk result (λ n. ReadsTextOf bytes_read self.old self.new number (take n block.new.items)) }
         ensures end { IfOk result (λ n. n ≡ 0 → is_read self.new number) };
 
     /// Returns why this merge ended early.
@@ -67,15 +69,15 @@ pub trait NumberedTexts<'a> {
         ensures { OnOk result (bytes_read self.new ≡ bytes_read self.old) };
 }
 
-// Reads the next block of the text of that number, which a merge wants, and gives it to the merge; at its end the text is ended. Returns how many
-// bytes were read.
+// Reads the next block of a text that a merge wants, and gives the block to the merge. If no bytes are left, ends the text in the merge. Returns how
+// many bytes were read.
 fn give_block<'a, T: NumberedTexts<'a>>(
     texts: &mut T,
     block: &mut Vec<u8>,
     number: usize,
     text: &mut MergedText<'_>,
 ) -> Result<usize, Trouble<'a>>
-    // What is read is given, all of it and once.
+    // All bytes that are read are given to the merge, once.
     ensures given { OnOk result (GivesRead number (T.bytes_read texts.old) text.old (T.bytes_read texts.new) text.new) }
     ensures numbers { OnOk result (text.new.merge.numbers ≡ text.old.merge.numbers) }
     ensures layout { OnOk result (KeepsLayout text.old text.new) }
@@ -102,7 +104,7 @@ fn give<'a, T: NumberedTexts<'a>>(
     number: usize,
     text: &mut MergedText<'_>,
 ) -> Result<(), Trouble<'a>>
-    // What is read is given, all of it and once.
+    // All bytes that are read are given to the merge, once.
     ensures given { OnOk result (GivesRead number (T.bytes_read texts.old) text.old (T.bytes_read texts.new) text.new) }
     ensures numbers { OnOk result (text.new.merge.numbers ≡ text.old.merge.numbers) }
     ensures layout { OnOk result (KeepsLayout text.old text.new) }
@@ -126,7 +128,7 @@ fn give<'a, T: NumberedTexts<'a>>(
     Ok(())
 }
 
-/// Gives a merge all that it wants to read. Returns what it wants after that: that its part is written, or nothing.
+/// Gives a merge all bytes that it wants. Returns what the merge wants then: `Wants::Part` or `Wants::End`.
 ///
 /// # Errors
 ///
@@ -136,8 +138,8 @@ pub fn read_on<'a, T: NumberedTexts<'a>>(
     block: &mut Vec<u8>,
     text: &mut MergedText<'_>,
 ) -> Result<Wants, Trouble<'a>>
-    // Only its own texts are read.
-    ensures reads { IfOk result (λ wants. ReadsOn (T.bytes_read texts.old) text.old wants (T.bytes_read texts.new) text.new) }
+    // If the merge had been given all that was read of its texts, it still has, and `wants` is what it wants next. No other text is read.
+    ensures reads { IfOk result (λ wants. ReadsUntil T.bytes_read wants texts.old text.old texts.new text.new) }
     ensures layout { OnOk result (KeepsLayout text.old text.new) }
 {
     'texts: for _ in 0..u64::MAX {
@@ -164,9 +166,11 @@ pub fn write_merged<'a, T: NumberedTexts<'a>, W: Write>(
     first: Wants,
     to: &mut W,
 ) -> Result<Tape, Trouble<'a>>
-    // The tape is the rest of the merge's text, behind the parts that were taken before. The merge is that of the texts as they were read, and
-    // no other text is read.
+    // The tape is the rest of the merge's text, after the parts that were taken before. The merge is of the texts as they were read. No other text is
+    // read.
     ensures merges { IfOk result (λ tape. WritesMerge T.bytes_read first texts.old text.old texts.new text.new tape) }
+
+    // The tape is appended to the bytes that were written to `to`, if these are known.
     ensures written { IfOk result (λ tape. Appends (W.contents to.old) (W.contents to.new) tape) }
     ensures layout { OnOk result (KeepsLayout text.old text.new) }
 {

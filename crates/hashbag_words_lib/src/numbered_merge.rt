@@ -1,9 +1,9 @@
-//! Numbered texts of rows that are merged at once.
+//! The merge of numbered texts of rows.
 //!
-//! A [`NumberedMerge`] holds no file: it says which text it wants the next bytes of, and is given them. In the clauses `given` is what it was given
-//! of each text so far, in the order of `numbers`, and `out` are the rows that were returned.
-ghost use Rattle.std.specs.Prelude.{◌≡◌, ◌+◌, ◌++◌, ◌<◌, ◌≤◌, [], ◌∷◌, true, false, length, map, slice_index_or, IfOk, OnOk};
-ghost use Rattle.hashbag_words_lib.specs.NumberedMerges.{EndsWanted, GivesWanted, GoesOn, HasTaken, IsWanted, IsWantedIf, KeepsTaken};
+//! A [`NumberedMerge`] holds no file: it says of which text it wants the next bytes, and the caller gives them. In the clauses `given` has the bytes
+//! that were given of each text so far, in the order of `numbers`, and `out` are the rows that were returned.
+ghost use Rattle.std.specs.Prelude.{◌≡◌, ◌+◌, ◌++◌, [], ◌∷◌, true, false, map, IfOk, OnOk};
+ghost use Rattle.hashbag_words_lib.specs.NumberedMerges.{opened_in, EndsOpening, EndsWanted, GivesWanted, GoesOn, HasTaken, IsOpening, IsWanted, IsWantedIf, IsWantedNumber, KeepsTaken};
 ghost use Rattle.hashbag_words_lib.specs.Merged.{IsUnused};
 ghost use Rattle.hashbag_words_lib.specs.Sources.{Holds};
 
@@ -18,21 +18,22 @@ use std::mem;
 #[derive(Drop)]
 pub struct NumberedMerge {
     alloc: Global,
-    // What each text is.
+    // The kind of all texts.
     kind: SourceKind,
     // The number of each text.
     numbers: Vec<usize>,
-    // The merger of those whose first row is known: the first ones.
+    // The texts opened so far, in order: their first rows are known.
     merger: Merger,
-    // The text after these.
+    // The next text, which isn't opened.
     rows: RowSource,
-    // The place of the text that bytes are wanted of.
+    // The index in `numbers` of the wanted text: the one whose next bytes are wanted.
     wanted: usize,
 }
 
 impl NumberedMerge {
-    /// Returns the merge of the texts of these numbers. Nothing was given of them.
+    /// Returns the merge of the texts of these numbers. No bytes of them were given yet.
     pub fn new(alloc: Global, kind: SourceKind, numbers: Vec<usize>) -> NumberedMerge
+        // No bytes of the texts were given yet, and no row was returned.
         ensures begins { HasTaken (map (λ n. (kind, [])) result.numbers.items) result [] }
         ensures numbers { result.numbers ≡ numbers }
     {
@@ -56,7 +57,7 @@ impl NumberedMerge {
         &self.numbers
     }
 
-    /// Returns how the lines of the text of that place were read.
+    /// Returns how the lines of the text numbered `numbers()[i]` were read.
     pub fn reading(&self, i: usize) -> LinesRead {
         match self.merger.sources().get(i) {
             Some(source) => source.rows().reading(),
@@ -64,14 +65,14 @@ impl NumberedMerge {
         }
     }
 
-    /// Returns what the counts of the rows that were taken add up to.
+    /// Returns the sum of the counts of the rows that were taken.
     pub fn total(&self) -> usize
         ensures { result ≡ self.now.merger.total }
     {
         self.merger.total()
     }
 
-    /// Returns how many bytes of the wanted text it keeps: those that were given and haven't been read.
+    /// Returns how many bytes of the wanted text were given and haven't been read.
     pub fn kept(&self) -> usize {
         if self.wanted < self.merger.sources().len() {
             return self.merger.kept(self.wanted);
@@ -81,7 +82,7 @@ impl NumberedMerge {
 
     // Returns the number of the wanted text.
     fn number(&self) -> usize
-        ensures { self.now.wanted < length self.now.numbers.items → result ≡ slice_index_or self.now.numbers.items self.now.wanted result }
+        ensures { IsWantedNumber self.now result }
     {
         match self.numbers.get(self.wanted) {
             Some(number) => *number,
@@ -89,7 +90,7 @@ impl NumberedMerge {
         }
     }
 
-    // Adds a text whose first row is known. The one after it is next.
+    // Adds an opened text: its first row is known. The text after it is opened next.
     fn push(&mut self, source: Source) -> Result<(), Stop>
         ensures added { OnOk result (self.new.merger.sources.items ≡ self.old.merger.sources.items ++ source ∷ []) }
         ensures unused { IsUnused self.old.merger → IsUnused self.new.merger }
@@ -105,9 +106,9 @@ impl NumberedMerge {
 
     // Takes the first row of the next text. Returns whether that text is to be given more bytes first.
     fn open_next(&mut self) -> Result<bool, Stop>
-        ensures opened { IfOk result (λ wants. length self.old.merger.sources.items < length self.old.numbers.items → KeepsTaken self.old self.new) }
-        ensures wanted { IfOk result (λ wants. wants ≡ true → length self.old.merger.sources.items < length self.old.numbers.items → IsWanted self.new) }
-        ensures more { IfOk result (λ wants. wants ≡ false → length self.new.merger.sources.items ≡ length self.old.merger.sources.items + 1) }
+        ensures opened { IfOk result (λ wants. IsOpening self.old → KeepsTaken self.old self.new) }
+        ensures wanted { IfOk result (λ wants. wants ≡ true → IsOpening self.old → IsWanted self.new) }
+        ensures more { IfOk result (λ wants. wants ≡ false → opened_in self.new ≡ opened_in self.old + 1) }
         ensures same { self.new.numbers ≡ self.old.numbers }
     {
         let i = self.merger.sources().len();
@@ -150,8 +151,10 @@ impl NumberedMerge {
     ///
     /// An allocation fails.
     pub fn give(&mut self, block: &[u8]) -> Result<(), AllocError>
-        // The wanted text was given the block more, and no other text anything. In the clause `text` is what was given of it before.
+        // The wanted text was given the block, after its earlier bytes. The other texts were given nothing.
         ensures given { OnOk result (GivesWanted block.now self.old self.new) }
+
+        // If bytes of a text were wanted, they still are, and of the same text.
         ensures wants { OnOk result (IsWanted self.old → IsWanted self.new) }
         ensures wanted { self.new.wanted ≡ self.old.wanted }
         ensures same { self.new.numbers ≡ self.old.numbers }
@@ -162,14 +165,14 @@ impl NumberedMerge {
         self.rows.give(block)
     }
 
-    /// Says that no more bytes of the wanted text come.
+    /// Ends the wanted text: no more bytes of it are given.
     pub fn end(&mut self)
-        // What was given is unchanged.
+        // What was given and the rows that were returned are unchanged.
         ensures given { IsWanted self.old → KeepsTaken self.old self.new }
 
-        // The wanted text has ended.
+        // The wanted text has ended: one that is merged (`merged`), or the one whose first row isn't known (`opening`).
         ensures merged { EndsWanted self.old self.new }
-        ensures opening { length self.old.merger.sources.items ≤ self.old.wanted → self.new.rows.is_ended ≡ true }
+        ensures opening { EndsOpening self.old self.new }
         ensures same { self.new.numbers ≡ self.old.numbers }
     {
         if self.wanted < self.merger.sources().len() {
@@ -185,7 +188,8 @@ impl NumberedMerge {
     ///
     /// Same as [`Merger::next_row`].
     pub fn next_row(&mut self) -> Result<Merged, Stop>
-        // A row comes behind those in `out`; or a text wants bytes; or it is the end, and `out` is the merge of all rows.
+        // A row is returned, which comes after the rows in `out`; or bytes of a text are wanted; or all is merged, and `out` is the merge of all
+        // rows.
         ensures follows { IfOk result (λ next. GoesOn self.old next self.new) }
         ensures same { self.new.numbers ≡ self.old.numbers }
     {

@@ -1,7 +1,7 @@
 //! What was read of numbered texts, for contracts alone.
 ghost use Rattle.std.specs.Prelude.{◌≡◌, ◌∷◌, [], take, true};
 ghost use Rattle.hashbag_words_lib.specs.Numbered.{ReadsText};
-ghost use Rattle.hashbag_words_lib.specs.Reads.{bytes_of, is_read};
+ghost use Rattle.hashbag_words_lib.specs.Reads.{bytes_of_text, is_read};
 
 use std::marker::Model;
 use std::mem;
@@ -33,7 +33,7 @@ impl Model for Reads {
 }
 
 impl Reads {
-    /// Nothing was read.
+    /// Returns an empty list of reads.
     pub fn none() -> Reads
         ensures { result ≡ [] }
     {
@@ -63,7 +63,8 @@ impl Reads {
 
     /// Adds a read of the text of that number, which gave the first `n` bytes of the block: 0 at its end.
     pub fn add(&mut self, number: usize, block: &Vec<u8>, n: usize)
-        ensures bytes { ReadsText (bytes_of self.old) (bytes_of self.new) number (take n block.now.items) }
+        // The first n bytes of the block are appended to what was read of text `number`. Nothing was read of other texts.
+        ensures bytes { ReadsText (bytes_of_text self.old) (bytes_of_text self.new) number (take n block.now.items) }
         ensures end { n ≡ 0 → is_read self.new number ≡ true }
     {
         self.push(number, block, n);

@@ -1,17 +1,19 @@
 //! Adding up files of counts that come in blocks, however they are cut.
 //!
-//! A [`RowCounter`] is given bytes, so its clauses hold for any source of the bytes. In the clauses, `text` is what was fed of this file,
-//! `before` are rows with the counts that the bag had at first and the rows of earlier files, and `runs` the runs that were written. A run
-//! is a bag's counts, written to a file to free memory. `HasAdded`: the bag and `runs` together have the rows of `before` and of the lines
-//! of `text` that have ended.
+//! A [`RowCounter`] is given bytes, so its clauses hold for any source of the bytes. A run is a bag's counts, written to a file to free memory. In
+//! the clauses:
+//!
+//! - `text` is what was fed of this file so far;
+//! - `before` are the rows of earlier files, after rows with the counts that the bag had at first;
+//! - `runs` are the runs that were written;
+//! - `HasAdded`: the bag and `runs` together have the rows of `before`, and of the lines of `text` that have ended.
 ghost use Rattle.std.specs.Prelude.{◌≡◌, ℕ, ◌+◌, ◌-◌, ◌^◌, ◌∷◌, ◌++◌, [], List, min, IfOk, OnErr, OnOk};
-ghost use Rattle.hashbag_words_lib.specs.Added.{line_at, AddsBytes, AddsRowsOfLine, AddsWholeFile, EndsFile, HasAdded, HaveRows, IsCutOff, IsFirstNoRowOfFileWith, IsFirstNoRowWhateverFollows, KeepsAddedInRun};
+ghost use Rattle.hashbag_words_lib.specs.Added.{line_at, AddsBytes, AddsRowsOfLine, AddsWholeFile, EndsFile, HasAdded, HaveRows, IsCutOff, IsFirstNoRowOfFileWith, IsFirstNoRowWhateverFollows, KeepsAddedInRun, RejectsLine};
 ghost use Rattle.hashbag_words_lib.specs.Counted.{fed_of, IsWithin, NoLineFeed};
 ghost use Rattle.hashbag_words_lib.specs.Faults.{OnBadLine};
 ghost use Rattle.hashbag_words_lib.specs.Merging.{AddsTree};
 ghost use Rattle.hashbag_words_lib.specs.RowText.{bytes_left};
-ghost use Rattle.hashbag_words_lib.specs.Rows.{IsNoRow};
-ghost use Rattle.hashbag_words_lib.specs.Runs.{run_text, IsRunOf};
+ghost use Rattle.hashbag_words_lib.specs.Runs.{IsRunTextOf};
 
 use crate::counter::{Fed, no_memory, without_return};
 use crate::errors::{BadLine, InputFault};
@@ -39,7 +41,7 @@ pub struct RowCounter<S: BuildHasher + Drop> {
     gauge: Option<Gauge>,
 }
 
-// Returns a line of a file that has `before` lines before it. A byte order mark at the beginning of the first line is removed.
+// Returns a line of a file. `before` lines of the file come before the line. A byte order mark at the beginning of the first line is removed.
 fn past_mark_at(before: u64, line: &[u8]) -> &[u8]
     ensures { result.now ≡ line_at before line.now }
 {
@@ -58,7 +60,7 @@ fn add_line<S: BuildHasher + Drop>(
     reading: &mut LinesRead,
 ) -> Result<(), InputFault>
     ensures rows { OnOk result (AddsRowsOfLine bag.old bag.new form reading.old line.now) }
-    ensures bad { OnBadLine result ((reading.old.bad_lines ≡ BadLines.Rejected) × IsNoRow form (line_at reading.old.line line.now)) }
+    ensures bad { OnBadLine result (RejectsLine form reading.old line.now) }
     ensures bad_lines { reading.new.bad_lines ≡ reading.old.bad_lines }
     ensures line { reading.new.line ≡ min (reading.old.line + 1) (2 ^ 64 - 1) }
 {
@@ -82,7 +84,7 @@ impl<S: BuildHasher + Drop> RowCounter<S> {
         bad_lines: BadLines,
         gauge: Option<Gauge>,
     ) -> RowCounter<S>
-        // `before` are any rows that add up to the counts of the bag.
+        // No file was fed and no run was written so far. `before` are any rows that add up to the counts of the bag.
         ensures begins { (before : List (List ℕ × ℕ)) → HaveRows [] bag before → HasAdded before [] result [] }
         ensures form { result.form ≡ form }
         ensures bad_lines { result.reading.bad_lines ≡ bad_lines }
@@ -104,7 +106,7 @@ impl<S: BuildHasher + Drop> RowCounter<S> {
         &self.bag
     }
 
-    /// Returns how many lines of the file have ended, and were skipped. After an `InputFault` the line that failed is included.
+    /// Returns how many lines of the file have ended, and how many were skipped. After an `InputFault` the line that failed is included.
     pub fn reading(&self) -> LinesRead
         ensures { result ≡ self.now.reading }
     {
@@ -144,8 +146,8 @@ impl<S: BuildHasher + Drop> RowCounter<S> {
 
     /// Adds the rows of the lines that end in these bytes. The bytes after the last line feed are kept.
     ///
-    /// Returns `Fed::Whole`, or `Fed::Full(n)` if the bag was full when that was asked. Then only the first `n` bytes were fed, to the end of the
-    /// line after which it was asked. With a gauge it is asked after every 16 lines.
+    /// Returns `Fed::Whole` if the whole block was fed. The gauge, if there is one, is asked after every 16 lines whether the bag is full. If it is,
+    /// returns `Fed::Full(n)`: only the first `n` bytes were fed, up to the end of the line after which the gauge was asked.
     ///
     /// # Errors
     ///
@@ -156,14 +158,14 @@ impl<S: BuildHasher + Drop> RowCounter<S> {
     ///
     /// Makes one insertion per line, of the token as often as the count says. Only a line that isn't whole in the block is copied.
     pub fn feed(&mut self, block: &[u8]) -> Result<Fed, InputFault>
-        // If the rows of `text` were added before, those of `text` and of the bytes that were fed are added now (`before`, `runs`: see the
-        // head of this file).
+        // If the rows of `text` had been added, the rows of `text` and of the bytes that were fed are added now (`before`, `runs`: see the head of
+        // this file).
         ensures added { IfOk result (λ fed. AddsBytes self.old self.new (fed_of fed block.now)) }
 
         // `Full(n)`: n is above 0 and at most the length of the block.
         ensures within { IfOk result (λ fed. IsWithin fed block.now) }
 
-        // A line that fails as bad is the first line of `text` and the block together that is no row.
+        // A line that fails as bad is the first line that is no row, in `text` followed by the block.
         ensures bad { OnBadLine result (IsFirstNoRowOfFileWith self.old self.new block.now) }
         ensures form { self.new.form ≡ self.old.form }
         ensures bad_lines { self.new.reading.bad_lines ≡ self.old.reading.bad_lines }
@@ -229,6 +231,7 @@ impl<S: BuildHasher + Drop> RowCounter<S> {
         state: S2,
         text: &str,
     ) -> Result<(), InputFault>
+        // The count of each text in the bag rises by the sum of its pairs in the tree.
         ensures tree { OnOk result (AddsTree text.now self.old.bag self.new.bag) }
         ensures err { OnErr result (self.new ≡ self.old) }
     {
@@ -254,8 +257,8 @@ impl<S: BuildHasher + Drop> RowCounter<S> {
     ///
     /// `Memory` if an allocation fails.
     pub fn run(&self) -> Result<RowText<'_>, BagError>
-        // Same as [`run_of`].
-        ensures { IfOk result (λ text. (rows : List (List ℕ × ℕ)) × IsRunOf self.now.bag rows × (bytes_left text ≡ run_text rows)) }
+        // The text is rows of `tsv`, in ascending order of tokens, which count each token as often as the bag has it. Reading it gives these rows.
+        ensures { IfOk result (λ text. IsRunTextOf self.now.bag (bytes_left text)) }
     {
         run_of(self.alloc, &self.bag)
     }

@@ -2,8 +2,8 @@
 //!
 //! Nothing is written here: the caller reads the part that was built, writes it and takes it. So the clauses hold wherever the text is
 //! written.
-ghost use Rattle.std.specs.Prelude.{◌≡◌, ◌++◌, [], IfOk, OnOk};
-ghost use Rattle.hashbag_words_lib.specs.RowParts.{BuildsRow, EndsRows, HasBuilt, TakesPart};
+ghost use Rattle.std.specs.Prelude.{◌≡◌, [], IfOk, OnOk};
+ghost use Rattle.hashbag_words_lib.specs.RowParts.{AppendsText, BuildsRow, EndsRows, HasBuilt, TakesRowPart};
 
 use crate::writing::{Format, push_in};
 use std::alloc::{AllocError, Global};
@@ -19,12 +19,13 @@ pub struct RowParts {
 }
 
 impl RowParts {
-    /// Returns the text of no rows, whose part is what comes before the first row.
+    /// Returns the text before its first row. The part is the head of the format.
     ///
     /// # Errors
     ///
     /// An allocation fails.
     pub fn begin(alloc: Global, format: Format) -> Result<RowParts, AllocError>
+        // No row was appended and no part was taken. The part is what the format writes before the first row.
         ensures built { IfOk result (λ parts. HasBuilt parts [] []) }
         ensures format { IfOk result (λ parts. parts.format ≡ format) }
     {
@@ -43,6 +44,7 @@ impl RowParts {
     ///
     /// An allocation fails. Then the part may have some of the row.
     pub fn push(&mut self, token: &str, count: usize) -> io::Result<()>
+        // If the parts that were taken, and then the part, were the text of some rows without its end, they are now that of these rows and this one.
         ensures built { OnOk result (BuildsRow self.old self.new (token.now, count)) }
         ensures format { self.new.format ≡ self.old.format }
     {
@@ -51,13 +53,13 @@ impl RowParts {
         Ok(())
     }
 
-    /// Appends other text than that of rows to the part.
+    /// Appends text that isn't a row to the part.
     ///
     /// # Errors
     ///
     /// An allocation fails.
     pub(crate) fn push_text(&mut self, text: &[u8]) -> Result<(), AllocError>
-        ensures part { OnOk result (self.new.part.items ≡ self.old.part.items ++ text.now) }
+        ensures part { OnOk result (AppendsText self.old self.new text.now) }
         ensures format { self.new.format ≡ self.old.format }
     {
         self.is_empty = self.is_empty && text.is_empty();
@@ -81,7 +83,7 @@ impl RowParts {
     /// Takes the part: empties it. The caller has read it by [`RowParts::part`], and the next part begins.
     pub fn clear_part(&mut self)
         // The rows so far are unchanged. What was taken of their text now also has this part.
-        ensures built { TakesPart self.old self.new }
+        ensures built { TakesRowPart self.old self.new }
         ensures emptied { self.new.part.items ≡ [] }
         ensures format { self.new.format ≡ self.old.format }
     {
@@ -94,6 +96,7 @@ impl RowParts {
     ///
     /// An allocation fails.
     pub fn end(&mut self) -> Result<(), AllocError>
+        // The parts that were taken, and then the part, are the whole text of the rows, with its end.
         ensures text { OnOk result (EndsRows self.old self.new) }
         ensures format { self.new.format ≡ self.old.format }
     {

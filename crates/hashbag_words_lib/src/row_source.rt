@@ -3,7 +3,7 @@
 //! A [`RowSource`] is given bytes, so its clauses hold for any source of the bytes. In the clauses, `text` is what was given, `more` are
 //! bytes that may still be given, and `left_with` has the rows that are left if `more` is given, and then the end.
 ghost use Rattle.std.specs.Prelude.{◌≡◌, ℕ, ◌++◌, [], List, length, Some, false, true, IfOk, IsErr, IsSome, OnOk};
-ghost use Rattle.hashbag_words_lib.specs.Runs.{rows_left};
+ghost use Rattle.hashbag_words_lib.specs.Runs.{rows_to_come};
 ghost use Rattle.hashbag_words_lib.specs.Sources.{left_with, GivesWhateverComes, Holds, HoldsMore, IsAtEnd, IsRowReadFrom, MeetsWhateverComes};
 ghost use Rattle.hashbag_words_lib.specs.Tokens.{without_mark};
 
@@ -17,7 +17,7 @@ use memchr::memchr;
 use std::alloc::{AllocError, Global};
 use std::str;
 
-/// Where a text of rows is from.
+/// What a text of rows is: a run, or a file.
 #[derive(Clone, Copy, Debug, PartialEq, Eq)]
 pub enum SourceKind {
     /// A run: rows of `tsv` that this crate wrote. Its first token may begin with a byte order mark.
@@ -71,7 +71,7 @@ fn read_line(
     line: &[u8],
     reading: &mut LinesRead,
 ) -> Result<Option<(String, usize)>, InputFault>
-    ensures row { form ≡ RowForm.Tsv → reading.old.bad_lines ≡ BadLines.Rejected → IfOk result (λ row. IsRowReadFrom line.now row) }
+    ensures row { form ≡ RowForm.Tsv → reading.old.bad_lines ≡ BadLines.Rejected → IfOk result (IsRowReadFrom line.now) }
     ensures bad_lines { reading.new.bad_lines ≡ reading.old.bad_lines }
 {
     let Ok(text) = str::from_utf8(line) else {
@@ -90,7 +90,7 @@ fn read_line(
 impl RowSource {
     // Returns a source of lines of this form that was given no bytes.
     fn of_lines(alloc: Global, form: RowForm, bad_lines: BadLines, may_be_marked: bool) -> RowSource
-        ensures left { (more : List ℕ) → left_with result more ≡ rows_left form bad_lines may_be_marked more }
+        ensures left { (more : List ℕ) → left_with result more ≡ rows_to_come form bad_lines may_be_marked more }
         ensures not_ended { result.is_ended ≡ false }
     {
         RowSource {
@@ -105,7 +105,7 @@ impl RowSource {
 
     /// Returns a source of this kind that was given no bytes.
     pub fn new(alloc: Global, kind: SourceKind) -> RowSource
-        // No byte of the text was given, and the text hasn't ended.
+        // No byte was given and no row was taken: the rows left are those of whatever text is given. The text hasn't ended.
         ensures begins { Holds kind [] result }
         ensures not_ended { result.is_ended ≡ false }
     {
@@ -135,7 +135,7 @@ impl RowSource {
     ///
     /// An allocation fails.
     pub fn give(&mut self, block: &[u8]) -> Result<(), AllocError>
-        // The text is longer by the block. The rows left are the same as if the block were still to be given.
+        // If the text hasn't ended, it is longer by the block. The rows left are the same as if the block were still to be given.
         ensures given { OnOk result (self.old.is_ended ≡ false → HoldsMore self.old self.new block.now) }
         ensures left { OnOk result ((more : List ℕ) → left_with self.new more ≡ left_with self.old (block.now ++ more)) }
         ensures ended { self.new.is_ended ≡ self.old.is_ended }
@@ -153,7 +153,7 @@ impl RowSource {
         self.is_ended = true;
     }
 
-    // Returns what comes next if no line ends in the bytes that haven't been read, or `None` if they were a bad line that was skipped.
+    // Returns what comes next if the unread bytes have no line feed. Returns `None` if these bytes were a bad line, and were skipped.
     fn next_unended(&mut self) -> Result<Option<Next>, InputFault>
         ensures meets { IfOk result (λ met. MeetsWhateverComes self.old met self.new) }
         ensures ended { self.new.is_ended ≡ self.old.is_ended }
@@ -173,7 +173,7 @@ impl RowSource {
         Ok(None)
     }
 
-    // Returns what comes next, or `None` if that was a bad line that was skipped.
+    // Reads a line, and returns what comes next, or `None` if the line was bad and was skipped.
     fn next_line(&mut self) -> Result<Option<Next>, InputFault>
         ensures meets { IfOk result (λ met. MeetsWhateverComes self.old met self.new) }
         ensures ended { self.new.is_ended ≡ self.old.is_ended }
@@ -195,13 +195,13 @@ impl RowSource {
         }
     }
 
-    /// Takes and returns the next row. `End` is returned only after the last byte, in each form, and whether bad lines are skipped or not.
+    /// Takes and returns the next row. `End` is returned only after the last byte, in each form, and also if bad lines are skipped.
     ///
     /// # Errors
     ///
     /// A line is bad, or has no line feed, and bad lines aren't skipped; or an allocation fails.
     pub fn next_row(&mut self) -> Result<Next, InputFault>
-        // The next of the rows that are left was taken; or no row was, because it isn't known yet or no row is left.
+        // If the rows that are left are known: the next one was taken; or none was, because it isn't known yet or no row is left.
         ensures gives { IfOk result (λ next. GivesWhateverComes self.old next self.new) }
         ensures ended { self.new.is_ended ≡ self.old.is_ended }
 

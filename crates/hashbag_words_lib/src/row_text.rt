@@ -37,7 +37,7 @@ fn longest(rows: &Vec<(&String, usize)>) -> usize {
     most
 }
 
-// Returns how many bytes the row of a token of this length may have. A byte of it is written as six at most, as `\\u0001`.
+// Returns how many bytes the row of a token of this length may have. A byte of the token is written as at most six bytes, such as `\\u0001`.
 fn room(longest: usize) -> usize {
     longest.saturating_mul(6).saturating_add(64)
 }
@@ -57,6 +57,7 @@ impl<'a> RowText<'a> {
         format: Format,
         rows: Vec<(&'a String, usize)>,
     ) -> Result<RowText<'a>, AllocError>
+        // All bytes of the text are left to read: the rows in this format, with what it writes before the first row and after the last one.
         ensures { IfOk result (λ text. bytes_left text ≡ text_of format (map row_of (map seen rows.entry.items))) }
     {
         let room = room(longest(&rows));

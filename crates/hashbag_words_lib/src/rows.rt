@@ -2,8 +2,8 @@
 //!
 //! A tab, a line feed, a carriage return and a backslash in a token are written `\t`, `\n`, `\r` and `\\`. So each token is on one line,
 //! and is read again as the same token.
-ghost use Rattle.std.specs.Prelude.{◌≡◌, ◌≢◌, ◌∷◌, ◌++◌, ◌<◌, ℕ, [], List, Some, false, length, option_map, slice_index, string_bytes, IfNone, IfOk, IfSome, IsUtf8, OnOk};
-ghost use Rattle.hashbag_words_lib.specs.Rows.{byte_of, escaped, letter_of, row, shown_as, unescaped, AreSpaces, IfRow, IsLineOf, IsRead, IsUniqLineOf, ReadsByte};
+ghost use Rattle.std.specs.Prelude.{◌≡◌, ◌≢◌, ◌∷◌, ◌++◌, ◌<◌, ℕ, [], List, Some, false, length, option_map, slice_index, string_bytes, IfNone, IfOk, IfSome, OnOk};
+ghost use Rattle.hashbag_words_lib.specs.Rows.{byte_of, escaped, letter_of, row, shown_as, unescaped, AreSpaces, IfRow, IsLineOf, IsNoEscapedText, IsRead, IsUniqLineOf, ReadsByte};
 
 use crate::errors::BadLine;
 use itoa::Buffer;
@@ -110,6 +110,7 @@ pub(crate) fn push_cells(text: &mut Vec<u8>, token: &str, count: usize) -> Resul
 ///
 /// An allocation fails.
 pub fn push_row(text: &mut Vec<u8>, token: &str, count: usize) -> io::Result<()>
+    // The line is the token, escaped, a tab, and the count in decimal. The byte 10 is the line feed.
     ensures { OnOk result (text.new.items ≡ text.old.items ++ (row token.now count ++ 10 ∷ [])) }
 {
     push_cells(text, token, count)?;
@@ -117,8 +118,8 @@ pub fn push_row(text: &mut Vec<u8>, token: &str, count: usize) -> io::Result<()>
     Ok(())
 }
 
-// Reads the next byte of an escaped token into `token`. `is_marked`: the byte before it is a backslash that escapes it. Returns whether
-// this byte is a backslash that escapes the next one, or `None` if it is escaped and is no escape letter.
+// Reads the next byte of an escaped token into `token`. `is_marked`: the byte before it is a backslash that escapes it. Returns whether this byte is
+// a backslash that escapes the next one, or `None` if this byte is escaped, but isn't an escape letter.
 fn take_byte(token: &mut Vec<u8>, is_marked: bool, byte: u8) -> Result<Option<bool>, AllocError>
     ensures { IfOk result (λ marked. ReadsByte byte token.old.items is_marked token.new.items marked) }
 {
@@ -154,10 +155,10 @@ fn unescape(alloc: Global, written: &[u8]) -> Result<Option<Vec<u8>>, AllocError
     Ok(Some(token))
 }
 
-// Returns the token whose escaped form is `written`, or `None` if there is none. Without a backslash, as most are, it is the token itself.
+// Returns the token whose escaped form is `written`, or `None` if there is none. Most tokens have no backslash; then `written` is the token itself.
 fn read_token(alloc: Global, written: &str) -> Result<Option<String>, AllocError>
     ensures token { IfOk result (λ token. IfSome token (λ t. unescaped false written.now ≡ Some (string_bytes t))) }
-    ensures no_token { IfOk result (λ token. IfNone token ((t : List ℕ) → IsUtf8 t → unescaped false written.now ≢ Some t)) }
+    ensures no_token { IfOk result (λ token. IfNone token (IsNoEscapedText written.now)) }
 {
     if !has_backslash(written.as_bytes()) {
         return Ok(Some(written.to_string(alloc)?));

@@ -1,8 +1,8 @@
 //! Runs: the counts of a bag, as rows of `tsv` in ascending order of tokens.
-ghost use Rattle.std.specs.Prelude.{◌≡◌, ℕ, ◌+◌, List, [], length, IfOk};
+ghost use Rattle.std.specs.Prelude.{◌≡◌, ◌+◌, [], length, IfOk};
 ghost use Rattle.hashbag.specs.Held.{cleared};
 ghost use Rattle.hashbag_words_lib.specs.RowText.{bytes_left};
-ghost use Rattle.hashbag_words_lib.specs.Runs.{run_text, IsRunOf};
+ghost use Rattle.hashbag_words_lib.specs.Runs.{IsRunTextOf};
 
 use crate::choice::{Order, chosen};
 use crate::row_text::RowText;
@@ -24,8 +24,8 @@ pub fn run_of<'b, S: BuildHasher + Drop>(
     alloc: Global,
     bag: &'b HashBag<String, S>,
 ) -> Result<RowText<'b>, BagError>
-    // `rows` are the bag's texts with their counts, in ascending order of tokens. They are read again as they were written.
-    ensures { IfOk result (λ text. (rows : List (List ℕ × ℕ)) × IsRunOf bag.now rows × (bytes_left text ≡ run_text rows)) }
+    // The text is rows of `tsv`, in ascending order of tokens, which count each token as often as the bag has it. Reading it gives these rows.
+    ensures { IfOk result (λ text. IsRunTextOf bag.now (bytes_left text)) }
 {
     let rows = chosen(alloc, bag, Order::Ascending)?;
     let text = RowText::new(alloc, Format::Tsv, rows)?;

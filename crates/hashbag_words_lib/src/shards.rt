@@ -43,6 +43,7 @@ impl Shard {
 
     /// Returns whether a token is in this shard. If `of` is 0, no token is.
     pub fn has(&self, token: &str) -> bool
+        // The shard has the token if the token's hash modulo `of` is `index`. If `of` is 0, it has none.
         ensures { result ≡ is_in self.now token.now }
     {
         self.of > 0 && hash(token) % self.of == self.index

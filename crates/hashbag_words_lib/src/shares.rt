@@ -5,7 +5,7 @@ ghost use Rattle.hashbag_words_lib.specs.Shares.{hundredths_of, rounded, two_dec
 use itoa::Buffer;
 use std::alloc::AllocError;
 
-// Returns `n / d`, rounded to the nearest number, and up from the middle between two. Returns 0 if `d` is 0.
+// Returns `n / d`, rounded to the nearest number, halves up. Returns 0 if `d` is 0.
 pub(crate) fn rounded(n: u128, d: u128) -> u128
     requires { 2 * n + 2 * d < 2 ^ 128 }
     ensures { result ≡ rounded n d }

@@ -1,7 +1,7 @@
-//! What is shown of rows that come one by one.
-ghost use Rattle.std.specs.Prelude.{◌≡◌, ℕ, [], List, map, vec_len};
+//! Sinks for the rows that are shown.
+ghost use Rattle.std.specs.Prelude.{◌≡◌, ℕ, [], List, vec_len};
 ghost use Rattle.std.specs.BinaryHeap.{heap_len};
-ghost use Rattle.hashbag_words_lib.specs.Top.{kept_row, most_common, KeepsTop};
+ghost use Rattle.hashbag_words_lib.specs.Top.{AreTop, KeepsTop};
 
 use crate::choice::Choice;
 use crate::errors::InputFault;
@@ -50,7 +50,7 @@ impl<K: Sink> Sink for ShownRows<'_, K> {
     }
 }
 
-/// Keeps the most common of the rows that come: counts in descending order, then tokens in ascending order. While a row is put, it has one row
+/// Keeps the most common of the rows that are put: counts in descending order, then tokens in ascending order. While a row is put, it has one row
 /// more in memory than it keeps.
 #[derive(Drop)]
 pub struct TopRows {
@@ -60,10 +60,12 @@ pub struct TopRows {
 }
 
 impl TopRows {
-    /// Keeps at most `most` rows.
+    /// Returns an empty store of at most `most` rows.
     pub fn new(alloc: Global, most: usize) -> TopRows
         ensures empty { heap_len result.kept ≡ 0 }
         ensures bound { result.most ≡ most }
+
+        // No row was put so far.
         ensures begins { KeepsTop result [] }
     {
         TopRows {
@@ -72,12 +74,12 @@ impl TopRows {
         }
     }
 
-    /// The rows that are kept, the most common first.
+    /// Returns the rows that are kept, the most common first.
     pub fn into_rows(self) -> Vec<(Reverse<usize>, String)>
         ensures len { vec_len result ≡ heap_len self.kept }
 
-        // They are the first of all rows that came.
-        ensures first { (rows : List (List ℕ × ℕ)) → KeepsTop self rows → map kept_row result.items ≡ most_common self.most rows }
+        // These rows are the most common of all rows that were put.
+        ensures first { AreTop self result.items }
     {
         self.kept.into_sorted_vec()
     }
@@ -88,7 +90,7 @@ impl Sink for TopRows {
     ghost use Rattle.std.specs.BinaryHeap.{heap_len};
     ghost use Rattle.hashbag_words_lib.specs.Top.{PutsTop};
 
-    // Of all rows that came the first ones are kept, and never more than `most`.
+    // The most common of all rows that were put are kept, and never more than `most`.
     ghost put_gives = { λ old row new. (new.most ≡ old.most) × (heap_len old.kept ≤ old.most → heap_len new.kept ≤ new.most)
         × PutsTop old row new };
 

@@ -1,7 +1,7 @@
-//! The text of what is shown of a bag.
+//! The text that shows the tokens of a bag.
 ghost use Rattle.std.specs.Prelude.{IfOk};
 ghost use Rattle.hashbag_words_lib.specs.RowText.{bytes_left};
-ghost use Rattle.hashbag_words_lib.specs.Shown.{bytes_of, AreBarsOfKept, IsTextOfKept, ShowsCounted};
+ghost use Rattle.hashbag_words_lib.specs.Shown.{shown_bytes, AreBarsOfKept, IsTextOfKept, ShowsCounted};
 
 use crate::bars::bars_of;
 use crate::choice::{Choice, chosen, keep_shown};
@@ -16,18 +16,18 @@ use std::hash::BuildHasher;
 pub enum Look {
     /// In this format.
     Rows(Format),
-    /// In lines, with the percent of all that was counted, shown or not.
+    /// As lines, each with the count as percent of the total of all tokens, shown or not.
     Shares,
     /// With bars, for a terminal of that many columns.
     Bars(usize),
 }
 
-/// The text of what is shown of a bag.
+/// The text that shows the tokens of a bag.
 #[derive(Drop)]
 pub enum Shown<'b> {
-    /// It is read in parts.
+    /// Rows, whose text is read in parts.
     Rows(RowText<'b>),
-    /// It is in memory.
+    /// Rows with bars, whose text is in memory.
     Bars(Vec<u8>),
 }
 
@@ -38,7 +38,7 @@ fn shown_text<'b, S: BuildHasher + Drop>(
     choice: Choice<'_>,
     format: Format,
 ) -> Result<RowText<'b>, BagError>
-    // For any list of tokens of which the bag has exactly those that are shown: the text is what is written of the list.
+    // For any list of tokens: if the bag has exactly the tokens of the list that are shown, the text shows the list.
     ensures { IfOk result (λ text. IsTextOfKept choice.entry format bag.now (bytes_left text)) }
 {
     let rows = chosen(alloc, bag, choice.order)?;
@@ -53,7 +53,7 @@ fn shown_bars<S: BuildHasher + Drop>(
     choice: Choice<'_>,
     width: usize,
 ) -> Result<Vec<u8>, BagError>
-    // For any list of tokens of which the bag has exactly those that are shown: the text is what is written of the list.
+    // For any list of tokens: if the bag has exactly the tokens of the list that are shown, the text shows the list.
     ensures { IfOk result (λ text. AreBarsOfKept choice.entry width bag.now text.items) }
 {
     let order = choice.order;
@@ -62,7 +62,7 @@ fn shown_bars<S: BuildHasher + Drop>(
     Ok(text)
 }
 
-/// Returns the text of what is shown of a bag, and removes all else from the bag.
+/// Returns the text that shows the tokens of a bag, and removes the tokens that aren't shown from the bag.
 ///
 /// # Errors
 ///
@@ -77,8 +77,9 @@ pub fn shown_of<'b, S: BuildHasher + Drop>(
     choice: Choice<'_>,
     look: Look,
 ) -> Result<Shown<'b>, BagError>
-    // The text is what is written of any list of the tokens that the bag counts: what isn't shown is left out, and a share is of all of it.
-    ensures { IfOk result (λ shown. ShowsCounted choice.entry look bag.old (bytes_of shown)) }
+    // The text shows the tokens that the bag counts, in whatever order they are listed. Tokens that `choice` doesn't show are left out. A share is of
+    // all tokens.
+    ensures { IfOk result (λ shown. ShowsCounted choice.entry look bag.old (shown_bytes shown)) }
 {
     let total = keep_shown(bag, choice);
     match look {

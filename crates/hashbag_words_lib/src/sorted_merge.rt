@@ -1,5 +1,5 @@
-//! Merges the rows of several sources, each with its tokens in ascending order, into one such stream: each token once, with the sum of its
-//! counts.
+//! Merges the rows of several sources. In each source the tokens are in ascending order, and so they are in the merge: each token once, with the sum
+//! of its counts.
 //!
 //! A [`Merger`] is given bytes, so its clauses hold for any source of the bytes. In the clauses, `given` has the text that each source was
 //! given so far, and `out` the rows that were returned.
@@ -16,7 +16,8 @@ use std::alloc::AllocError;
 
 /// Receives rows, one after the other.
 pub trait Sink {
-    /// What a row changes: the sink before, the row (the bytes of its token, and its count), and the sink after.
+    /// `put_gives old row new`: the call of `put` with this row changes the sink from `old` to `new`. The row is the bytes of its token, and its
+    /// count.
     ghost put_gives: { Self → List ℕ × ℕ → Self → Type 0 };
 
     /// Receives a row.
@@ -29,8 +30,8 @@ pub trait Sink {
 pub enum Merged {
     /// A row: its token and its count.
     Row((String, usize)),
-    /// No row yet: a source has to be given more bytes, or ended, first. From a [`Merger`] this is its index, from a `NumberedMerge` the number of
-    /// its text.
+    /// No row yet: first a source has to be given more bytes, or ended. A [`Merger`] returns the index of the source, a `NumberedMerge` the number of
+    /// the source's text.
     Wants(usize),
     /// No row: all rows are merged.
     End,
@@ -75,7 +76,7 @@ fn least(sources: &[Source]) -> usize
     best
 }
 
-// Returns the total with the count of a next row, or `None` if the sum is more than `usize::MAX`.
+// Returns the sum of the total and the count of the next row, or `None` if the sum is more than `usize::MAX`.
 fn total_with(total: usize, head: &Option<Head>) -> Option<usize>
     ensures sum { IfSome result (λ sum. sum ≡ total + count_held head.now) }
     ensures fits { IfSome result (λ sum. sum < 2 ^ 64) }
@@ -139,7 +140,7 @@ fn join(
     }
 }
 
-// Returns a row whose token doesn't come again, unless its count is 0.
+// Returns `done`, or `None` if its count is 0.
 fn shown(done: Option<(String, usize)>) -> Option<(String, usize)>
     ensures { one_of result ≡ shown_of done }
 {
@@ -164,8 +165,10 @@ pub struct Merger {
 impl Merger {
     /// Returns the merger of these sources.
     pub fn new(sources: Vec<Source>) -> Merger
-        // No row was returned so far.
+        // If no row was taken from the sources, `given` is what they were given, and no row was returned so far.
         ensures begins { (given : _) → AreBegun given sources.items → HasMerged given result [] }
+
+        // The merger has these sources, and no row was taken from them.
         ensures unused { (result.sources.items ≡ sources.items) × IsUnused result }
     {
         Merger {
@@ -215,7 +218,7 @@ impl Merger {
     ///
     /// An allocation fails.
     pub fn give(&mut self, i: usize, block: &[u8]) -> Result<(), AllocError>
-        // If source `i` hasn't ended, what it was given is longer by the block.
+        // If source `i` hasn't ended: what it was given is longer by the block (`given`), and it still hasn't ended (`wants`).
         ensures given { OnOk result (IsOpen self.old.sources.items i → LengthensText self.old self.new i block.now) }
         ensures wants { IsOpen self.old.sources.items i → IsOpen self.new.sources.items i }
         ensures many { length self.new.sources.items ≡ length self.old.sources.items }
@@ -228,7 +231,7 @@ impl Merger {
 
     /// Ends the source with this index: no more bytes are given to it.
     pub fn end(&mut self, i: usize)
-        // What the sources were given is unchanged, and source `i` has ended.
+        // What the sources were given and the rows that were returned are unchanged. Source `i` has ended.
         ensures given { (given : _) → (out : List (List ℕ × ℕ)) → HasMerged given self.old out → HasMerged given self.new out }
         ensures ended { i < length self.old.sources.items → IsEnded self.new.sources.items i }
     {
@@ -241,9 +244,9 @@ impl Merger {
     ///
     /// # Errors
     ///
-    /// `Stop::Source` if a line is bad, a row doesn't come after the one before (`BadLine::NotInOrder`), all counts add up to more than
-    /// `usize::MAX`, or an allocation fails. Not `Stop::TooMany`: `Stop::Source` comes before it. After an error use only
-    /// [`Merger::sources`].
+    /// `Stop::Source` if a line is bad, a row doesn't come after the one before (`BadLine::NotInOrder`), all counts add up to more than `usize::MAX`,
+    /// or an allocation fails. It never returns `Stop::TooMany`: if the sum of one token is too large, so is the total, which is checked first
+    /// (`Stop::Source`). After an error use only [`Merger::sources`].
     ///
     /// # Complexity
     ///

@@ -1,16 +1,16 @@
 //! Sources of rows whose tokens are in ascending order.
-ghost use Rattle.std.specs.Prelude.{◌≡◌, ℕ, List, None, Some, false, string_bytes, IfOk, IfSome};
+ghost use Rattle.std.specs.Prelude.{◌≡◌, None, Some, false, string_bytes, IfOk, IfSome};
 ghost use Rattle.std.specs.declared.cmp.Ordering.TheVariants.{Less};
-ghost use Rattle.hashbag_words_lib.specs.Merged.{OpensWith, TakesWhateverComes};
+ghost use Rattle.hashbag_words_lib.specs.Merged.{Opens, TakesWhateverComes};
 ghost use Rattle.hashbag_words_lib.specs.Sorted.{text_cmp};
-ghost use Rattle.hashbag_words_lib.specs.Sources.{row_in, GivesWhateverComes, Holds};
+ghost use Rattle.hashbag_words_lib.specs.Sources.{row_in, GivesWhateverComes};
 
 use crate::errors::{BadLine, InputFault};
 use crate::head::Head;
 use crate::row_source::{Next, RowSource};
 use std::mem;
 
-// Takes the next row whose token comes after `last`. Rows whose token doesn't are passed over or rejected.
+// Takes the next row whose token comes after `last`. A row whose token doesn't come after `last` is skipped or rejected.
 fn next_above(rows: &mut RowSource, last: &str) -> Result<Next, InputFault>
     ensures gives { IfOk result (λ next. GivesWhateverComes rows.old next rows.new) }
     ensures above { IfOk result (λ next. IfSome (row_in next) (λ r. text_cmp last.now (string_bytes r.0) ≡ Less)) }
@@ -32,7 +32,7 @@ fn next_above(rows: &mut RowSource, last: &str) -> Result<Next, InputFault>
     Err(InputFault::Line(BadLine::NotInOrder))
 }
 
-/// A source of rows, and the row of it that comes next.
+/// A source of rows, and its next row.
 #[derive(Drop)]
 pub struct Source {
     pub(crate) rows: RowSource,
@@ -40,12 +40,12 @@ pub struct Source {
     pub(crate) head: Option<Head>,
 }
 
-/// What opening a source gives.
+/// What [`Source::open`] returns.
 #[derive(Drop)]
 pub enum Opened {
     /// The source. Its first row is known, or it has none.
     Ready(Source),
-    /// The rows. The first one isn't known before more bytes are given, or the text is ended.
+    /// The rows. Before the first row is known, more bytes have to be given, or the text has to be ended.
     Wants(RowSource),
 }
 
@@ -54,10 +54,12 @@ impl Source {
     ///
     /// # Errors
     ///
-    /// The fault of [`RowSource::next_row`], and the rows, of which no clause says what is left.
+    /// The fault of [`RowSource::next_row`], and the source of rows. No clause says which rows are left then.
     pub fn open(mut rows: RowSource) -> Result<Opened, (InputFault, RowSource)>
-        // The first row is known, and no row is lost; or it isn't known before more bytes are given.
-        ensures opened { IfOk result (λ opened. (kind : _) → (text : List ℕ) → Holds kind text rows → OpensWith kind text opened) }
+        // Either the first row is known, and no row is lost; or more bytes have to be given first.
+        ensures opened { IfOk result (λ opened. Opens rows opened) }
+
+        // More bytes are wanted only if the text hasn't ended.
         ensures wants { IfOk result (λ opened. (wanting : _) → opened ≡ Opened.Wants wanting → wanting.is_ended ≡ false) }
     {
         match rows.next_row() {
@@ -71,18 +73,18 @@ impl Source {
         }
     }
 
-    /// The rows behind the next one.
+    /// Returns the rows after the next row.
     pub fn rows(&self) -> &RowSource
         ensures { result.now ≡ self.now.rows }
     {
         &self.rows
     }
 
-    /// Takes the row that comes next, if the row after it is known. If that isn't, nothing is taken.
+    /// Takes the next row, if the row after it is known. Else takes nothing.
     ///
     /// # Errors
     ///
-    /// The fault of that row. `BadLine::NotInOrder`: the next row's token doesn't come after this row's.
+    /// The fault of the row after it. `BadLine::NotInOrder` if the token of the row after it isn't greater than the token of the next row.
     pub(crate) fn take(&mut self) -> Result<Next, InputFault>
         // The row that came next was taken, if the one after it is known; or none was left.
         ensures same { IfOk result (λ next. IfSome (row_in next) (λ row. self.old.head ≡ Some row)) }

@@ -4,7 +4,7 @@ ghost use Rattle.std.specs.Prelude.{◌≡◌, ◌++◌, [], take};
 use std::marker::Model;
 use std::snapshot::Snapshot;
 
-// Bytes, and the first `n` of a block behind them.
+// Bytes, then the first `n` bytes of a block.
 #[derive(Drop)]
 struct Part {
     before: Option<Snapshot<Part>>,
@@ -12,7 +12,7 @@ struct Part {
     n: usize,
 }
 
-/// Bytes that came in blocks. They take no memory. Contracts see the list of them.
+/// Bytes that came in blocks. They take no memory. Contracts see the list of the bytes.
 #[derive(Drop)]
 pub struct Tape {
     last: Option<Snapshot<Part>>,
@@ -20,11 +20,11 @@ pub struct Tape {
 
 impl Model for Tape {
     ghost use Rattle.std.specs.Prelude.{ℕ, List};
-    ghost use Rattle.hashbag_words_lib.specs.Tapes.{bytes_in};
+    ghost use Rattle.hashbag_words_lib.specs.Tapes.{tape_bytes};
 
     ghost Value = { List ℕ };
 
-    ghost view = { λ tape. bytes_in tape.last };
+    ghost view = { λ tape. tape_bytes tape.last };
 }
 
 impl Tape {

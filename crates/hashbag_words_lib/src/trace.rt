@@ -4,14 +4,14 @@ ghost use Rattle.std.specs.Prelude.{◌≡◌, ◌++◌, ◌∷◌, []};
 use std::marker::Model;
 use std::snapshot::Snapshot;
 
-// Values, and one behind them.
+// Values, then one more value.
 #[derive(Drop)]
 struct Link<T: Drop> {
     before: Option<Snapshot<Link<T>>>,
     value: Snapshot<T>,
 }
 
-/// Values that came one after the other. They take no memory. Contracts see the list of them.
+/// Values that came one after the other. They take no memory. Contracts see the list of the values.
 #[derive(Drop)]
 pub struct Trace<T: Drop> {
     last: Option<Snapshot<Link<T>>>,

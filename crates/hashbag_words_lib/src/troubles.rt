@@ -15,7 +15,7 @@ fn too_many<'a>(alloc: Global, file: &'a str, line: u64) -> Trouble<'a> {
     Trouble::with_status(what, TOTAL_TOO_LARGE)
 }
 
-/// Returns the trouble of a fault of this input, of which that many lines were read.
+/// Returns the trouble of a fault of this input, after `lines` lines of it were read.
 pub fn of_input<'a>(alloc: Global, file: &'a str, lines: u64, fault: InputFault) -> Trouble<'a> {
     match fault {
         InputFault::Line(bad) => Trouble::of_line(file, lines, bad.to_string(alloc)),
@@ -45,7 +45,8 @@ pub fn of_input<'a>(alloc: Global, file: &'a str, lines: u64, fault: InputFault)
 /// Returns the trouble of a file that isn't read as UTF-8, since it can't be read or isn't UTF-8.
 pub fn of_text<'a>(alloc: Global, file: &'a str, error: io::Error) -> Trouble<'a> {
     if error.kind() == ErrorKind::InvalidData {
-        return Trouble::with_status(format!(in alloc; "{file}: {error}"), BAD_INPUT);
+        let what = format!(in alloc; "{file}: not UTF-8; `iconv -f ENCODING` converts it");
+        return Trouble::with_status(what, BAD_INPUT);
     }
     Trouble::of_file(file, error)
 }

@@ -1,6 +1,6 @@
 //! Writing counts.
 ghost use Rattle.std.specs.Prelude.{◌≡◌, ◌++◌, OnOk};
-ghost use Rattle.hashbag_words_lib.specs.Writing.{comma, end_text, head_text, pair_text, pair_tokens, row_text, shares_text, uniq_text};
+ghost use Rattle.hashbag_words_lib.specs.Writing.{end_text, head_text, next_row_text, pair_text, pair_tokens, shares_text, uniq_text};
 
 use crate::rows::{push_cells, push_row};
 use crate::shares::push_share;
@@ -101,7 +101,7 @@ pub(crate) fn push_in(
     token: &str,
     count: usize,
 ) -> io::Result<()>
-    ensures { OnOk result (text.new.items ≡ text.old.items ++ (comma format is_first ++ row_text format (token.now, count))) }
+    ensures { OnOk result (text.new.items ≡ text.old.items ++ next_row_text format is_first (token.now, count)) }
 {
     match format {
         Format::Tsv => push_row(text, token, count),

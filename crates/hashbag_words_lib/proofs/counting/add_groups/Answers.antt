@@ -12,9 +12,7 @@ use Rattle.hashbag_words_lib.proofs.counting.add_groups.Goals as goal
 
 pub returns-then-index-saturating_sub : goal.returns-then-index-saturating_sub
 returns-then-index-saturating_sub g c =
-    let above = c.if-index-saturating_sub.true in
-    let groups = c.captures_len.ensures.count in
-    let test : nat_lt (c.args.index + 1) (group_count c.args.pattern.now) ≡ false = grind (arith, nat_tests) in
+    let test : nat_lt (c.args.index + 1) (group_count c.args.pattern.now) ≡ false = grind (arith, nat_tests, c.if-index-saturating_sub.true, c.captures_len.ensures.count) in
     subst (λ (l : List (List ℕ)). AddsTexts c.args.bag.now c.args.bag.now (map (token_of c.args.fold) (nonempty l))) (no_group c.args.pattern.now (c.args.index + 1) c.args.line.now test)
     (AddsTexts-nil c.args.bag.now)
 
@@ -32,9 +30,7 @@ matches-preserved g c =
     let m = found.0 in
     let tokens = λ (l : List (List ℕ)). map (token_of c.args.fold) (nonempty l) in
     let count : location_count c.next_read.new.locations ≡ group_count c.args.pattern.now = c.next_read.ensures.count ∙ inv.3 in
-    let below = c.if-index-saturating_sub.false in
-    let groups = c.captures_len.ensures.count in
-    let within : n < location_count c.next_read.new.locations = omega (arith, below, groups, count) in
+    let within : n < location_count c.next_read.new.locations = omega (arith, c.if-index-saturating_sub.false, c.captures_len.ensures.count, count) in
     let place : c.get.result ≡ group_of m n = c.get.ensures ∙ found.3.1 n (omega arith) within in
     let one : AddsTexts c.matches.bag c.add_part.new.bag (tokens (part_of line (group_of m n))) =
     subst (λ (p : Option (ℕ × ℕ)). AddsTexts c.matches.bag c.add_part.new.bag (tokens (part_of line p))) place c.in_ok-add_part.ensures in
@@ -48,8 +44,6 @@ matches-preserved g c =
 pub returns : goal.returns
 returns g c =
     let inv = c.matches.invariant in
-    let below = c.if-index-saturating_sub.false in
-    let groups = c.captures_len.ensures.count in
-    let test : nat_lt (c.args.index + 1) (group_count c.args.pattern.now) ≡ true = grind (arith, nat_tests) in
+    let test : nat_lt (c.args.index + 1) (group_count c.args.pattern.now) ≡ true = grind (arith, nat_tests, c.if-index-saturating_sub.false, c.captures_len.ensures.count) in
     subst (λ (l : List (List ℕ)). AddsTexts c.args.bag.now c.matches.bag (map (token_of c.args.fold) (nonempty l)))
     (all_groups c.args.pattern.now (c.args.index + 1) c.args.line.now inv.0 (captures_left c.matches.matches) test c.in_default.ensures.found inv.1) inv.2

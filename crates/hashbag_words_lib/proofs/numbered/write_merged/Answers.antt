@@ -4,7 +4,8 @@ use Rattle.std.proofs.Math.Seq.{take-length}
 use Rattle.std.proofs.lemmas.List.{append-nil}
 use Rattle.hashbag_words_lib.specs.Numbered.{IsNext}
 use Rattle.hashbag_words_lib.specs.declared.merged_text.Wants.{Wants}
-use Rattle.hashbag_words_lib.proofs.NumberedLemmas.{appends_both, appends_none, layout_both, next_read, take_read}
+use Rattle.hashbag_words_lib.proofs.NumberedLemmas.{layout_both, next_read, take_read}
+use Rattle.hashbag_words_lib.proofs.RunFileLemmas.{appends_both, appends_none}
 use Rattle.hashbag_words_lib.proofs.numbered.write_merged.Goals as goal
 
 -- nothing is written yet

@@ -29,7 +29,5 @@ returns-clause-permutation c =
 pub returns-clause-sorted : goal.returns-clause-sorted
 returns-clause-sorted c =
     let after = c.sort_from.new.rows in
-    let long : length after ≡ c.in_ok-made.made.len = search rules in
-    let kept = take_at after (drop (length after) c.in_ok-made.made.items) c.in_ok-made.made.len long in
     of_rows (IsSorted row_cmp) _ c.without_numbers.result c.without_numbers.ensures
-    (subst (λ l. IsSorted row_cmp (map bare_row l)) (sym kept) (c.sort_from.ensures.sorted 0 (λ k d h. refl)))
+    (subst (λ l. IsSorted row_cmp (map bare_row l)) (sym (take_at after (drop (length after) c.in_ok-made.made.items) c.in_ok-made.made.len (search rules))) (c.sort_from.ensures.sorted 0 (λ k d h. refl)))

@@ -1,4 +1,4 @@
-use Rattle.hashbag_words_lib.proofs.MergingRunsLemmas.{none_kept}
+use Rattle.hashbag_words_lib.proofs.ShownRunsLemmas.{none_kept}
 use Rattle.hashbag_words_lib.proofs.merging_runs.MergingRuns.is_empty.Goals as goal
 
 pub returns-clause-nothing : goal.returns-clause-nothing

@@ -2,7 +2,7 @@ use Rattle.std.proofs.Common.{None, Some, sym, subst}
 use Rattle.hashbag_words_lib.specs.MergingRuns.{FitsOrder, LaysOut}
 use Rattle.hashbag_words_lib.specs.declared.shown_text.Look.{Look}
 use Rattle.hashbag_words_lib.specs.declared.writing.Format.TheVariants.{Tsv, Shares}
-use Rattle.hashbag_words_lib.proofs.MergingRunsLemmas.{lays_bars, lays_rows, lays_shares}
+use Rattle.hashbag_words_lib.proofs.ShownRunsLemmas.{lays_bars, lays_rows, lays_shares}
 use Rattle.hashbag_words_lib.proofs.merging_runs.MergingRuns.layout_of.Goals as goal
 
 -- in a format

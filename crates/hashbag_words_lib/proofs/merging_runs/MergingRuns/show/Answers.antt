@@ -1,4 +1,4 @@
-use Rattle.hashbag_words_lib.proofs.MergingRunsLemmas.{runs_shown, shows_tokens}
+use Rattle.hashbag_words_lib.proofs.ShownRunsLemmas.{runs_shown, shows_tokens}
 use Rattle.hashbag_words_lib.proofs.merging_runs.MergingRuns.show.Goals as goal
 
 -- in memory

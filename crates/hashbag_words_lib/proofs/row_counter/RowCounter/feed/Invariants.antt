@@ -1,14 +1,11 @@
 use Rattle.std.proofs.Common.{◌≡◌, length}
 use Rattle.hashbag_words_lib.specs.Added.{HasAdded}
-use Rattle.hashbag_words_lib.proofs.CountedLemmas.{Eaten}
+use Rattle.hashbag_words_lib.proofs.FedLemmas.{Feeds}
 use Rattle.hashbag_words_lib.proofs.row_counter.RowCounter.feed.Given as goal
 
 -- what the block has before the rest is fed
 abbrev pub invariant-lines : goal.invariant-lines
-invariant-lines g l =
-    ((before : _) → (runs : _) → Eaten (HasAdded before runs l.fn.self) (HasAdded before runs l.self) l.fn.block l.rest)
-    × (l.self.form ≡ l.fn.self.form)
-    × (l.self.reading.bad_lines ≡ l.fn.self.reading.bad_lines)
+invariant-lines g l = Feeds HasAdded l.fn.self l.self l.fn.block l.rest × (l.self.form ≡ l.fn.self.form) × (l.self.reading.bad_lines ≡ l.fn.self.reading.bad_lines)
 
 abbrev pub decreases-lines : goal.decreases-lines
 decreases-lines g l = length l.rest

@@ -1,6 +1,6 @@
 use Rattle.std.proofs.Common.{◌≡◌, Bool, true, false, List, ℕ, ◌+◌, ◌∷◌, ◌++◌, take, drop, Some, IsSomeAnd, refl, sym, ◌∙◌, ap, subst, append_assoc}
 use Rattle.std.specs.Str.Lines.{strip_carriage_return}
-use Rattle.hashbag_words_lib.specs.Runs.{read_as, rows_left}
+use Rattle.hashbag_words_lib.specs.Runs.{read_as, rows_to_come}
 use Rattle.hashbag_words_lib.specs.Sorted.{row_of}
 use Rattle.hashbag_words_lib.specs.Sources.{Gives}
 use Rattle.hashbag_words_lib.specs.Tokens.{without_mark}
@@ -38,9 +38,9 @@ returns-in-Some-read-clause-meets c = λ more may.
     by_mark marked (strip_carriage_return front) c.unmarked-line.result.now (λ no_mark. c.unmarked-line.ensures.plain no_mark ∙ c.without_return.ensures) (λ mark. c.unmarked-line.ensures.marked mark ∙ ap without_mark c.without_return.ensures) in
     ap read_as shown ∙ read
     in
-    subst (λ (l : List ℕ). Gives (rows_left form bad marked l) (Row row) (rows_left form c.read_line.new.reading.bad_lines false (c.skip.new.self ++ more))) (sym whole)
-    (subst (λ (l : List ℕ). Gives (rows_left form bad marked (front ++ 10 ∷ rest)) (Row row) (rows_left form c.read_line.new.reading.bad_lines false l)) (sym left)
-    (subst (λ (b : BadLines). Gives (rows_left form bad marked (front ++ 10 ∷ rest)) (Row row) (rows_left form b false rest)) (sym same)
+    subst (λ (l : List ℕ). Gives (rows_to_come form bad marked l) (Row row) (rows_to_come form c.read_line.new.reading.bad_lines false (c.skip.new.self ++ more))) (sym whole)
+    (subst (λ (l : List ℕ). Gives (rows_to_come form bad marked (front ++ 10 ∷ rest)) (Row row) (rows_to_come form c.read_line.new.reading.bad_lines false l)) (sym left)
+    (subst (λ (b : BadLines). Gives (rows_to_come form bad marked (front ++ 10 ∷ rest)) (Row row) (rows_to_come form b false rest)) (sym same)
     (gives_row form bad marked front rest row found.0 is)))
 
 -- a line was passed over

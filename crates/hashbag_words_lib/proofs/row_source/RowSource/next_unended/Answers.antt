@@ -1,5 +1,5 @@
 use Rattle.std.proofs.Common.{◌≡◌, List, ℕ, [], ◌++◌, sym, ◌∙◌, ap, subst}
-use Rattle.hashbag_words_lib.specs.Runs.{rows_left}
+use Rattle.hashbag_words_lib.specs.Runs.{rows_to_come}
 use Rattle.hashbag_words_lib.specs.Sources.{Gives}
 use Rattle.hashbag_words_lib.specs.declared.lines.BadLines.TheVariants.{Rejected, Skipped}
 use Rattle.hashbag_words_lib.specs.declared.row_source.Next.TheVariants.{End}
@@ -13,7 +13,7 @@ returns-then-n-eq0-clause-meets c = λ more may.
     let self = c.args.self.now in
     let none : self.unread ≡ [] = sym c.bytes-n.ensures ∙ nil_of c.bytes-n.result.now c.if-n-eq0.true in
     let both : self.unread ++ more ≡ [] = ap (λ (l : List ℕ). l ++ more) none ∙ may c.if-not-self.false in
-    subst (λ (l : List ℕ). Gives (rows_left self.form self.reading.bad_lines self.may_be_marked l) End (rows_left self.form self.reading.bad_lines self.may_be_marked l)) (sym both)
+    subst (λ (l : List ℕ). Gives (rows_to_come self.form self.reading.bad_lines self.may_be_marked l) End (rows_to_come self.form self.reading.bad_lines self.may_be_marked l)) (sym both)
     (gives_end self.form self.reading.bad_lines self.may_be_marked)
 
 -- the bytes of a line that is cut off were passed over

@@ -1,86 +1,48 @@
-use Rattle.std.proofs.Common.{◌≡◌, ℕ, ◌+◌, [], ◌∷◌, ◌++◌, List, refl, sym, ◌∙◌, ap, subst, arith}
+use Rattle.std.proofs.Common.{◌≡◌, ℕ, ◌++◌, List, String, Global, Option, Some, None, sym, ◌∙◌, ap}
 use Rattle.std.proofs.lemmas.List.{append-nil}
-use Rattle.hashbag_words_lib.specs.Merged.{count_of, texts_of, TakesRow}
-use Rattle.hashbag_words_lib.specs.Sorted.{one_of, row_of, shown_of, IsMergeOf}
-use Rattle.hashbag_words_lib.proofs.MergedLemmas.{runs_merged, so_far_as, so_far_ends, so_far_row, so_far_same, so_far_whole, total_whole}
+use Rattle.hashbag_words_lib.specs.Merged.{run_texts}
+use Rattle.hashbag_words_lib.specs.Sorted.{one_of, shown_of}
+use Rattle.hashbag_words_lib.proofs.MergedLemmas.{runs_merged, so_far_ends, so_far_row, so_far_same, so_far_whole, took_as}
 use Rattle.hashbag_words_lib.proofs.sorted_merge.Merger.next_row.Goals as goal
 
-and_none : (n m : ℕ) → m ≡ n + 0 → m ≡ n
-and_none n m e = omega arith
+-- the rows after what was shown
+shown_is : (out : List (List ℕ × ℕ)) (row shown : Option (String Global × ℕ)) (rows : List (List ℕ × ℕ)) → shown ≡ row → one_of shown ≡ rows → out ++ one_of row ≡ out ++ rows
+shown_is out row shown rows is same = ap (λ (l : List (List ℕ × ℕ)). out ++ l) (sym (ap one_of is) ∙ same)
+
+none_is : (out : List (List ℕ × ℕ)) (shown : Option (String Global × ℕ)) (rows : List (List ℕ × ℕ)) → shown ≡ None → one_of shown ≡ rows → out ≡ out ++ rows
+none_is out shown rows is same = sym (append-nil out) ∙ shown_is out None shown rows is same
 
 -- a row was taken, and one came out
 pub returns-in-Some-clause-follows : goal.returns-in-Some-clause-follows
-returns-in-Some-clause-follows c = λ given out merged.
-    let old = c.rows.self in
-    let new = c.take_least.new.sources.items in
-    so_far_as given new c.join.new.held c.join.new.held c.take_least.new.total c.take_least.new.total (out ++ shown_of c.in_ok-done-in-Row.done) (out ++ row_of c.in-Some.row ∷ []) refl refl
-    (ap (λ (l : List (List ℕ × ℕ)). out ++ l) (sym (ap one_of c.in-Some.is) ∙ c.shown.ensures))
-    (so_far_row given old.sources.items new out old.held old.total (c.rows.invariant given out merged) c.take_least.ensures.ended c.take_least.ensures.many c.in-Row.row c.in_ok-done-in-Row.done c.join.new.held c.take_least.new.total
-    (c.in_ok-row.ensures.total ∙ ap (λ n. old.total + count_of n) c.in-Row.is) c.take_least.ensures.fits c.in_ok-done-in-Row.ensures
-    (λ mores come rows are. subst (λ n. TakesRow mores rows n new) c.in-Row.is (c.in_ok-row.ensures.taken mores come rows are)))
+returns-in-Some-clause-follows c given out merged =
+    so_far_row (c.rows.invariant given out merged) c.in-Row.row c.in_ok-done-in-Row.done c.join.new.held (took_as c.in-Row.is c.rows.self.sources.items c.rows.self.total c.take_least.new.sources.items c.take_least.new.total c.take_least.ensures.ended c.take_least.ensures.many c.take_least.ensures.fits c.in_ok-row.ensures.total c.in_ok-row.ensures.taken) c.in_ok-done-in-Row.ensures (shown_is out (Some c.in-Some.row) _ _ c.in-Some.is c.shown.ensures)
 
 -- a row was taken, and none came out
 pub rows-preserved : goal.rows-preserved
-rows-preserved c = λ given out merged.
-    let old = c.rows.self in
-    let new = c.take_least.new.sources.items in
-    so_far_as given new c.join.new.held c.join.new.held c.take_least.new.total c.take_least.new.total (out ++ shown_of c.in_ok-done-in-Row.done) out refl refl
-    (sym (append-nil out) ∙ ap (λ (l : List (List ℕ × ℕ)). out ++ l) (sym (ap one_of c.in_default.is) ∙ c.shown.ensures))
-    (so_far_row given old.sources.items new out old.held old.total (c.rows.invariant given out merged) c.take_least.ensures.ended c.take_least.ensures.many c.in-Row.row c.in_ok-done-in-Row.done c.join.new.held c.take_least.new.total
-    (c.in_ok-row.ensures.total ∙ ap (λ n. old.total + count_of n) c.in-Row.is) c.take_least.ensures.fits c.in_ok-done-in-Row.ensures
-    (λ mores come rows are. subst (λ n. TakesRow mores rows n new) c.in-Row.is (c.in_ok-row.ensures.taken mores come rows are)))
+rows-preserved c given out merged =
+    so_far_row (c.rows.invariant given out merged) c.in-Row.row c.in_ok-done-in-Row.done c.join.new.held (took_as c.in-Row.is c.rows.self.sources.items c.rows.self.total c.take_least.new.sources.items c.take_least.new.total c.take_least.ensures.ended c.take_least.ensures.many c.take_least.ensures.fits c.in_ok-row.ensures.total c.in_ok-row.ensures.taken) c.in_ok-done-in-Row.ensures (none_is out _ _ c.in_default.is c.shown.ensures)
 
 -- the row after the least isn't known
 pub returns-in-Wants-clause-follows : goal.returns-in-Wants-clause-follows
-returns-in-Wants-clause-follows c = λ given out merged.
-    let old = c.rows.self in
-    let new = c.take_least.new.sources.items in
-    let total : c.take_least.new.total ≡ old.total = and_none old.total c.take_least.new.total (c.in_ok-row.ensures.total ∙ ap (λ n. old.total + count_of n) c.in-Wants.is) in (
-      so_far_as given new old.held old.held old.total c.take_least.new.total out out refl total refl
-          (so_far_same given old.sources.items new out old.held old.total (c.rows.invariant given out merged) c.take_least.ensures.ended c.take_least.ensures.many
-          (λ mores come rows are. subst (λ n. TakesRow mores rows n new) c.in-Wants.is (c.in_ok-row.ensures.taken mores come rows are))),
-      c.in_ok-row.ensures.wants c.in-Wants.i c.in-Wants.is,
-    )
+returns-in-Wants-clause-follows c given out merged = (
+  so_far_same (c.rows.invariant given out merged) (took_as c.in-Wants.is c.rows.self.sources.items c.rows.self.total c.take_least.new.sources.items c.take_least.new.total c.take_least.ensures.ended c.take_least.ensures.many c.take_least.ensures.fits c.in_ok-row.ensures.total c.in_ok-row.ensures.taken),
+  c.in_ok-row.ensures.wants c.in-Wants.i c.in-Wants.is,
+)
 
 -- no row is left, and the one that was held came out
 pub returns-in-Some-shown-clause-follows : goal.returns-in-Some-shown-clause-follows
-returns-in-Some-shown-clause-follows c = λ given out merged.
-    let old = c.rows.self in
-    let new = c.take_least.new.sources.items in
-    let total : c.take_least.new.total ≡ old.total = and_none old.total c.take_least.new.total (c.in_ok-row.ensures.total ∙ ap (λ n. old.total + count_of n) c.in-End.is) in
-    so_far_as given new _ c.take.new.self old.total c.take_least.new.total (out ++ shown_of old.held) (out ++ row_of c.in-Some-shown.row ∷ []) c.take.ensures.after total
-    (ap (λ (l : List (List ℕ × ℕ)). out ++ l) (sym (ap one_of c.in-Some-shown.is) ∙ c.shown-in-End.ensures ∙ ap shown_of c.take.ensures.value))
-    (so_far_ends given old.sources.items new out old.held old.total (c.rows.invariant given out merged) c.take_least.ensures.ended c.take_least.ensures.many
-    (λ mores come rows are. subst (λ n. TakesRow mores rows n new) c.in-End.is (c.in_ok-row.ensures.taken mores come rows are)))
+returns-in-Some-shown-clause-follows c given out merged =
+    so_far_ends (c.rows.invariant given out merged) (took_as c.in-End.is c.rows.self.sources.items c.rows.self.total c.take_least.new.sources.items c.take_least.new.total c.take_least.ensures.ended c.take_least.ensures.many c.take_least.ensures.fits c.in_ok-row.ensures.total c.in_ok-row.ensures.taken) (shown_is out (Some c.in-Some-shown.row) _ _ c.in-Some-shown.is (c.shown-in-End.ensures ∙ ap shown_of c.take.ensures.value)) c.take.ensures.after
 
 -- no row is left, and none was held
 pub returns-in-None-clause-follows : goal.returns-in-None-clause-follows
-returns-in-None-clause-follows c = λ given out merged.
-    let old = c.rows.self in
-    let new = c.take_least.new.sources.items in
-    let total : c.take_least.new.total ≡ old.total = and_none old.total c.take_least.new.total (c.in_ok-row.ensures.total ∙ ap (λ n. old.total + count_of n) c.in-End.is) in
-    let same : out ≡ out ++ shown_of old.held =
-    sym (append-nil out) ∙ ap (λ (l : List (List ℕ × ℕ)). out ++ l) (sym (ap one_of c.in-None.is) ∙ c.shown-in-End.ensures ∙ ap shown_of c.take.ensures.value) in (
-      so_far_as given new _ c.take.new.self old.total c.take_least.new.total (out ++ shown_of old.held) out c.take.ensures.after total same
-          (so_far_ends given old.sources.items new out old.held old.total (c.rows.invariant given out merged) c.take_least.ensures.ended c.take_least.ensures.many
-          (λ mores come rows are. subst (λ n. TakesRow mores rows n new) c.in-End.is (c.in_ok-row.ensures.taken mores come rows are))),
-      λ mores inputs come are. (
-        subst (IsMergeOf inputs) (sym same)
-            (so_far_whole given old.sources.items new out old.held old.total (c.rows.invariant given out merged) c.take_least.ensures.ended c.take_least.ensures.many
-            (λ more may rows left. subst (λ n. TakesRow more rows n new) c.in-End.is (c.in_ok-row.ensures.taken more may rows left)) mores inputs come are),
-        total
-            ∙ total_whole given old.sources.items new out old.held old.total (c.rows.invariant given out merged) c.take_least.ensures.ended c.take_least.ensures.many
-            (λ more may rows left. subst (λ n. TakesRow more rows n new) c.in-End.is (c.in_ok-row.ensures.taken more may rows left)) mores inputs come are,
-      ),
-    )
+returns-in-None-clause-follows c given out merged =
+    let so = c.rows.invariant given out merged in
+    let took = took_as c.in-End.is c.rows.self.sources.items c.rows.self.total c.take_least.new.sources.items c.take_least.new.total c.take_least.ensures.ended c.take_least.ensures.many c.take_least.ensures.fits c.in_ok-row.ensures.total c.in_ok-row.ensures.taken in
+    let same = none_is out _ _ c.in-None.is (c.shown-in-End.ensures ∙ ap shown_of c.take.ensures.value) in
+    (so_far_ends so took same c.take.ensures.after, so_far_whole so took same)
 
 pub returns-in-None-clause-runs : goal.returns-in-None-clause-runs
-returns-in-None-clause-runs c = λ ended runs out again merged.
-    let old = c.rows.self in
-    let new = c.take_least.new.sources.items in
-    let given = texts_of runs in
-    let same : out ≡ out ++ shown_of old.held =
-    sym (append-nil out) ∙ ap (λ (l : List (List ℕ × ℕ)). out ++ l) (sym (ap one_of c.in-None.is) ∙ c.shown-in-End.ensures ∙ ap shown_of c.take.ensures.value) in
-    runs_merged runs new out again (λ mores inputs come are. subst (IsMergeOf inputs) (sym same)
-    (so_far_whole given old.sources.items new out old.held old.total (c.rows.invariant given out merged) c.take_least.ensures.ended c.take_least.ensures.many
-    (λ more may rows left. subst (λ n. TakesRow more rows n new) c.in-End.is (c.in_ok-row.ensures.taken more may rows left)) mores inputs come are))
+returns-in-None-clause-runs c ended runs out again merged =
+    runs_merged runs c.take_least.new.sources.items out again (λ mores inputs come are.
+    (so_far_whole (c.rows.invariant (run_texts runs) out merged) (took_as c.in-End.is c.rows.self.sources.items c.rows.self.total c.take_least.new.sources.items c.take_least.new.total c.take_least.ensures.ended c.take_least.ensures.many c.take_least.ensures.fits c.in_ok-row.ensures.total c.in_ok-row.ensures.taken) (none_is out _ _ c.in-None.is (c.shown-in-End.ensures ∙ ap shown_of c.take.ensures.value)) mores inputs come are).0)
