@@ -55,7 +55,7 @@ is s.db 'select batch, sum(change), count(*) from movement where movement not in
 printf 'article,change\nGröße,3\n' > moves.utf8 && printf 'article,number\nGröße,4\n' | iconv -f UTF-8 -t CP1252 > start.csv
 iconv -f UTF-8 -t UTF-16 moves.utf8 > wide.csv
 ends 0 '' enter --quiet --db e.db --from start.csv --start-encoding Windows-1252 --encoding UTF-16 wide.csv
-ends 6 "$p: wide.csv: entered before, as batch 2 (wide.csv); \`enter --again\` enters it again" enter --quiet --db e.db --encoding UTF-16 wide.csv
+ends 6 "$p: wide.csv: entered before, as batch 2 (wide.csv); \`--again\` takes it once more" enter --quiet --db e.db --encoding UTF-16 wide.csv
 ends 0 '' enter --quiet --db e.db moves.utf8
 ends 2 "$p: moves.utf8:1: not UTF-16: no byte order mark; UTF-16LE and UTF-16BE need none" enter --quiet --again --db e.db --encoding UTF-16 moves.utf8
 ends 0 '' balance --db e.db
@@ -82,7 +82,7 @@ ends 0 '' verify --db e.db
 # Once: a file whose bytes were entered before is rejected, under another name too, and nothing else is entered
 cp monday.csv again.csv
 printf 'article,change\nbolt,1\n' > more.csv
-ends 6 "$p: again.csv: entered before, as batch 2 (monday.csv); \`enter --again\` enters it again" enter --quiet --db s.db more.csv again.csv
+ends 6 "$p: again.csv: entered before, as batch 2 (monday.csv); \`--again\` takes it once more" enter --quiet --db s.db more.csv again.csv
 cp more.csv twice.csv
 ends 6 "$p: twice.csv: the same bytes as more.csv" enter --quiet --db s.db more.csv twice.csv
 ends 0 '' balance --db s.db bolt
@@ -173,7 +173,7 @@ ends 0 "$(printf 'sunday.csv: batch 4, 0 movements\nmonday2.csv: batch 5, 0 move
 printf 'article,change\nnut,1\n' > ../line
 input=../line ends 0 '-: batch 6, 1 movement' enter --db said.db
 input=../line ends 0 '-: batch 7, 1 movement' enter --db said.db -
-ends 6 "$p: b.csv: entered before, as batch 2 (b.csv); \`enter --again\` enters it again" enter --db said.db sunday.csv b.csv
+ends 6 "$p: b.csv: entered before, as batch 2 (b.csv); \`--again\` takes it once more" enter --db said.db sunday.csv b.csv
 
 # The last batch is undone, or that of a file; each undo says so
 ends 0 '-: batch 8, 1 movement, the opposites of batch 7' undo --db said.db --last
@@ -227,9 +227,10 @@ ends 0 '-: batch 4, 1 movement' take --db typed.db bolt 2
 ends 0 "$(printf -- '-: batch 5, 1 movement\n%s: typed.db: "screw, "long"" is new' "$p")" put --db typed.db 'screw, "long"' 1
 ends 0 '' balance --db typed.db
 has ../out 'article,number\nbolt,1\n"screw, ""long""",1\n' "the balance after movements that were typed"
-ends 2 "$p: -:2: no number: \`--1\`" take --db typed.db bolt -- -1
-ends 2 "$p: -:2: no number: \`+-1\`" put --db typed.db bolt -- -1
-ends 2 "$p: -:2: whole numbers only: \`+1.5\`" put --db typed.db bolt 1.5
+typed="; decimals are written after the mark of the database, or of \`--mark\`"
+ends 2 "$p: no number: \`-1\`$typed" take --db typed.db bolt -- -1
+ends 2 "$p: no number: \`-1\`$typed" put --db typed.db bolt -- -1
+ends 2 "$p: whole numbers only: \`1.5\`" put --db typed.db bolt 1.5
 is typed.db 'select batch, file, kind, movements, refused from batch order by batch' '1|-|moves|1|0\n2|-|moves|1|0\n3|-|moves|1|1\n4|-|moves|1|0\n5|-|moves|1|0' "the batches of movements that were typed"
 # A misspelt article is new, or isn't there: a near one is named. One of which none is left isn't new
 cp typed.db near.db
@@ -242,6 +243,12 @@ ends 1 "$(printf -- '-:2: refused: out 1 of "bolq", 0 there; is it "bolt"?\n-: b
 ends 1 "$(printf -- '-:2: refused: out 9 of "bolt", 1 there\n-: batch 12, 1 movement, 1 refused')" take --db near.db bolt 9
 ends 1 '-:2: refused: out 1 of "washer", 0 there' take --quiet --db near.db washer 1
 ends 0 '' verify --db near.db
+# of several near ones the nearest is named, and not the first
+printf 'article,change\nKabel 00,1\nKabel 08,1\nKabel 80,1\n' > cables.csv && ends 0 'cables.csv: batch 1, 3 movements' enter --db cables.db cables.csv
+ends 0 "$p: cables.db: no movement of \"Kable 08\"; is it \"Kabel 08\"?" history --db cables.db 'Kable 08'
+ends 1 "$(printf -- '-:2: refused: out 1 of "kabel 08", 0 there; is it "Kabel 08"?\n-: batch 2, 1 movement, 1 refused')" take --db cables.db 'kabel 08' 1
+# a NUL byte is never silent
+printf 'article,change\nbo\0lt,1\n' > nul.csv && ends 2 "$p: nul.csv:2: a NUL byte; if it is UTF-16, \`--encoding UTF-16LE\` reads it" enter --db cables.db nul.csv
 printf 'article,change\nsalt,1.25\n' > salt.csv
 ends 0 '' enter --quiet --db salt.db --scale 2 salt.csv
 ends 0 '' put --quiet --db salt.db --mark , salt 0,5
@@ -420,6 +427,10 @@ said='has a stock already, so it takes no other at the beginning'
 ends 2 "$p: next.db: $said" close --db s.db --into next.db
 ends 2 "$p: s.db: $said" enter --quiet --db s.db --from stock.csv
 
+# If the file of refusals can't be written, it is known that all was entered
+cp typed.db full.db && printf 'article,change\nbolt,-9\n' > full.csv
+ends 4 "$(printf 'full.csv: batch 6, 1 movement, 1 refused\n%s: /dev/full: No space left on device (os error 28)' "$p")" enter --db full.db --refused /dev/full full.csv
+
 # A stock that is counted: the differences are entered and written. An article that two lines name has their sum; one that isn't named stays
 printf 'article,change\nbolt,10\nnut,40\nwasher,3\n' > count1.csv
 ends 0 '' enter --quiet --db count.db count1.csv
@@ -432,6 +443,10 @@ is count.db 'select line, article, change from movement where batch = 2 order by
 is count.db 'select kind, file, undoes, movements, refused from batch where batch = 2' 'count|counted.csv||3|0' "the batch of a count"
 is count.db 'select sha256 from batch where batch = 2' "$(sha256sum < counted.csv | cut -d ' ' -f 1)" "the sum of a counted file"
 ends 0 '' verify --db count.db
+# a counted article that is new is named if it is near to another one, unless more than ten are new
+cp count.db spelt.db && printf 'article,number\nbotl,4\nx,1\n' > spelt.csv
+ends 0 "$(printf 'spelt.csv: batch 3, 2 movements\n%s: spelt.db: "botl" is new; is it "bolt"?' "$p")" count --db spelt.db spelt.csv
+{ echo article,number && for i in 1 2 3 4 5 6 7 8 9 10 11; do echo "nuts$i,1"; done; } > spelt.csv && ends 0 'spelt.csv: batch 4, 11 movements' count --db spelt.db spelt.csv
 ends 0 '' show --db count.db counted.csv
 has ../out 'line,date,article,change,outcome,number,note\n2,,bolt,-3,entered,7,\n3,,screw,2,entered,2,\n4,,nut,0,entered,40,\n' "the movements of a count, shown"
 ends 0 '' history --db count.db bolt
@@ -439,8 +454,8 @@ cut -d , -f 1-3,6-8 ../out > ../plain
 has ../plain 'batch,file,line,change,outcome,number\n1,count1.csv,2,10,entered,10\n2,counted.csv,2,-3,entered,7\n' "the history of a counted article"
 ends 0 '' batches --db count.db
 [ "$(cut -d , -f 1,2,4 ../out | tail -n 1)" = 2,counted.csv,count ] || fail "a count among the batches"
-ends 6 "$p: counted.csv: entered before, as batch 2 (counted.csv); \`enter --again\` enters it again" count --db count.db counted.csv
-ends 6 "$p: counted.csv: entered before, as batch 2 (counted.csv); \`enter --again\` enters it again" enter --db count.db counted.csv
+ends 6 "$p: counted.csv: counted before, as batch 2 (counted.csv); \`--again\` takes it once more" count --db count.db counted.csv
+ends 6 "$p: counted.csv: counted before, as batch 2 (counted.csv); \`--again\` takes it once more" enter --db count.db counted.csv
 ends 0 'counted.csv: batch 3, 3 movements' count --db count.db --again -o again.txt counted.csv
 has again.txt 'article,there,counted,change\nbolt,7,7,0\nscrew,2,2,0\nnut,40,40,0\n' "the differences of a second count in a file"
 ends 0 '' undo --quiet --db count.db --last
@@ -490,8 +505,9 @@ ends 2 "$p: empty.db: no stock in it yet" balance --db empty.db
 ends 0 '' enter --quiet --db empty.db more.csv
 ends 0 '' verify --db empty.db
 mkdir folder.db
-ends 4 "$p: folder.db: unable to open database file" balance --db folder.db
-ends 4 "$p: no/s.db: unable to open database file" enter --quiet --db no/s.db more.csv
+opened="; the file and its folder must be there, and writable, also to be read"
+ends 4 "$p: folder.db: unable to open database file$opened" balance --db folder.db
+ends 4 "$p: no/s.db: unable to open database file$opened" enter --quiet --db no/s.db more.csv
 sql other.db 'create table t (a)'
 sum=$(sha256sum < other.db)
 ends 2 "$p: other.db: a database of another program" enter --quiet --db other.db more.csv
@@ -613,12 +629,12 @@ chmod 755 .. .
 cp v.db read.db
 chmod 444 read.db
 if [ "$(id -u)" != 0 ]; then
-  ends 4 "$p: read.db: unable to open database file" balance --db read.db
+  ends 4 "$p: read.db: unable to open database file$opened" balance --db read.db
 elif command -v setpriv > /dev/null; then
   cp "$program" ../ledger && chmod 755 ../ledger
   setpriv --reuid 65534 --regid 65534 --clear-groups ../ledger balance --db read.db > ../out 2> ../err
   [ $? = 4 ] || fail "a file that may only be read"
-  has ../err "$p: read.db: unable to open database file\n" "the message on a file that may only be read"
+  has ../err "$p: read.db: unable to open database file$opened\n" "the message on a file that may only be read"
 fi
 
 # Two processes at once: both files are entered
@@ -671,5 +687,8 @@ for job in enter take put count balance history batches show undo verify close; 
 done
 ends 0 "" --help
 grep -q 'enter --db' ../out || fail "no subcommand in the help"
+for heading in 'Files and columns:' 'Numbers and fields:' Output:; do grep -qx "$heading" ../out || fail "no heading $heading in the help"; done
+ends 0 "" enter --help
+for heading in 'Files and columns:' 'Numbers and fields:' 'What is entered:'; do grep -qx "$heading" ../out || fail "no heading $heading in the help of enter"; done
 
 echo "stock: ok"

@@ -1,4 +1,4 @@
-//! Enters movements into a stock, reports those that ask for more than is there, and writes the balance.
+//! Enters movements into a stock, reports the movements that ask for more than is there, and writes the balance.
 #![tactic(auto)]
 
 mod outputs;
@@ -9,7 +9,7 @@ use hashbag_ledger_args::arguments::{Settings, parse};
 use hashbag_ledger_args::command::PROGRAM;
 use hashbag_ledger_args::jobs::has_job;
 use hashbag_ledger_db::troubles;
-use hashbag_ledger_db::unkept::{Report, enter_unkept};
+use hashbag_ledger_db::unkept::{UnkeptReport, enter_unkept};
 use hashbag_shell::inputs::HostInputs;
 use hashbag_shell::program::program;
 use hashbag_shell::trouble::Trouble;
@@ -17,7 +17,7 @@ use std::hash::RandomState;
 use std::process::ExitCode;
 
 // Enters the files, and returns what is to be written.
-fn report_of<'a>(rt: &HostRuntime, settings: &Settings<'a>) -> Result<Report, Trouble<'a>> {
+fn report_of<'a>(rt: &HostRuntime, settings: &Settings<'a>) -> Result<UnkeptReport, Trouble<'a>> {
     // The keys are random, so nobody can choose articles whose hashes collide.
     let state = match RandomState::new(rt) {
         Ok(state) => state,

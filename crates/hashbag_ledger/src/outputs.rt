@@ -1,6 +1,6 @@
 //! The outputs: the refusals and the balance.
 use hashbag_ledger_args::arguments::Settings;
-use hashbag_ledger_db::unkept::Report;
+use hashbag_ledger_db::unkept::UnkeptReport;
 use hashbag_shell::one_file::is_one_file;
 use hashbag_shell::output::{Output, write_text};
 use hashbag_shell::trouble::Trouble;
@@ -12,7 +12,7 @@ pub struct Outputs<'a> {
     balance: Output<'a>,
 }
 
-/// Returns whether two names are of one file. If there is no file of a name, the names are compared.
+/// Returns whether two names are of one file. Equal names always are, even if there is no such file.
 pub fn is_same(rt: &HostRuntime, first: &str, second: &str) -> bool {
     first == second || is_one_file(rt, first, second)
 }
@@ -68,7 +68,7 @@ impl<'a> Outputs<'a> {
     /// # Errors
     ///
     /// `File` names the output that can't be written, `Memory` if an allocation fails. A file that can't be written is unchanged.
-    pub fn write(self, rt: &HostRuntime, report: &Report) -> Result<(), Trouble<'a>> {
+    pub fn write(self, rt: &HostRuntime, report: &UnkeptReport) -> Result<(), Trouble<'a>> {
         let Outputs { refusals, balance } = self;
         let written = write_refusals(rt, refusals, report.refusals.as_slice());
         match (written, &report.balance) {

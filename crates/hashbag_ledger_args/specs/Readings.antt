@@ -1,4 +1,4 @@
--- How the files of a job are read: as its options say, else as the stock keeps it.
+-- How the files of a job are read: as its options say, and where they say nothing, as the stock says.
 use Rattle.std.specs.Prelude.{◌≡◌, ℕ, Bool, ◌-◌, ◌^◌, nat_le, if◌then◌else◌, List, Option, None, Some, String, string_bytes, codes, option_map, unwrap_or}
 use Rattle.std.specs.Borrow.{Bor}
 use Rattle.std.specs.Global.{Global}
@@ -19,8 +19,8 @@ use Rattle.hashbag_ledger_lib.specs.declared.reading.Columns.{Columns}
 use Rattle.hashbag_ledger_lib.specs.declared.style.Style.{Style}
 use Rattle.hashbag_text.specs.declared.encoding.Encoding.{Encoding}
 
--- how files are written: with the mark and the delimiter of the job's options, else with those of `kept`. With `--mark ,` alone and `.` and
--- `;` kept: `,` and `;`
+-- how files are written: with the mark and the delimiter of the job's options, else with those of `kept`. If `kept` has the mark `.` and the
+-- delimiter `;`, and the job only `--mark ,`, then the mark is `,` and the delimiter `;`
 abbrev pub style_by : Job → Style → Style
 style_by job kept = record { scale = kept.scale; mark = unwrap_or job.mark kept.mark; delimiter = unwrap_or job.delimiter kept.delimiter }
 
@@ -69,15 +69,15 @@ encoding_of job is_start = if is_start then job.start_encoding else job.encoding
 abbrev pub extras_now : ExtraColumns (Bor (List ℕ)) → ExtraColumns (List ℕ)
 extras_now names = columns_of (λ n. n.now) names
 
--- those that a stock keeps
+-- the names of the columns of dates and of notes that a stock keeps
 abbrev pub kept_extras : KeptExtras → ExtraColumns (List ℕ)
 kept_extras kept = record { date = option_map string_bytes kept.date; note = option_map string_bytes kept.note }
 
--- those of a stock that keeps none
+-- the names of the columns of dates and of notes of a stock that keeps no such names
 abbrev pub no_extras : ExtraColumns (List ℕ)
 no_extras = record { date = None; note = None }
 
--- a column: as the job says, which may also say that there is none, else as it is kept
+-- the name of a column, if there is such a column: what the job says, else `kept`. `Some None` of the job says that there is none
 abbrev pub extra_by : Option (Option (Bor (List ℕ))) → Option (List ℕ) → Option (List ℕ)
 extra_by None kept = kept
 extra_by (Some given) kept = option_map (λ n. n.now) given

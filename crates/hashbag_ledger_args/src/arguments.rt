@@ -17,9 +17,9 @@ use std::alloc::{AllocError, Global};
 pub struct Settings<'a> {
     /// The file of the stock at the beginning, if there is one.
     pub start: Option<&'a str>,
-    /// The columns of articles and of numbers of that stock.
+    /// The columns of articles and of numbers of the stock at the beginning.
     pub start_columns: (&'a str, &'a str),
-    /// The encoding of that file, `None` for UTF-8.
+    /// The encoding of the file of the stock at the beginning, `None` for UTF-8.
     pub start_encoding: Option<Encoding>,
     /// The files of movements.
     pub files: Vec<&'a str>,

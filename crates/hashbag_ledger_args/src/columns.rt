@@ -33,7 +33,7 @@ fn split_pair(names: &str) -> Option<(&str, &str)> {
     Some((first, second))
 }
 
-/// Returns the columns of movements that these names are.
+/// Returns the columns of movements with these names.
 ///
 /// # Errors
 ///
@@ -76,7 +76,7 @@ impl KeptColumns {
     ///
     /// An allocation fails.
     pub fn copy_of(alloc: Global, columns: Columns<&str>) -> Result<KeptColumns, AllocError>
-        // Each name is the same, at its place. `n.now` is the text of a lent name.
+        // Each copied name equals the name that was given for the same column.
         ensures { IfOk result (λ kept. kept_names kept ≡ names_now columns.entry) }
     {
         let article = String::from_str(alloc, columns.article)?;
@@ -121,7 +121,7 @@ impl KeptColumns {
     }
 }
 
-/// Returns no columns of dates and of notes.
+/// Returns the columns of dates and of notes in a stock that keeps none: both are `None`.
 pub fn plain_extras() -> ExtraColumns<&'static str>
     ensures { extras_now result ≡ no_extras }
 {
@@ -173,7 +173,7 @@ pub fn columns_text(alloc: Global, columns: Columns<&str>) -> Result<String, All
     }
 }
 
-/// Returns the columns of the stock at the beginning: the column of articles, and that of numbers.
+/// Returns the columns of the stock at the beginning: the column of articles, and the column of numbers.
 ///
 /// # Errors
 ///

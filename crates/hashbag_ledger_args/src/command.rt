@@ -2,7 +2,7 @@
 use clap::{Arg, ArgAction, Command};
 use hashbag_shell::VERSION;
 use hashbag_shell::options::{
-    CommandResult, encoding_arg, with, with_output, with_progress, with_reading,
+    CommandResult, encoding_arg, with, with_heading, with_output, with_progress, with_reading,
 };
 use std::alloc::Global;
 
@@ -30,12 +30,17 @@ history, batches, show, undo, verify or close, it is a subcommand on the databas
 Status: 0 all entered, 1 some refused, 2 bad arguments or a bad line (FILE:LINE is named), 3 no memory, 4 a file can't be opened, or
 a read or a write failed, 5 a total of more than 2^64-1. With 2 to 5 the file of -o is unchanged.";
 
-// Adds the inputs.
-fn with_inputs<'a>(alloc: Global, command: CommandResult<'a>) -> CommandResult<'a> {
+// Adds the files of movements.
+fn with_moves<'a>(alloc: Global, command: CommandResult<'a>) -> CommandResult<'a> {
     let moves = Arg::new(alloc, "MOVES.csv")
         .num_args(0..)
         .action(ArgAction::Append)
         .help("Movements, in the order of the files and of their lines");
+    with(command, moves)
+}
+
+// Adds the stock at the beginning, its columns, and the columns of movements.
+fn with_columns<'a>(alloc: Global, command: CommandResult<'a>) -> CommandResult<'a> {
     let start = Arg::new(alloc, "start")
         .long("start")
         .value_name("STOCK.csv")
@@ -51,8 +56,7 @@ fn with_inputs<'a>(alloc: Global, command: CommandResult<'a>) -> CommandResult<'
         .value_name("NAMES")
         .default_value(COLUMNS)
         .help("The columns of movements: article,change or article,kind,number");
-    let command = with(with(command, start), start_columns);
-    with(with(command, columns), moves)
+    with(with(with(command, start), start_columns), columns)
 }
 
 /// Adds the encodings of movements and of the stock at the beginning.
@@ -90,6 +94,9 @@ pub fn command<'a>(alloc: Global) -> CommandResult<'a> {
         .version(VERSION)
         .about(ABOUT)
         .after_help(AFTER);
-    let command = with_reading(alloc, with_inputs(alloc, Ok(command)));
-    with_outputs(alloc, with_encodings(alloc, command))
+    let command = with_moves(alloc, Ok(command));
+    let command = with_columns(alloc, with_heading(command, "Files and columns"));
+    let command = with_reading(alloc, with_heading(command, "Numbers and fields"));
+    let command = with_encodings(alloc, command);
+    with_outputs(alloc, with_heading(command, "Output"))
 }

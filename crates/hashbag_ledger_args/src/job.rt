@@ -31,9 +31,9 @@ pub struct Job<'a> {
     pub files: Vec<&'a str>,
     /// The file of the stock at the beginning.
     pub from: Option<&'a str>,
-    /// The columns of articles and of numbers of that stock, or of what was counted.
+    /// The columns of articles and of numbers of the stock at the beginning, or of what was counted.
     pub start_columns: (&'a str, &'a str),
-    /// The encoding of the file of that stock, `None` for UTF-8.
+    /// The encoding of the file of the stock at the beginning, `None` for UTF-8.
     pub start_encoding: Option<Encoding>,
     /// The encoding of movements, or of what was counted, `None` for UTF-8.
     pub encoding: Option<Encoding>,
@@ -56,19 +56,19 @@ pub struct Job<'a> {
     /// Whether nothing is entered if there is a refusal.
     pub strict: bool,
     /// Whether a file that was entered before is entered again.
-    pub again: bool,
+    pub enters_again: bool,
     /// How a balance is written.
     pub form: Form,
     /// The file of what was counted.
     pub counted: &'a str,
-    /// Whether an article that the file of what was counted doesn't name was counted as 0.
-    pub all: bool,
+    /// Whether an article is counted as 0 if the file of what was counted doesn't name it.
+    pub counts_all: bool,
     /// The articles that are asked for.
     pub articles: Vec<&'a str>,
-    /// The number of the movement that is typed.
-    pub number: &'a str,
+    /// The quantity of the movement that is typed, as it was typed.
+    pub quantity: &'a str,
     /// The number of the batch that is asked for, or the name of its file.
-    pub batch: Option<&'a str>,
+    pub wanted_batch: Option<&'a str>,
     /// Whether the last batch is asked for.
     pub last: bool,
     /// Whether no message says what was done.
@@ -118,7 +118,8 @@ fn delimiter_of(given: &ArgMatches<'_>) -> Option<Delimiter> {
     }
 }
 
-// Returns the column that the option of this name names, if it is given. An empty name is no column.
+// Returns what an option says of a column: `None` if the option isn't given, `Some(None)` (no column) if its word is empty, else the name of the
+// column.
 fn extra_of<'a>(given: &ArgMatches<'a>, option: &str) -> Option<Option<&'a str>> {
     match given.get_str(option) {
         Some("") => Some(None),
@@ -168,13 +169,13 @@ impl<'a> Job<'a> {
             refused: given.get_str("refused"),
             output: given.get_str("output"),
             strict: given.get_flag("strict"),
-            again: given.get_flag("again"),
+            enters_again: given.get_flag("again"),
             form: Form::named(word(given, "to", "csv")),
             counted: given.get_str("COUNTED.csv").unwrap_or("-"),
-            all: given.get_flag("all"),
+            counts_all: given.get_flag("all"),
             articles: words_of(alloc, given, "ARTICLE")?,
-            number: given.get_str("NUMBER").unwrap_or(""),
-            batch: given.get_str("BATCH"),
+            quantity: given.get_str("NUMBER").unwrap_or(""),
+            wanted_batch: given.get_str("BATCH"),
             last: given.get_flag("last"),
             quiet: given.get_flag("quiet"),
             reports: reports(given),
@@ -211,7 +212,7 @@ impl<'a> Job<'a> {
         Style::plain(self.scale.unwrap_or(0))
     }
 
-    /// Returns how files are written: by the mark and the delimiter that are named, else by those of `kept`.
+    /// Returns how files are written: by the named mark, else the mark of `kept`; and by the named delimiter, else the delimiter of `kept`.
     pub fn style(&self, kept: Style) -> Style
         ensures { result ≡ style_by self.now kept }
     {
@@ -235,7 +236,7 @@ impl<'a> Job<'a> {
         }
     }
 
-    /// Returns the names of the columns of movements: those that the job has, else `kept`.
+    /// Returns the names of the columns of movements: the names that the job has, else `kept`.
     pub fn columns_or<'k>(&'k self, kept: Columns<&'k str>) -> Columns<&'k str>
         ensures { names_now result ≡ names_by self.entry.now (names_now kept.entry) }
     {
@@ -245,8 +246,8 @@ impl<'a> Job<'a> {
         }
     }
 
-    /// Returns the names of the columns of dates and of notes: those that the job has, else those of `kept`. The job may say that there is
-    /// none.
+    /// Returns the names of the columns of dates and of notes: for each column the name that the job has, else the name in `kept`. The job may
+    /// say that there is no such column.
     pub fn extras_or<'k>(&'k self, kept: ExtraColumns<&'k str>) -> ExtraColumns<&'k str>
         ensures { extras_now result ≡ extras_by self.entry.now (extras_now kept.entry) }
     {

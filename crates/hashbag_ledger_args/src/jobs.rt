@@ -3,14 +3,14 @@ use crate::command::{PROGRAM, START_COLUMNS, with_encodings};
 use clap::{Arg, ArgAction, Command, value_parser};
 use hashbag_shell::VERSION;
 use hashbag_shell::options::{
-    self, CommandResult, DELIMITERS, MARKS, SCALES, encoding_arg, with, with_progress,
+    self, CommandResult, DELIMITERS, MARKS, SCALES, encoding_arg, with, with_heading, with_progress,
 };
 use std::alloc::Global;
 
 const ABOUT: &str = "Keeps a stock in a database.";
 
 // The help of `--quiet`, if the subcommand says nothing of what it did.
-const QUIET: &str = "Doesn't say how far it is";
+const QUIET: &str = "Reports no progress";
 
 // The forms of a balance.
 static FORMS: [&str; 3] = ["csv", "table", "json"];
@@ -141,7 +141,7 @@ fn with_columns<'a>(alloc: Global, command: CommandResult<'a>) -> CommandResult<
     with(command, columns)
 }
 
-// Adds the files of movements, and their columns.
+// Adds the files of movements.
 fn with_moves<'a>(alloc: Global, command: CommandResult<'a>) -> CommandResult<'a> {
     let moves = Arg::new(alloc, "MOVES.csv")
         .num_args(0..)
@@ -149,7 +149,7 @@ fn with_moves<'a>(alloc: Global, command: CommandResult<'a>) -> CommandResult<'a
         .help(
             "Movements, each file a batch; `-` is standard input, which is read if neither a file nor --from is named",
         );
-    with(with_columns(alloc, command), moves)
+    with(command, moves)
 }
 
 // Adds the columns of dates and of notes.
@@ -163,19 +163,24 @@ fn with_extras<'a>(alloc: Global, command: CommandResult<'a>) -> CommandResult<'
     with(with(command, date), note)
 }
 
-// Adds how many decimals numbers have, and the file to which refusals are written.
-fn with_rules<'a>(alloc: Global, command: CommandResult<'a>) -> CommandResult<'a> {
+// Adds how many decimals numbers have.
+fn with_scale<'a>(alloc: Global, command: CommandResult<'a>) -> CommandResult<'a> {
     let scale = Arg::new(alloc, "scale")
         .short('s')
         .long("scale")
         .value_name("D")
         .value_parser(SCALES.as_slice())
         .help("How many decimals numbers may have; a new database keeps it, 0 by default");
+    with(command, scale)
+}
+
+// Adds the file to which refusals are written.
+fn with_refused<'a>(alloc: Global, command: CommandResult<'a>) -> CommandResult<'a> {
     let refused = Arg::new(alloc, "refused")
         .long("refused")
         .value_name("FILE")
         .help("Where refusals are written as CSV, in place of standard error");
-    with(with(command, scale), refused)
+    with(command, refused)
 }
 
 // Adds `--again`.
@@ -201,11 +206,14 @@ fn enter<'a>(alloc: Global) -> CommandResult<'a> {
         alloc,
         "enter",
         "Enters files of movements, each whole or not at all",
-        "Doesn't say which batches were entered, nor how far it is",
+        "Doesn't say which batches were entered, and reports no progress",
     );
-    let command = with_extras(alloc, with_moves(alloc, with_start(alloc, command)));
-    let command = with_encodings(alloc, with_form(alloc, command));
-    with_flags(alloc, with_rules(alloc, command))
+    let command = with_heading(with_moves(alloc, command), "Files and columns");
+    let command = with_columns(alloc, with_start(alloc, command));
+    let command = with_heading(with_extras(alloc, command), "Numbers and fields");
+    let command = with_encodings(alloc, with_scale(alloc, with_form(alloc, command)));
+    let command = with_refused(alloc, with_heading(command, "What is entered"));
+    with_flags(alloc, command)
 }
 
 // Returns a subcommand that enters one movement.
@@ -218,7 +226,8 @@ fn typed<'a>(alloc: Global, name: &'a str, about: &'a str) -> CommandResult<'a> 
         .required(true)
         .action(ArgAction::Set)
         .help("How many, without a sign, with as many decimals as the database has");
-    let help = "Doesn't say which batch was entered, whether the article is new, nor how far it is";
+    let help =
+        "Doesn't say which batch was entered, nor whether the article is new, and reports no progress";
     let command = with(with(job(alloc, name, about, help), article), number);
     with_mark(alloc, command)
 }
@@ -230,12 +239,12 @@ fn count<'a>(alloc: Global) -> CommandResult<'a> {
     let all = Arg::new(alloc, "all")
         .long("all")
         .action(ArgAction::SetTrue)
-        .help("Each article that isn't named counts as counted, with 0");
+        .help("Counts each article that isn't named as 0");
     let command = job(
         alloc,
         "count",
         "Enters and writes the differences between the stock and what was counted",
-        "Doesn't say which batch was entered, nor how far it is",
+        "Doesn't say which batch was entered, and reports no progress",
     );
     let command = with(with(command, counted), all);
     let command = with_start_columns(
@@ -252,9 +261,7 @@ fn balance<'a>(alloc: Global) -> CommandResult<'a> {
     let articles = Arg::new(alloc, "ARTICLE")
         .num_args(0..)
         .action(ArgAction::Append)
-        .help(
-            "Articles to be written, each with 0 if there are none; all that there are by default",
-        );
+        .help("The articles to write, an absent one with 0; by default all that there are");
     let form = Arg::new(alloc, "to")
         .long("to")
         .value_name("FORM")
@@ -262,9 +269,9 @@ fn balance<'a>(alloc: Global) -> CommandResult<'a> {
         .default_value("csv")
         .help("What is written; numbers with decimals are texts in JSON");
     let at = Arg::new(alloc, "at").long("at").value_name("DATE").help(
-        "The sum of what was entered with a date up to that day; without a date, the day of its entry counts, in UTC",
+        "The sum of what was entered with this date or an earlier one; a movement without a date has the day of its entry, in UTC",
     );
-    let help = "Doesn't say which of the articles aren't there, nor how far it is";
+    let help = "Doesn't say which of the articles aren't there, and reports no progress";
     let command = job(alloc, "balance", "Writes the balance", help);
     with_output(alloc, with(with(with(command, articles), form), at))
 }
@@ -278,7 +285,7 @@ fn history<'a>(alloc: Global) -> CommandResult<'a> {
         alloc,
         "history",
         "Writes the movements of an article, with the balance after each",
-        "Doesn't say that the article has no movement, nor how far it is",
+        "Doesn't say that the article has no movement, and reports no progress",
     );
     with_output(alloc, with(command, article))
 }
@@ -287,7 +294,7 @@ fn show<'a>(alloc: Global) -> CommandResult<'a> {
     let batch = Arg::new(alloc, "BATCH")
         .required(true)
         .action(ArgAction::Set)
-        .help("The number of the batch, or the name of its file, as of `undo`");
+        .help("The number of the batch, or the name of its file, as for `undo`");
     let command = job(
         alloc,
         "show",
@@ -309,7 +316,7 @@ fn undo<'a>(alloc: Global) -> CommandResult<'a> {
         alloc,
         "undo",
         "Enters the opposite movements of a batch, all or none",
-        "Doesn't say which batch was entered, nor how far it is",
+        "Doesn't say which batch was entered, and reports no progress",
     );
     with(with(command, batch), last)
 }

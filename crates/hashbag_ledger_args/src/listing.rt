@@ -15,8 +15,8 @@ fn asks_help(words: &[String]) -> bool {
         .any(|word| matches!(word.as_str(), "-h" | "--help"))
 }
 
-/// Returns a command that lists each subcommand with a line, if the words ask for the help. For other words returns `command`, since with
-/// subcommands it would read a file of such a name as a subcommand.
+/// Returns a command that lists each subcommand with a line, if the words ask for the help. For other words returns `command`:
+/// else a file named `count`, say, would be read as the subcommand.
 pub fn with_listed<'a>(
     alloc: Global,
     command: CommandResult<'a>,

@@ -3,14 +3,14 @@ use Rattle.std.proofs.Common.{◌≡◌, ℕ, ◌+◌, ◌<◌, Bor, List, [], �
 use Rattle.std.proofs.lemmas.List.{append-nil, length-take-le, take_more}
 use Rattle.std.specs.String.{string_eq}
 use Rattle.hashbag_ledger_args.specs.declared.arguments.Settings.{Settings}
-use Rattle.hashbag_ledger_db.specs.Unkept.{AreMovementsFrom, AreMovementsIn, Comes, EntersFileOf, EntersFiles}
+use Rattle.hashbag_ledger_db.specs.Unkept.{AreMovementsFrom, AreMovementsIn, EntersAll, EntersFileOf, EntersFiles}
 use Rattle.hashbag_ledger_lib.specs.Settled.{IsLedgerOf}
 use Rattle.hashbag_ledger_lib.specs.declared.ledger.Ledger.{Ledger}
 use Rattle.hashbag_ledger_lib.specs.declared.movements.Movement.{Movement}
 
 -- ---- movements that come to a ledger
 
-both_come : {S H : Type 0} (old then new : Ledger (String Global) S H) (ms more : List (Movement (String Global))) → Comes ms old then → Comes more then new → Comes (ms ++ more) old new
+both_come : {S H : Type 0} (old then new : Ledger (String Global) S H) (ms more : List (Movement (String Global))) → EntersAll ms old then → EntersAll more then new → EntersAll (ms ++ more) old new
 both_come old then new ms more first second L before is =
     subst (λ (l : List (Movement (String Global))). IsLedgerOf string_eq L l new.refusals.items new.stock) (append_assoc before ms more) (second L (before ++ ms) (first L before is))
 

@@ -5,24 +5,32 @@ use Rattle.hashbag_csv.specs.declared.counts.Reading.{Reading}
 use Rattle.hashbag_ledger_args.specs.Readings.{IsReadingOf}
 use Rattle.hashbag_ledger_args.specs.declared.job.Job.{Job}
 use Rattle.hashbag_ledger_db.specs.Filed.{plain_content, start_names}
+use Rattle.hashbag_ledger_db.specs.declared.counting.Counted.{Counted}
+use Rattle.hashbag_ledger_db.specs.declared.movements.Input.{Input}
 use Rattle.hashbag_ledger_lib.specs.Counts.{none_counted, IsCounted}
-use Rattle.hashbag_ledger_lib.specs.Movements.{movements_in, content_of}
+use Rattle.hashbag_ledger_lib.specs.Movements.{contents_of, movements_in}
 use Rattle.hashbag_ledger_lib.specs.declared.filing.Filed.{Filed}
 use Rattle.hashbag_ledger_lib.specs.declared.movements.Change.{Change}
 use Rattle.hashbag_ledger_lib.specs.declared.movements.Movement.{Movement}
 use Rattle.hashbag_ledger_lib.specs.declared.style.Style.{Style}
+use Rattle.hashbag_stock.specs.declared.tables.Shape.{Shape}
 use Rattle.hashbag_text.specs.Encodings.{text_in}
 
--- what was counted: the records of the text and, with `--all`, none of each article of the balance
+-- what was counted: the records of the text and, with `--all`, a record with 0 for each article of the balance
 abbrev pub counted_by : Job → Reading → List (String Global × ℕ) → List ℕ → List (List ℕ × Change)
-counted_by job reading kept text = map plain_content (movements_in reading (start_names job) text) ++ (if job.all then map none_counted kept else [])
+counted_by job reading kept text = map plain_content (movements_in reading (start_names job) text) ++ (if job.counts_all then map none_counted kept else [])
 
--- the balance was counted: the text is read by the options of the job, and else as the stock keeps it
+-- these movements are the records of a count, which this input has
+abbrev pub AreRecordsOf : Job → Reading → List (String Global × ℕ) → Input → List (Movement (String Global)) → Type 0
+AreRecordsOf job reading kept input records = contents_of records ≡ counted_by job reading kept input.text.items
+
+-- the balance was counted: the text was read as the job says, and where it says nothing, as the stock says; `style` is how the files of the stock are
+-- written
 pub record IsCountedAs (job : Job) (style : Style) (kept : List (String Global × ℕ)) (text : List ℕ) (filed : Filed) : Type 0 where
   pub reading : Reading
   pub is : IsReadingOf job style reading
   pub records : List (Movement (String Global))
-  pub read : map content_of records ≡ counted_by job reading kept text
+  pub read : contents_of records ≡ counted_by job reading kept text
   pub counted : IsCounted kept records filed
 
 -- the balance was counted: these bytes are the text of what was counted, in the encoding of the job
@@ -30,3 +38,7 @@ pub record IsCountedIn (job : Job) (style : Style) (kept : List (String Global �
   pub text : List ℕ
   pub decoded : text_in job.encoding bytes ≡ Some text
   pub all : IsCountedAs job style kept text filed
+
+-- a count did this to a stock of this shape: these bytes are the text of what was counted, in the encoding of the job
+abbrev pub IsCountOf : Job → Shape → List ℕ → Counted → Type 0
+IsCountOf job shape bytes counted = IsCountedIn job shape.style counted.kept.items bytes counted.filed

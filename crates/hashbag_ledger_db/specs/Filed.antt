@@ -1,16 +1,19 @@
 -- What the inputs of a call do to the balance that is kept.
-use Rattle.std.specs.Prelude.{◌≡◌, ℕ, ◌^◌, ◌-◌, nat_lt, if◌then◌else◌, Bool, List, [], length, map, vec_len, String, string_cmp, Option, IfSome, IsSomeAnd}
+use Rattle.std.specs.Prelude.{◌≡◌, ℕ, ◌^◌, ◌-◌, nat_lt, if◌then◌else◌, Bool, List, [], length, map, vec_len, String, string_cmp, Option, IfSome, IsSomeAnd, Result, IfOk}
+use Rattle.std.specs.Borrow.{Bor}
 use Rattle.std.specs.Global.{Global, Vec}
 use Rattle.std.specs.String.{string_eq}
 use Rattle.hashbag_csv.specs.declared.counts.Reading.{Reading}
 use Rattle.hashbag_ledger_args.specs.Readings.{IsReadingOf, asked_style, kept_names, names_by, plain_names}
 use Rattle.hashbag_ledger_args.specs.declared.job.Job.{Job}
+use Rattle.hashbag_ledger_db.specs.declared.before.Before.{Before}
 use Rattle.hashbag_ledger_db.specs.declared.entering.Ready.{Ready}
+use Rattle.hashbag_ledger_db.specs.declared.entering.EnterReport.{EnterReport}
 use Rattle.hashbag_ledger_db.specs.declared.movements.Input.{Input}
 use Rattle.hashbag_ledger_lib.specs.Batches.{all_of}
 use Rattle.hashbag_ledger_lib.specs.Changes.{AreChanges, Rises}
 use Rattle.hashbag_ledger_lib.specs.Entries.{IsBooked, refusals_in}
-use Rattle.hashbag_ledger_lib.specs.Movements.{movements_in, content_of}
+use Rattle.hashbag_ledger_lib.specs.Movements.{content_of, contents_of, movements_in, names_now}
 use Rattle.hashbag_ledger_lib.specs.Numbers.{plain}
 use Rattle.hashbag_ledger_lib.specs.declared.filing.Filed.{Filed}
 use Rattle.hashbag_ledger_lib.specs.declared.movements.Change.{Change}
@@ -30,11 +33,11 @@ plain_movement m = record { place = m.place; article = m.article; change = plain
 abbrev pub plain_content : List ℕ × Change → List ℕ × Change
 plain_content m = (m.0, plain m.1)
 
--- the names of the columns of the stock at the beginning, and of what was counted
+-- the names of the columns of the opening stock; a file of counted stock has the same
 abbrev pub start_names : Job → Columns (List ℕ)
 start_names job = record { article = job.start_columns.0.now; change = Signed job.start_columns.1.now }
 
--- the names of the columns of an input, if those of movements are these; the stock at the beginning has its own
+-- the names of the columns of an input: `names` for movements; the opening stock has its own
 abbrev pub names_of : Job → Columns (List ℕ) → Input → Columns (List ℕ)
 names_of job names input = if input.is_start then start_names job else names
 
@@ -42,11 +45,20 @@ names_of job names input = if input.is_start then start_names job else names
 abbrev pub input_rows : Job → Reading → Columns (List ℕ) → Input → List (List ℕ × Change)
 input_rows job reading names input = map plain_content (movements_in reading (names_of job names input) input.text.items)
 
+-- these are the movements of an input, as rows have them; the columns of movements have these names
+abbrev pub AreInputRows : Job → Reading → Columns (Bor (List ℕ)) → Input → List (Movement (String Global)) → Type 0
+AreInputRows job reading names input movements = contents_of movements ≡ input_rows job reading (names_now names) input
+
 -- these are the movements of the inputs, in turn
 abbrev pub AreMovementsOf : Job → Reading → Columns (List ℕ) → List Input → List (Vec (Movement (String Global))) → Type 0
 AreMovementsOf job reading names inputs files = map (λ f. map content_of f.items) files ≡ map (input_rows job reading names) inputs
 
--- all movements of all inputs were booked, in turn, on the balance that is kept: `changed` has the changes of its rows, and `counts` how many movements each input has
+-- the same, with names that a call borrows
+abbrev pub AreMovementsRead : Job → Reading → Columns (Bor (List ℕ)) → List Input → List (Vec (Movement (String Global))) → Type 0
+AreMovementsRead job reading names inputs files = AreMovementsOf job reading (names_now names) inputs files
+
+-- all movements of all inputs were booked, in turn, on the balance that is kept: `changed` has the changes of the rows of the balance, and
+-- `counts` how many movements each input has
 pub record IsFiledOf (job : Job) (reading : Reading) (names : Columns (List ℕ)) (inputs : List Input) (kept : List (String Global × ℕ)) (filed : Filed) : Type 0 where
   pub files : List (Vec (Movement (String Global)))
   pub read : AreMovementsOf job reading names inputs files
@@ -54,29 +66,35 @@ pub record IsFiledOf (job : Job) (reading : Reading) (names : Columns (List ℕ)
   pub changed : Rises kept → AreChanges kept filed.booked.balance.items filed.changed.items
   pub counts : filed.counts.items ≡ map (λ f. vec_len f) files
 
--- they were read by the options of the job, and else as it is kept: `style` is how files are written, `names` are the columns of movements
+-- the movements were read as the job says, and where it says nothing, as the stock says: `style` is how files are written, `names` are the columns of
+-- movements
 pub record IsFiledAs (job : Job) (style : Style) (names : Columns (List ℕ)) (inputs : List Input) (kept : List (String Global × ℕ)) (filed : Filed) : Type 0 where
   pub reading : Reading
   pub is : IsReadingOf job style reading
   pub all : IsFiledOf job reading (names_by job names) inputs kept filed
 
--- all movements were booked on an empty stock, which keeps nothing but as many decimals as the job asks for
+-- all movements were booked on the balance that was read from the database. They were read as the job says, and where it says nothing, by the columns
+-- that the database keeps
+abbrev pub IsFiledOn : Job → Style → Before → List Input → Filed → Type 0
+IsFiledOn job style before inputs filed = IsFiledAs job style (kept_names before.columns) inputs before.balance.items filed
+
+-- all movements were booked on an empty stock, whose numbers have as many decimals as the job asks for; it keeps nothing else
 abbrev pub IsFiledAnew : Job → List Input → Filed → Type 0
 IsFiledAnew job inputs filed = IsFiledAs job (asked_style job) plain_names inputs [] filed
 
--- how the files of a stock are written: those of a new one have as many decimals as the job asks for
+-- how the files of a stock are written; numbers of a new stock have as many decimals as the job asks for
 abbrev pub style_in : Contents → Job → Style
 style_in Empty job = asked_style job
 style_in (Stock shape) job = shape.style
 
--- all movements were booked on the balance that was read of the database. They were read by the columns, the decimals, the delimiter and the mark
--- that it keeps
+-- all movements were booked on the balance that was read from the database. They were read as the job says, and where it says nothing, by the
+-- columns, the decimals, the delimiter and the mark that the database keeps
 pub record IsFiledIn (job : Job) (contents : Contents) (inputs : List Input) (ready : Ready) : Type 0 where
   pub is : ready.before.contents ≡ contents
   pub empty : contents ≡ Empty → ready.before.balance.items ≡ []
   pub new : contents ≡ Empty → kept_names ready.before.columns ≡ plain_names
   pub rising : Rises ready.before.balance.items
-  pub all : IsFiledAs job (style_in contents job) (kept_names ready.before.columns) inputs ready.before.balance.items ready.filed
+  pub all : IsFiledOn job (style_in contents job) ready.before inputs ready.filed
 
 -- whether a movement was refused
 abbrev pub has_refusal : Filed → Bool
@@ -86,14 +104,22 @@ has_refusal filed = nat_lt 0 (length (refusals_in filed.booked.entries.items))
 abbrev pub status_after : Filed → ℕ
 status_after filed = if has_refusal filed then 1 else 0
 
--- what was filed, if anything was, is what the inputs do to an empty stock
+-- `anew` is `None`, or what the inputs do to an empty stock
 abbrev pub IsAnewIfThere : Job → List Input → Option Filed → Type 0
 IsAnewIfThere job inputs anew = IfSome anew (IsFiledAnew job inputs)
 
--- P of the shape of a stock, if the database has one
+-- if `IsAnewIfThere` holds of `anew`, a result that is `Ok` is what the inputs do to an empty stock
+abbrev pub FilesAnew : {E : Type 0} → Job → List Input → Option Filed → Result Filed E → Type 0
+FilesAnew job inputs anew result = IsAnewIfThere job inputs anew → IfOk result (IsFiledAnew job inputs)
+
+-- if the database has a stock, P holds of its shape
 abbrev pub IfStock : Contents → (Shape → Type 0) → Type 0
 IfStock contents P = (shape : Shape) → contents ≡ Stock shape → P shape
 
--- a `Ready` is there, and is what the inputs do to the balance that was read of the database
-abbrev pub IsThereAsFiled : Job → Contents → List Input → Option Ready → Type 0
-IsThereAsFiled job contents inputs ready = IsSomeAnd ready (IsFiledIn job contents inputs)
+-- a `Ready` is there, and is what the inputs do to the balance that was read from the database
+abbrev pub IsSomeFiled : Job → Contents → List Input → Option Ready → Type 0
+IsSomeFiled job contents inputs ready = IsSomeAnd ready (IsFiledIn job contents inputs)
+
+-- a report has what the inputs do to the balance that was read from the database
+abbrev pub IsReportOf : Job → Contents → List Input → EnterReport → Type 0
+IsReportOf job contents inputs report = IsSomeFiled job contents inputs report.ready

@@ -1,4 +1,4 @@
--- What a call without a database does: the movements of its files come to the stock at the beginning.
+-- What a call without a database does: the movements of its files come to the opening stock.
 use Rattle.std.specs.Prelude.{◌≡◌, ℕ, ◌+◌, nat_lt, if◌then◌else◌, Bool, List, [], ◌∷◌, ◌++◌, length, map, All, String, string_cmp, MatchOption}
 use Rattle.std.specs.Borrow.{Bor}
 use Rattle.std.specs.Global.{Global}
@@ -14,19 +14,19 @@ use Rattle.hashbag_ledger_lib.specs.declared.ledger.Ledger.{Ledger}
 use Rattle.hashbag_ledger_lib.specs.declared.movements.Movement.{Movement}
 use Rattle.hashbag_shell.specs.Inputs.{IsTextRead}
 
--- these movements came to the old ledger, behind those that it had, and left the new one
-abbrev pub Comes : {S H : Type 0} → List (Movement (String Global)) → Ledger (String Global) S H → Ledger (String Global) S H → Type 0
-Comes ms old new =
+-- the old ledger and then these movements, entered in turn, give the new ledger
+abbrev pub EntersAll : {S H : Type 0} → List (Movement (String Global)) → Ledger (String Global) S H → Ledger (String Global) S H → Type 0
+EntersAll ms old new =
     (L : List (String Global × ℕ)) (before : List (Movement (String Global))) → IsLedgerOf string_eq L before old.refusals.items old.stock → IsLedgerOf string_eq L (before ++ ms) new.refusals.items new.stock
 
 module _ (gives : List ℕ → List ℕ → Type 0) (settings : Settings) where
-  -- a list has the lines of the file of the stock at the beginning
+  -- a list has the lines of the file of the opening stock
   pub record IsStartIn (start : List (String Global × ℕ)) (file : Bor (List ℕ)) : Type 0 where
     pub text : List ℕ
     pub read : IsTextRead gives settings.start_encoding file.now text
     pub lines : map count_line start ≡ counts_in settings.reading settings.start_columns.0.now settings.start_columns.1.now text
 
-  -- a list is the stock at the beginning: empty if no file is named
+  -- a list is the opening stock: empty if no file is named
   abbrev pub IsStartOf : List (String Global × ℕ) → Type 0
   IsStartOf start = MatchOption settings.start (start ≡ []) (IsStartIn start)
 
@@ -43,19 +43,19 @@ module _ (gives : List ℕ → List ℕ → Type 0) (settings : Settings) where
   AreMovementsFrom n (file ∷ files) ms =
       (first : List (Movement (String Global))) × (later : List (Movement (String Global))) × AreMovementsIn n file.now first × AreMovementsFrom (n + 1) files later × (ms ≡ first ++ later)
 
-  -- a ledger is that of the stock at the beginning, to which nothing has come
+  -- a ledger began as the opening stock, and no movement has come to it
   abbrev pub IsBegunFrom : {S H : Type 0} → Ledger (String Global) S H → Type 0
   IsBegunFrom ledger = (start : List (String Global × ℕ)) × IsStartOf start × IsLedgerOf string_eq start [] ledger.refusals.items ledger.stock
 
   -- the movements of the file of this number came to a ledger
   abbrev pub EntersFileOf : {S H : Type 0} → ℕ → List ℕ → Ledger (String Global) S H → Ledger (String Global) S H → Type 0
-  EntersFileOf n file old new = (ms : List (Movement (String Global))) × AreMovementsIn n file ms × Comes ms old new
+  EntersFileOf n file old new = (ms : List (Movement (String Global))) × AreMovementsIn n file ms × EntersAll ms old new
 
   -- the movements of these files, of which the first has the number 0, came to a ledger in turn
   abbrev pub EntersFiles : {S H : Type 0} → List (Bor (List ℕ)) → Ledger (String Global) S H → Ledger (String Global) S H → Type 0
-  EntersFiles files old new = (ms : List (Movement (String Global))) × AreMovementsFrom 0 files ms × Comes ms old new
+  EntersFiles files old new = (ms : List (Movement (String Global))) × AreMovementsFrom 0 files ms × EntersAll ms old new
 
-  -- all movements of all files that are named came, in turn, to the stock at the beginning: what they left, and which of them were refused
+  -- `entered` is what the movements of all named files, entered in turn into the opening stock, leave of it, and which of them were refused
   pub record IsEnteredOf (entered : Entered (String Global)) : Type 0 where
     pub start : List (String Global × ℕ)
     pub begun : IsStartOf start
@@ -66,9 +66,9 @@ module _ (gives : List ℕ → List ℕ → Type 0) (settings : Settings) where
     pub refused : entered.refusals.items ≡ refused_of string_eq (listed string_eq start) movements
 
 -- whether a movement was refused
-abbrev pub has_refusal : Entered (String Global) → Bool
-has_refusal entered = nat_lt 0 (length entered.refusals.items)
+abbrev pub has_refused : Entered (String Global) → Bool
+has_refused entered = nat_lt 0 (length entered.refusals.items)
 
 -- the status of a call: 1 after a refusal, else 0
 abbrev pub status_with : Entered (String Global) → ℕ
-status_with entered = if has_refusal entered then 1 else 0
+status_with entered = if has_refused entered then 1 else 0

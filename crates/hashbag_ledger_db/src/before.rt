@@ -1,12 +1,13 @@
-//! What a database has before the inputs of a job are entered. Only [`before_in`] makes a `Before`, so it is what was read.
+//! What a database has before the inputs of a job are entered. Only [`before_in`] makes a `Before`, so a `Before` is what was read from the
+//! database.
 ghost use Rattle.std.specs.Prelude.{◌≡◌, [], IfOk};
 ghost use Rattle.hashbag_ledger_args.specs.Readings.{extras_now, kept_extras, kept_names, no_extras, plain_names};
 ghost use Rattle.hashbag_ledger_lib.specs.Changes.{Rises};
 ghost use Rattle.hashbag_ledger_lib.specs.Movements.{names_now};
 
+use crate::messages::movements_in;
 use crate::movements::{Input, is_once};
 use crate::putting::in_database;
-use crate::said::movements_in;
 use crate::troubles::{entered_as, has_stock, of_stock, same_bytes};
 use hashbag_ledger_args::columns::{KeptColumns, KeptExtras, plain_columns};
 use hashbag_ledger_args::job::Job;
@@ -25,9 +26,9 @@ use std::alloc::Global;
 pub struct Before {
     contents: Contents,
     balance: Vec<(String, usize)>,
-    // The columns of movements that it keeps.
+    // The columns of movements that the database keeps.
     columns: KeptColumns,
-    // The columns of dates and of notes that it keeps.
+    // The columns of dates and of notes that the database keeps.
     extras: KeptExtras,
     // Whether the article of a movement that is typed has no movement yet.
     is_new_article: bool,
@@ -78,8 +79,8 @@ impl Before {
     }
 }
 
-// Returns the trouble that a file was entered before, or that two of the files have the same bytes. Standard input and files without
-// movements are entered as often as one likes.
+// Fails if a file was entered before, or if two of the files have the same bytes. Standard input, and a file without movements, may be entered
+// again.
 pub(crate) fn entered_twice<'a>(
     alloc: Global,
     inputs: &[Input<'a>],
@@ -106,7 +107,7 @@ pub(crate) fn entered_twice<'a>(
 ///
 /// # Errors
 ///
-/// `Damaged` if these aren't two or three names. Else what fails.
+/// `Damaged` if the stock keeps a text that isn't two or three names. Else the error of the database.
 pub fn kept_columns<'a, D: Alter>(
     alloc: Global,
     db: &'a str,
@@ -129,7 +130,7 @@ pub fn kept_columns<'a, D: Alter>(
 ///
 /// # Errors
 ///
-/// What fails.
+/// The error of the database.
 pub fn kept_extras<'a, D: Alter>(
     alloc: Global,
     db: &'a str,
@@ -139,9 +140,9 @@ pub fn kept_extras<'a, D: Alter>(
     Ok(KeptExtras { date, note })
 }
 
-// Returns whether the article of a movement that is typed has no movement yet. `balance` is what is there: only if none of the article is, the
-// movements are read.
-fn is_new_article<'a, D: Alter>(
+// Returns whether the article of a movement that is typed has no movement yet. The movements are read only if `balance`, the balance of the
+// stock, lacks the article.
+fn lacks_movements<'a, D: Alter>(
     alloc: Global,
     job: &Job<'a>,
     conn: &mut Connection<D>,
@@ -162,7 +163,7 @@ fn is_new_article<'a, D: Alter>(
 ///
 /// # Errors
 ///
-/// Why they may not, or why it can't be read.
+/// Why the inputs may not be entered, or why the database can't be read.
 pub fn before_in<'a, D: Alter>(
     alloc: Global,
     job: &Job<'a>,
@@ -171,9 +172,13 @@ pub fn before_in<'a, D: Alter>(
     contents: Contents,
 ) -> Result<Before, Trouble<'a>>
     ensures contents { IfOk result (λ before. before.contents ≡ contents) }
+
+    // If the database is empty: the balance is empty, the columns of movements are `article` and `change`, and no column has dates or notes.
     ensures empty { contents ≡ Contents.Empty → IfOk result (λ before. before.balance.items ≡ []) }
     ensures new { contents ≡ Contents.Empty → IfOk result (λ before. kept_names before.columns ≡ plain_names) }
-    ensures none { contents ≡ Contents.Empty → IfOk result (λ before. kept_extras before.extras ≡ no_extras) }
+    ensures no_extras { contents ≡ Contents.Empty → IfOk result (λ before. kept_extras before.extras ≡ no_extras) }
+
+    // The articles of the balance are in ascending order, each once.
     ensures rising { IfOk result (λ before. Rises before.balance.items) }
 {
     let Contents::Stock(shape) = contents else {
@@ -195,13 +200,13 @@ pub fn before_in<'a, D: Alter>(
         return Err(has_stock(alloc, db));
     }
     let batches = in_database(alloc, db, batches_of(alloc, conn, shape))?;
-    if !job.again {
+    if !job.enters_again {
         entered_twice(alloc, inputs, &batches)?;
     }
     let balance = in_database(alloc, db, balance_of(alloc, conn))?;
     Ok(Before {
         contents,
-        is_new_article: is_new_article(alloc, job, conn, shape, &balance)?,
+        is_new_article: lacks_movements(alloc, job, conn, shape, &balance)?,
         balance,
         columns: kept_columns(alloc, db, conn, shape)?,
         extras: kept_extras(alloc, db, conn)?,

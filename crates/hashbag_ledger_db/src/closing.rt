@@ -1,4 +1,4 @@
-//! A stock that is closed: its balance begins another one, in an open database.
+//! A stock that is closed: a new stock begins with its balance, in an open database.
 use crate::before::{before_in, kept_columns, kept_extras};
 use crate::entering::{Ready, filed_of, new_stock_of, write};
 use crate::movements::{Input, input_of};
@@ -14,7 +14,7 @@ use sqlite::{Alter, Connection};
 use std::alloc::Global;
 use std::hash::BuildHasher;
 
-/// What a stock leaves to the one that follows it.
+/// What a closed stock leaves to the new stock.
 #[derive(Drop)]
 pub struct Closed {
     /// The shape of the closed stock.
@@ -27,7 +27,7 @@ pub struct Closed {
     pub balance: Vec<(String, usize)>,
 }
 
-/// Returns what an open stock leaves to the one that follows it.
+/// Returns what an open stock leaves to the new stock.
 ///
 /// # Errors
 ///
@@ -47,7 +47,7 @@ pub fn closed_in<'a, D: Alter>(
     })
 }
 
-/// Returns the balance of a database as the input that begins another one: a text of CSV, which is entered as a file would be.
+/// Returns the balance of a closed stock as an input of the new stock. Its text is CSV, and is entered like the text of a file.
 ///
 /// # Errors
 ///
@@ -62,7 +62,7 @@ pub fn beginning_of<'a>(
     input_of(alloc, job.db, text, None, true)
 }
 
-/// Writes the first batch of a new database, which keeps what the closed one kept, and what the job names in place of it.
+/// Writes the first batch of a new database. The new database keeps the style and the columns of the closed one, except for what the job names.
 ///
 /// # Errors
 ///

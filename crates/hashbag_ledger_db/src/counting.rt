@@ -1,19 +1,19 @@
 //! A stock that is counted, in an open database.
-ghost use Rattle.std.specs.Prelude.{◌≡◌, true, map, IfOk};
-ghost use Rattle.hashbag_ledger_db.specs.Counted.{counted_by, IsCountedAs, IsCountedIn};
+ghost use Rattle.std.specs.Prelude.{◌≡◌, true, IfOk};
+ghost use Rattle.hashbag_ledger_db.specs.Counted.{AreRecordsOf, IsCountedAs, IsCountOf};
 ghost use Rattle.hashbag_ledger_lib.specs.Changes.{Rises};
-ghost use Rattle.hashbag_ledger_lib.specs.Movements.{content_of};
 
 use crate::before::entered_twice;
+use crate::messages::{entered_text, misspelt_text, movements_in};
 use crate::movements::{Input, input_of, read};
 use crate::putting::{in_database, put};
-use crate::said::{entered_text, movements_in};
 use crate::stages::{Stage, Stages};
 use crate::troubles::{no_counts, start_too_many, too_large};
 use hashbag_csv::counts::Reading;
 use hashbag_csv::fault::in_file;
 use hashbag_ledger_args::columns::plain_columns;
 use hashbag_ledger_args::job::Job;
+use hashbag_ledger_lib::balance_forms::rows_of;
 use hashbag_ledger_lib::counting::{count_stock, name_all};
 use hashbag_ledger_lib::entering::LedgerError;
 use hashbag_ledger_lib::filing::Filed;
@@ -30,20 +30,20 @@ use std::alloc::Global;
 use std::hash::BuildHasher;
 use std::slice;
 
-/// What a count does, and what is written of it.
+/// What a count does, and the texts that are written.
 #[derive(Drop)]
 pub struct Counted {
     /// The differences.
     pub table: Vec<u8>,
-    /// What is said of the batch that was entered.
-    pub said: String,
+    /// The message about the batch that was entered.
+    pub message: String,
     /// The balance before, articles in ascending order.
     pub kept: Vec<(String, usize)>,
-    /// What the count does to it.
+    /// What the count does to the balance.
     pub filed: Filed,
 }
 
-// Returns the records of a count: with `--all` also one of each article of the balance.
+// Returns the records of a count. With `--all` each article of the balance also has a record.
 fn records_of<'a>(
     alloc: Global,
     job: &Job<'a>,
@@ -52,12 +52,11 @@ fn records_of<'a>(
     kept: &[(String, usize)],
 ) -> Result<Vec<Movement<String>>, Trouble<'a>>
     ensures { input.now.is_start ≡ true
-        → IfOk result (λ records.
-        map content_of records.items ≡ counted_by job.now reading kept.now input.now.text.items) }
+        → IfOk result (λ all. AreRecordsOf job.now reading kept.now input.now all.items) }
 {
     let read = read(alloc, job, input, 0, plain_columns(), reading);
     let mut records = in_file(alloc, input.file, read)?;
-    if job.all {
+    if job.counts_all {
         name_all(&mut records, kept)?;
     }
     Ok(records)
@@ -89,7 +88,7 @@ fn counted_of<'a, S: BuildHasher + Copy + Drop, G: Stages>(
     }
 }
 
-// Writes the batch of a count, and returns what is said of it.
+// Writes the batch of a count, and returns the message about the batch.
 fn write<'a, D: Alter>(
     alloc: Global,
     conn: &mut Connection<D>,
@@ -97,6 +96,7 @@ fn write<'a, D: Alter>(
     shape: Shape,
     input: &Input<'a>,
     batches: &[Batch],
+    kept: &[(String, usize)],
     filed: &Filed,
 ) -> Result<String, Trouble<'a>> {
     let time = in_database(alloc, db, time_of(conn))?;
@@ -117,13 +117,15 @@ fn write<'a, D: Alter>(
         extras: &[],
         changed: &filed.changed,
     };
-    let said = entered_text(alloc, db, movements_in(batches), &rows)?;
+    let mut message = entered_text(alloc, db, movements_in(batches), &rows)?;
+    let misspelt = misspelt_text(alloc, db, &rows_of(alloc, kept)?, entries)?;
+    message.push_str(misspelt.as_str())?;
     put(alloc, db, conn, None, &new)?;
-    Ok(said)
+    Ok(message)
 }
 
-/// Enters into an open database the differences between its stock and what was counted, which these bytes say, and returns what is written of
-/// that. The texts are made before anything is entered.
+/// Counts the stock of an open database: enters the differences between the stock and what was counted. `bytes` is the content of the file of
+/// what was counted. Returns what the count does, and the texts that are written. The texts are made before anything is entered.
 ///
 /// # Errors
 ///
@@ -137,19 +139,19 @@ pub fn count_in<'a, D: Alter, S: BuildHasher + Copy + Drop, G: Stages>(
     conn: &mut Connection<D>,
     bytes: Vec<u8>,
 ) -> Result<Counted, Trouble<'a>>
-    // The balance that was read is counted.
-    ensures counted { IfOk result (λ counted.
-        IsCountedIn job.now shape.style counted.kept.items bytes.items counted.filed) }
+    // The text of `bytes`, in the job's encoding, is read as the job says, and where it says nothing, as the stock says. `filed` is what a count by
+    // its records, and by those of `--all`, does to the balance `kept`.
+    ensures counted { IfOk result (IsCountOf job.now shape bytes.items) }
     ensures rising { IfOk result (λ counted. Rises counted.kept.items) }
 {
     let db = job.db;
-    if !shape.takes_counts() {
+    if !shape.may_have_counts() {
         return Err(no_counts(alloc, db, shape.version));
     }
     stages.begin(Stage::Reading);
     let input = input_of(alloc, job.counted, bytes, job.encoding, true)?;
     let batches = in_database(alloc, db, batches_of(alloc, conn, shape))?;
-    if !job.again {
+    if !job.enters_again {
         entered_twice(alloc, slice::from_ref(&input), &batches)?;
     }
     let kept = in_database(alloc, db, balance_of(alloc, conn))?;
@@ -157,10 +159,10 @@ pub fn count_in<'a, D: Alter, S: BuildHasher + Copy + Drop, G: Stages>(
     let entries = &filed.booked.entries;
     let table = differences_text(alloc, job.reading(shape.style), entries)?;
     stages.begin(Stage::Writing);
-    let said = write(alloc, conn, db, shape, &input, &batches, &filed)?;
+    let message = write(alloc, conn, db, shape, &input, &batches, &kept, &filed)?;
     Ok(Counted {
         table,
-        said,
+        message,
         kept,
         filed,
     })

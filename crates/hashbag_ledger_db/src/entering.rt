@@ -1,14 +1,13 @@
 //! Files that are entered into a stock, in an open database.
 ghost use Rattle.std.specs.Prelude.{◌≡◌, [], None, IfOk, IsSomeAnd};
 ghost use Rattle.hashbag_stock.specs.declared.tables.Shape.{Shape};
-ghost use Rattle.hashbag_ledger_args.specs.Readings.{kept_names};
-ghost use Rattle.hashbag_ledger_db.specs.Filed.{AreMovementsOf, IsFiledOf, IsFiledAs, IsFiledAnew, IsFiledIn, has_refusal, status_after, IfStock, IsAnewIfThere, IsThereAsFiled};
+ghost use Rattle.hashbag_ledger_db.specs.Filed.{AreMovementsRead, FilesAnew, IsFiledOf, IsFiledOn, IsFiledAnew, IsFiledIn, has_refusal, status_after, IfStock, IsAnewIfThere, IsReportOf};
 ghost use Rattle.hashbag_ledger_lib.specs.Movements.{names_now};
 
 use crate::before::{Before, before_in, entered_twice};
+use crate::messages::{entered_text, new_text, refusal_end};
 use crate::movements::{Input, extras_of, has_extras, movements_of};
 use crate::putting::{in_database, put};
-use crate::said::{entered_text, new_text, refusal_end};
 use crate::stages::{Stage, Stages};
 use crate::troubles::{no_dates, other_scale, start_too_many, too_large};
 use hashbag_csv::counts::Reading;
@@ -37,7 +36,7 @@ use std::hash::BuildHasher;
 /// What is computed, and isn't written yet: what the database has, and what the inputs do to its balance.
 #[derive(Drop)]
 pub struct Ready {
-    /// What it has before.
+    /// What the database has before the inputs are entered.
     pub before: Before,
     /// What the inputs do to its balance.
     pub filed: Filed,
@@ -45,18 +44,18 @@ pub struct Ready {
 
 /// What one run of a subcommand writes.
 #[derive(Drop)]
-pub struct Report {
+pub struct EnterReport {
     /// The refusals.
     pub refusals: Vec<u8>,
-    /// What is said of the batches that were entered.
-    pub said: String,
+    /// The message about the batches that were entered.
+    pub message: String,
     /// The status with which the program ends.
     pub status: u8,
-    /// What the inputs do, from which the fields above are made. `None` if no database was opened.
+    /// What the inputs do, which decides the fields above. `None` if no database was opened.
     pub ready: Option<Ready>,
 }
 
-// Reads the movements of the inputs up to the first that is bad, and returns them with its trouble.
+// Reads the movements of the inputs, up to the first bad input. Returns the movements, and the trouble of that input if there is one.
 fn all_movements<'a>(
     alloc: Global,
     job: &Job<'a>,
@@ -65,7 +64,7 @@ fn all_movements<'a>(
     reading: Reading,
 ) -> Result<(Vec<Vec<Movement<String>>>, Option<Trouble<'a>>), Trouble<'a>>
     ensures { IfOk result (λ all. all.1 ≡ None
-        → AreMovementsOf job.now reading (names_now columns.entry) inputs.now all.0.items) }
+        → AreMovementsRead job.now reading columns.entry inputs.now all.0.items) }
 {
     let mut files = Vec::new(alloc);
     for i in 0..inputs.len() {
@@ -118,6 +117,7 @@ pub(crate) fn filed_of<'a, S: BuildHasher + Drop, G: Stages>(
     kept: &[(String, usize)],
     stages: &G,
 ) -> Result<Filed, Trouble<'a>>
+    // All movements of all inputs are booked, in turn, on `kept`. `reading` and `columns` say how they are read.
     ensures { IfOk result (λ filed.
         IsFiledOf job.now reading (names_now columns.entry) inputs.now kept.now filed) }
 {
@@ -133,7 +133,7 @@ pub(crate) fn filed_of<'a, S: BuildHasher + Drop, G: Stages>(
     }
 }
 
-// Returns the shape of the stock, or that of a new one if the database is empty.
+// Returns the shape of the stock, or the shape of a new stock if the database is empty.
 fn shape_of<'a>(alloc: Global, job: &Job<'a>, contents: Contents) -> Result<Shape, Trouble<'a>> {
     let db = job.db;
     match (contents, job.scale) {
@@ -149,7 +149,7 @@ fn shape_of<'a>(alloc: Global, job: &Job<'a>, contents: Contents) -> Result<Shap
     }
 }
 
-/// Returns what a stock of this shape keeps with these columns, if it is new.
+/// If the database is empty, returns what the new stock keeps: the style of this shape, and these columns.
 pub(crate) fn new_stock_of<'k>(
     contents: Contents,
     shape: Shape,
@@ -166,7 +166,7 @@ pub(crate) fn new_stock_of<'k>(
     }
 }
 
-// Returns what is known of the batches of the inputs, from this number on.
+// Returns what is known of the batches of the inputs. `number` is the number of the first batch.
 fn drafts_of<'i, 'a>(
     alloc: Global,
     inputs: &'i [Input<'a>],
@@ -195,7 +195,7 @@ fn drafts_of<'i, 'a>(
     Ok(drafts)
 }
 
-/// Writes the batches of the inputs, and returns what is said of them.
+/// Writes the batches of the inputs, and returns the message about the batches.
 pub(crate) fn write<'a, D: Alter, G: Stages>(
     alloc: Global,
     conn: &mut Connection<D>,
@@ -220,9 +220,9 @@ pub(crate) fn write<'a, D: Alter, G: Stages>(
         extras,
         changed: &filed.changed,
     };
-    let said = entered_text(alloc, db, before.movements(), &batches)?;
+    let message = entered_text(alloc, db, before.movements(), &batches)?;
     put(alloc, db, conn, new_stock, &new)?;
-    Ok(said)
+    Ok(message)
 }
 
 // Returns the names of the inputs.
@@ -251,7 +251,7 @@ fn text_of<'a>(
     }
 }
 
-// Appends to the refusal of a movement that is typed, if it is refused and its article isn't there, a near name.
+// If a typed movement is refused because the stock lacks its article, appends a near name.
 fn with_near(
     alloc: Global,
     job: &Job<'_>,
@@ -268,15 +268,15 @@ fn with_near(
     Ok(text)
 }
 
-// Appends that the article of a movement that is typed is new, if it is and the movement was entered.
+// If a typed movement was entered and its article is new, appends a line that says that the article is new.
 fn with_new(
     alloc: Global,
     job: &Job<'_>,
     ready: &Ready,
-    said: String,
+    message: String,
 ) -> Result<String, AllocError> {
     let before = &ready.before;
-    let mut text = said;
+    let mut text = message;
     if let Some(article) = job.articles.first().copied()
         && before.is_new_article()
         && !is_refused(&ready.filed)
@@ -313,7 +313,7 @@ pub fn filed_anew<'a, S: BuildHasher + Drop, G: Stages>(
     inputs: &[Input<'a>],
     stages: &G,
 ) -> Result<Filed, Trouble<'a>>
-    // All movements of all inputs are booked, read as the job says.
+    // All movements of all inputs are booked, in turn, on an empty stock. They are read as the job says, else by the default columns.
     ensures { IfOk result (IsFiledAnew job.now inputs.now) }
 {
     let reading = job.reading(job.asked_style());
@@ -321,7 +321,7 @@ pub fn filed_anew<'a, S: BuildHasher + Drop, G: Stages>(
     let filed = filed_of(alloc, state, job, inputs, columns, reading, &[], stages)?;
     let names = job.extras_or(plain_extras());
     extras_of(alloc, job, inputs, names, reading.delimiter)?;
-    if !job.again {
+    if !job.enters_again {
         entered_twice(alloc, inputs, &[])?;
     }
     Ok(filed)
@@ -338,10 +338,8 @@ fn filed_in<'a, S: BuildHasher + Drop, G: Stages>(
     anew: Option<Filed>,
     stages: &G,
 ) -> Result<Filed, Trouble<'a>>
-    ensures empty { contents ≡ Contents.Empty → IsAnewIfThere job.now inputs.now anew
-        → IfOk result (IsFiledAnew job.now inputs.now) }
-    ensures stock { IfStock contents (λ shape. IfOk result
-        (IsFiledAs job.now shape.style (kept_names before.now.columns) inputs.now before.now.balance.items)) }
+    ensures empty { contents ≡ Contents.Empty → FilesAnew job.now inputs.now anew result }
+    ensures stock { IfStock contents (λ shape. IfOk result (IsFiledOn job.now shape.style before.now inputs.now)) }
 {
     match (contents, anew) {
         (Contents::Empty, Some(filed)) => Ok(filed),
@@ -364,7 +362,7 @@ fn filed_in<'a, S: BuildHasher + Drop, G: Stages>(
 }
 
 // Returns what the inputs do to the stock of an open database. `anew` is what they do to an empty stock. It is `None` if the file wasn't
-// new; if it has no tables all the same, that is computed here. If another process made a stock meanwhile, `anew` isn't used.
+// new. If the file wasn't new but has no tables, `anew` is computed here. If another process made a stock meanwhile, `anew` isn't used.
 fn ready_in<'a, D: Alter, S: BuildHasher + Drop, G: Stages>(
     alloc: Global,
     state: S,
@@ -383,7 +381,7 @@ fn ready_in<'a, D: Alter, S: BuildHasher + Drop, G: Stages>(
     Ok(Ready { before, filed })
 }
 
-// Returns the dates and notes of all movements, in the columns that the job names, or else in those that the database keeps.
+// Returns the dates and notes of all movements, by the columns that the job names, else by the columns that the database keeps.
 fn read_extras<'a>(
     alloc: Global,
     job: &Job<'a>,
@@ -395,7 +393,7 @@ fn read_extras<'a>(
     extras_of(alloc, job, inputs, names, delimiter)
 }
 
-// Writes the batches of the inputs, and what a new stock keeps. Returns what is said of them.
+// Writes the batches of the inputs, and what a new stock keeps. Returns the message about the batches.
 fn written<'a, D: Alter, G: Stages>(
     alloc: Global,
     job: &Job<'a>,
@@ -411,10 +409,10 @@ fn written<'a, D: Alter, G: Stages>(
     let names = job.extras_or(ready.before.extras());
     let text = columns_text(alloc, columns)?;
     let new_stock = new_stock_of(contents, shape, text.as_str(), names);
-    let said = write(
+    let message = write(
         alloc, conn, job.db, shape, new_stock, inputs, extras, ready, stages,
     )?;
-    Ok(with_new(alloc, job, ready, said)?)
+    Ok(with_new(alloc, job, ready, message)?)
 }
 
 /// Enters the inputs into an open database, and returns what the run of the subcommand writes. The texts are made before anything is
@@ -432,11 +430,10 @@ pub fn report_in<'a, D: Alter, S: BuildHasher + Drop, G: Stages>(
     contents: Contents,
     anew: Option<Filed>,
     stages: &G,
-) -> Result<Report, Trouble<'a>>
+) -> Result<EnterReport, Trouble<'a>>
     // If `anew` is what the inputs do to an empty stock, as `filed_anew` returns it, then `ready` is what they do to the balance that was
     // read: all movements of all inputs are booked on it.
-    ensures filed { IsAnewIfThere job.now inputs.now anew
-        → IfOk result (λ r. IsThereAsFiled job.now contents inputs.now r.ready) }
+    ensures filed { IsAnewIfThere job.now inputs.now anew → IfOk result (IsReportOf job.now contents inputs.now) }
 
     // The status is 1 exactly if a movement is refused.
     ensures status { IfOk result (λ report. IsSomeAnd report.ready (λ ready.
@@ -448,16 +445,16 @@ pub fn report_in<'a, D: Alter, S: BuildHasher + Drop, G: Stages>(
     let extras = read_extras(alloc, job, inputs, &ready.before, reading.delimiter)?;
     let refusals = text_of(alloc, job, inputs, reading, &ready.filed)?;
     let refusals = with_near(alloc, job, &ready.before, refusals)?;
-    let said = if job.strict && is_refused(&ready.filed) {
+    let message = if job.strict && is_refused(&ready.filed) {
         String::new(alloc)
     } else {
         written(
             alloc, job, inputs, conn, contents, shape, &extras, &ready, stages,
         )?
     };
-    Ok(Report {
+    Ok(EnterReport {
         refusals,
-        said,
+        message,
         status: status_of(&ready.filed),
         ready: Some(ready),
     })
@@ -473,14 +470,14 @@ pub fn denied_report(
     job: &Job<'_>,
     inputs: &[Input<'_>],
     filed: &Filed,
-) -> Result<Report, AllocError>
+) -> Result<EnterReport, AllocError>
     ensures ready { IfOk result (λ report. report.ready ≡ None) }
     ensures status { IfOk result (λ report. report.status ≡ 1) }
 {
     let reading = job.reading(job.asked_style());
-    Ok(Report {
+    Ok(EnterReport {
         refusals: text_of(alloc, job, inputs, reading, filed)?,
-        said: String::new(alloc),
+        message: String::new(alloc),
         status: DENIED,
         ready: None,
     })

@@ -1,11 +1,11 @@
-//! The files of a call: inputs, which are read whole, and databases. What of them is entered is decided here, so the clauses hold whatever the
-//! files contain.
+//! The files of a call: inputs, which are read whole, and databases. They are given as `Inputs` and `Databases`, so the clauses hold for any
+//! contents.
 ghost use Rattle.std.specs.Prelude.{◌≡◌, ℕ, List, None, true, IfOk, IfSome};
 ghost use Rattle.hashbag_stock.specs.declared.tables.Contents.{Contents};
 ghost use Rattle.hashbag_ledger_db.specs.Filed.{status_after};
-ghost use Rattle.hashbag_ledger_db.specs.Inputs.{AreInputsOf, IsRead, IsReadyOf, named};
+ghost use Rattle.hashbag_ledger_db.specs.Inputs.{AreInputsOf, IsRead, IsReportReady, name_and_kind};
 
-use crate::entering::{Report, denied_report, filed_anew, is_refused, report_in};
+use crate::entering::{EnterReport, denied_report, filed_anew, is_refused, report_in};
 use crate::movements::{Input, input_of};
 use crate::stages::{Stage, Stages};
 use hashbag_ledger_args::job::Job;
@@ -18,7 +18,7 @@ use std::hash::BuildHasher;
 
 /// The databases that a program has. An open one is a `C`.
 pub trait Databases<C> {
-    /// Holds of the name of a database and what it has when it is opened.
+    /// `has databases db contents`: if the database of this name is opened, it has these contents.
     ghost has: { Self → List ℕ → Contents → Type 0 };
 
     /// Returns whether there is no database of this name.
@@ -34,13 +34,14 @@ pub trait Databases<C> {
     ///
     /// Why it can't be opened as the database of a stock.
     fn open_or_make<'a>(&self, db: &'a str, wait: usize) -> Result<(C, Contents), Trouble<'a>>
+        // The contents that are returned are those that the database of this name has.
         ensures { IfOk result (λ opened. has self.now db.now opened.1) };
 
     /// Closes a database.
     fn close(&self, conn: C);
 }
 
-// Reads the stock at the beginning, or a file of movements.
+// Reads the opening stock, or a file of movements.
 fn read_input<'a, I: Inputs>(
     alloc: Global,
     files: &I,
@@ -48,14 +49,14 @@ fn read_input<'a, I: Inputs>(
     file: &'a str,
     is_start: bool,
 ) -> Result<Input<'a>, Trouble<'a>>
-    ensures named { IfOk result (λ input. named input ≡ (file.now, is_start)) }
+    ensures named { IfOk result (λ input. name_and_kind input ≡ (file.now, is_start)) }
     ensures read { IfOk result (IsRead (I.gives files.now) job.now) }
 {
     let bytes = files.read(file)?;
     input_of(alloc, file, bytes, job.encoding_of(is_start), is_start)
 }
 
-// Reads the stock at the beginning, if there is one, and all files of movements.
+// Reads the opening stock, if there is one, and all files of movements.
 fn inputs_of<'a, I: Inputs>(
     alloc: Global,
     files: &I,
@@ -75,8 +76,8 @@ fn inputs_of<'a, I: Inputs>(
     Ok(inputs)
 }
 
-/// Enters the files that are named into the stock of the database, all or none, and returns what the run of the subcommand writes. If they are
-/// to be entered strictly into a new stock, and there is a refusal, no database is made.
+/// Enters the files that are named into the stock of the database, all or none, and returns what the run of the subcommand writes. With
+/// `--strict`, no database is made if there is a refusal.
 ///
 /// # Errors
 ///
@@ -95,10 +96,10 @@ pub fn enter_named<
     databases: &F,
     stages: &G,
     job: &Job<'a>,
-) -> Result<Report, Trouble<'a>>
-    // All movements of all files that are named are booked on the balance that the database had.
-    ensures filed { IfOk result (λ report.
-        IfSome report.ready (IsReadyOf (I.gives files.now) (F.has databases.now) job.now)) }
+) -> Result<EnterReport, Trouble<'a>>
+    // If a database was opened: all movements of all named files are booked on the balance that it had. `I.gives` says what each file contains, and
+    // `F.has` what each database has.
+    ensures filed { IfOk result (IsReportReady (I.gives files.now) (F.has databases.now) job.now) }
 
     // The status is 1 exactly if a movement is refused.
     ensures status { IfOk result (λ report. IfSome report.ready (λ ready. report.status ≡ status_after ready.filed)) }

@@ -1,5 +1,5 @@
-//! What the subcommands of `hashbag_ledger` do in a database, in any store, and what a call without one does: bytes of files and rows in, rows and
-//! texts out. It opens no database but by [`files::Databases`], and no other file but by [`hashbag_shell::inputs::Inputs`].
+//! What the subcommands of `hashbag_ledger` do in a database, whatever stores it, and what a call without a database does: bytes of files and
+//! rows in, rows and texts out. It opens a database only by [`files::Databases`], and any other file only by [`hashbag_shell::inputs::Inputs`].
 #![tactic(auto)]
 
 pub mod before;
@@ -7,9 +7,9 @@ pub mod closing;
 pub mod counting;
 pub mod entering;
 pub mod files;
+pub mod messages;
 pub mod movements;
 pub mod putting;
-pub mod said;
 pub mod showing;
 pub mod stages;
 pub mod troubles;

@@ -1,8 +1,7 @@
 //! The movements of the inputs.
 ghost use Rattle.std.specs.Prelude.{◌≡◌, map, IfOk};
-ghost use Rattle.hashbag_ledger_db.specs.Filed.{plain_movement, input_rows};
-ghost use Rattle.hashbag_ledger_db.specs.Inputs.{named, IsTextOf};
-ghost use Rattle.hashbag_ledger_lib.specs.Movements.{content_of, names_now};
+ghost use Rattle.hashbag_ledger_db.specs.Filed.{plain_movement, AreInputRows};
+ghost use Rattle.hashbag_ledger_db.specs.Inputs.{name_and_kind, HasTextOf};
 
 use crate::troubles::of_extras;
 use hashbag_csv::counts::{Reading, read_counts_as};
@@ -30,12 +29,12 @@ pub struct Input<'a> {
     pub text: Vec<u8>,
     /// The SHA-256 of its bytes, before they are decoded, in hexadecimal digits.
     pub sha256: String,
-    /// Whether it is the stock at the beginning.
+    /// Whether it is the opening stock.
     pub is_start: bool,
 }
 
-/// Returns the input of this name with these bytes, which are text in this encoding, `None` for UTF-8: the stock at the beginning, or a file of
-/// movements.
+/// Returns the input of this name: the opening stock if `is_start`, else a file of movements. `bytes` are its text in `encoding`, where
+/// `None` is UTF-8.
 ///
 /// # Errors
 ///
@@ -47,8 +46,10 @@ pub fn input_of<'a>(
     encoding: Option<Encoding>,
     is_start: bool,
 ) -> Result<Input<'a>, Trouble<'a>>
-    ensures named { IfOk result (λ input. named input ≡ (file.now, is_start)) }
-    ensures text { IfOk result (IsTextOf encoding bytes.items) }
+    ensures named { IfOk result (λ input. name_and_kind input ≡ (file.now, is_start)) }
+
+    // The text is `bytes`, decoded by `encoding`. `sha256` has the digest of `bytes`, in hexadecimal digits.
+    ensures text { IfOk result (HasTextOf encoding bytes.items) }
 {
     let sha256 = digest_of(alloc, bytes.as_slice())?;
     let text = text_of(alloc, file, encoding, bytes)?;
@@ -73,7 +74,7 @@ fn has_rows(text: &[u8]) -> bool {
     false
 }
 
-/// Returns whether these bytes may be entered only once: they are a file's, and have movements.
+/// Returns whether an input may be entered only once: it is a file, not standard input, and has movements.
 pub fn is_once(input: &Input<'_>) -> bool {
     input.file != "-" && has_rows(input.text.as_slice())
 }
@@ -115,8 +116,8 @@ pub(crate) fn read<'a>(
     columns: Columns<&str>,
     reading: Reading,
 ) -> Result<Vec<Movement<String>>, SheetError>
-    ensures { IfOk result (λ all. map content_of all.items
-        ≡ input_rows job.now reading (names_now columns.entry) input.now) }
+    // The articles and changes are those of the input's text, in turn, but `In 0` for `Out 0`. An opening stock has the columns that the job names for it.
+    ensures { IfOk result (λ all. AreInputRows job.now reading columns.entry input.now all.items) }
 {
     let text = input.text.as_slice();
     if !input.is_start {
@@ -132,7 +133,7 @@ pub(crate) fn read<'a>(
     Ok(plain_movements(alloc, movements)?)
 }
 
-/// Returns the movements of an input, whose columns have these names. The stock at the beginning, which has columns of its
+/// Returns the movements of an input, whose columns have these names. The opening stock, which has columns of its
 /// own, becomes incoming movements.
 ///
 /// # Errors
@@ -146,8 +147,8 @@ pub fn movements_of<'a>(
     columns: Columns<&str>,
     reading: Reading,
 ) -> Result<Vec<Movement<String>>, Trouble<'a>>
-    ensures { IfOk result (λ all. map content_of all.items
-        ≡ input_rows job.now reading (names_now columns.entry) input.now) }
+    // The articles and changes are those of the input's text, in turn, but `In 0` for `Out 0`. An opening stock has the columns that the job names for it.
+    ensures { IfOk result (λ all. AreInputRows job.now reading columns.entry input.now all.items) }
 {
     let read = read(alloc, job, input, file, columns, reading);
     if input.is_start {
@@ -161,7 +162,7 @@ pub fn has_extras(names: ExtraColumns<&str>) -> bool {
     names.date.is_some() || names.note.is_some()
 }
 
-// Returns those columns that the job doesn't name: the stock keeps them.
+// Returns the columns that the job doesn't name, and that the stock keeps.
 fn kept_of<'n>(job: &Job<'_>, names: ExtraColumns<&'n str>) -> ExtraColumns<&'n str> {
     ExtraColumns {
         date: names.date.filter(|_| job.extras.date.is_none()),
@@ -169,12 +170,12 @@ fn kept_of<'n>(job: &Job<'_>, names: ExtraColumns<&'n str>) -> ExtraColumns<&'n 
     }
 }
 
-/// Returns the dates and notes of all movements of the inputs, in turn, whose columns have these names; none if there is no column of them. The
-/// stock at the beginning has neither.
+/// Returns the dates and notes of all movements of the inputs, in turn. `names` are the names of their columns; without names the list is empty.
+/// The opening stock has no dates and no notes.
 ///
 /// # Errors
 ///
-/// What is wrong with its first bad line, or a failed allocation.
+/// What is wrong with the first bad line of the first bad input, or a failed allocation.
 pub fn extras_of<'a>(
     alloc: Global,
     job: &Job<'a>,

@@ -12,7 +12,7 @@ use std::alloc::Global;
 ///
 /// # Errors
 ///
-/// Why it wasn't done.
+/// The error in `done`, as the trouble of a program.
 pub fn in_database<'a, T>(
     alloc: Global,
     db: &str,
@@ -26,11 +26,11 @@ pub fn in_database<'a, T>(
     }
 }
 
-/// Writes what one run of a subcommand writes, in one transaction; and first the tables if the stock is new.
+/// Writes the rows of one run of a subcommand in one transaction, which first creates the tables if the stock is new.
 ///
 /// # Errors
 ///
-/// Why they can't be written. Then nothing is.
+/// Why the rows can't be written. Then nothing is written.
 pub fn put<'a, D: Alter>(
     alloc: Global,
     db: &str,

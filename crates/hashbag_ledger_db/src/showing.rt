@@ -1,8 +1,8 @@
-//! What is shown of a stock: its balance, the history of an article, the batches, and the movements of one.
+//! What is shown of a stock: its balance, the history of an article, the batches, and the movements of a batch.
 ghost use Rattle.std.specs.Prelude.{◌≡◌, Ok, IfOk};
 
+use crate::messages::{absent_text, unmoved_text};
 use crate::putting::in_database;
-use crate::said::{absent_text, unmoved_text};
 use crate::troubles::{moved_too_much, no_day, start_too_many};
 use crate::wanted::wanted_of;
 use hashbag_ledger_args::job::Job;
@@ -23,13 +23,13 @@ use sqlite::{Alter, Connection};
 use std::alloc::{AllocError, Global};
 use std::hash::BuildHasher;
 
-/// A table, and what is said with it.
+/// A table, and the message with it.
 #[derive(Drop)]
 pub struct Shown {
     /// The table.
     pub table: Vec<u8>,
-    /// What isn't there.
-    pub said: String,
+    /// The message about what isn't there; empty if all is there.
+    pub message: String,
 }
 
 // Returns the number of an article.
@@ -78,14 +78,15 @@ fn rows_with_some<'b>(
     Ok(some)
 }
 
-// Returns what is shown of a balance: all its rows, or those of some articles; and which of these aren't there.
+// Returns what is shown of a balance: all its rows, or the rows of the job's articles. The message names the articles that aren't in the
+// balance.
 fn shown_of(
     alloc: Global,
     job: &Job<'_>,
     shape: Shape,
     rows: Vec<(&str, Change)>,
 ) -> Result<Shown, AllocError> {
-    let said = absent_text(alloc, job.db, &rows, &job.articles)?;
+    let message = absent_text(alloc, job.db, &rows, &job.articles)?;
     let reading = job.reading(shape.style);
     let table = if job.articles.is_empty() {
         formed_text(alloc, reading, job.form, &rows)?
@@ -93,14 +94,14 @@ fn shown_of(
         let chosen = chosen_of(alloc, &rows, &job.articles)?;
         formed_text(alloc, reading, job.form, &chosen)?
     };
-    Ok(Shown { table, said })
+    Ok(Shown { table, message })
 }
 
-/// Returns the balance of an open database, or the numbers of some articles; and which of these aren't there.
+/// Returns the balance of an open database, or the numbers of the job's articles. The message names the articles that aren't in the balance.
 ///
 /// # Errors
 ///
-/// Why there is none.
+/// Why the balance can't be read.
 pub fn balance_in<'a, D: Alter>(
     alloc: Global,
     job: &Job<'a>,
@@ -111,12 +112,12 @@ pub fn balance_in<'a, D: Alter>(
     Ok(shown_of(alloc, job, shape, rows_of(alloc, &all)?)?)
 }
 
-/// Returns the balance of an open database on a day, or the numbers of some articles then; and which of these aren't there. A number may be
-/// below 0.
+/// Returns the balance of an open database on a day, or the numbers of the job's articles on that day. The message names the articles that
+/// aren't in that balance. A number may be below 0.
 ///
 /// # Errors
 ///
-/// `NoDay` if the day is no date, `MovedTooMuch` if more than `usize::MAX` was moved up to it, or why there is no balance.
+/// That the day is no date, that more than `usize::MAX` was moved up to that day, or why the movements can't be read.
 pub fn balance_at_in<'a, D: Alter, S: BuildHasher + Copy + Drop>(
     alloc: Global,
     state: S,
@@ -141,7 +142,7 @@ pub fn balance_at_in<'a, D: Alter, S: BuildHasher + Copy + Drop>(
     }
 }
 
-// Returns what became of movements of a database, each with what it carries along.
+// Returns what became of movements of a database, each with what it carries along, or the error as the trouble of a program.
 fn recalled_in<'a, X>(
     alloc: Global,
     db: &str,
@@ -152,7 +153,7 @@ fn recalled_in<'a, X>(
     match recalled {
         Ok(entries) => Ok(entries),
         Err(LedgerError::Memory) => Err(Trouble::Memory),
-        // No movements that were entered make an article too large.
+        // Movements that were entered never pass the limit, so any other error means a damaged database.
         Err(_) => Err(start_too_many(alloc, db)),
     }
 }
@@ -161,7 +162,7 @@ fn recalled_in<'a, X>(
 ///
 /// # Errors
 ///
-/// `NoBatch` if there is none, or why they can't be read.
+/// That there is no such batch, or why the movements can't be read.
 pub fn show_in<'a, D: Alter, S: BuildHasher + Drop>(
     alloc: Global,
     state: S,
@@ -176,11 +177,11 @@ pub fn show_in<'a, D: Alter, S: BuildHasher + Drop>(
     let batch = number.unsigned_abs() as usize;
     let entries = recalled_in(alloc, db, recall_batch(alloc, state, movements, batch))?;
     let table = movements_text(alloc, job.reading(shape.style), &entries)?;
-    let said = String::new(alloc);
-    Ok(Shown { table, said })
+    let message = String::new(alloc);
+    Ok(Shown { table, message })
 }
 
-/// Returns the movements of an article in an open database, and whether there are none.
+/// Returns the movements of an article in an open database. If there are none, the message says so.
 ///
 /// # Errors
 ///
@@ -196,7 +197,7 @@ pub fn history_in<'a, D: Alter, S: BuildHasher + Drop>(
     let db = job.db;
     let batches = in_database(alloc, db, batches_of(alloc, conn, shape))?;
     let movements = in_database(alloc, db, movements_of_article(alloc, conn, shape, article))?;
-    let said = if movements.is_empty() {
+    let message = if movements.is_empty() {
         let balance = in_database(alloc, db, balance_of(alloc, conn))?;
         unmoved_text(alloc, db, &rows_of(alloc, &balance)?, article)?
     } else {
@@ -204,7 +205,7 @@ pub fn history_in<'a, D: Alter, S: BuildHasher + Drop>(
     };
     let entries = recalled_in(alloc, db, recall(alloc, state, movements))?;
     let table = history_text(alloc, job.reading(shape.style), &batches, &entries)?;
-    Ok(Shown { table, said })
+    Ok(Shown { table, message })
 }
 
 /// Returns the batches of an open database.
@@ -220,6 +221,6 @@ pub fn batches_in<'a, D: Alter>(
 ) -> Result<Shown, Trouble<'a>> {
     let batches = in_database(alloc, job.db, batches_of(alloc, conn, shape))?;
     let table = batches_text(alloc, job.reading(shape.style), &batches)?;
-    let said = String::new(alloc);
-    Ok(Shown { table, said })
+    let message = String::new(alloc);
+    Ok(Shown { table, message })
 }

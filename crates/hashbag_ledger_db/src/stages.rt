@@ -13,7 +13,7 @@ pub enum Stage {
     Writing,
 }
 
-/// Who hears of the stages.
+/// A receiver of the stages, such as a report on a terminal.
 pub trait Stages {
     /// Is called at the beginning of a stage.
     fn begin(&self, stage: Stage);

@@ -4,7 +4,7 @@ use hashbag_csv::decimals::write_decimal;
 use hashbag_csv::fault::{Fault, SheetError, in_file};
 use hashbag_ledger_lib::extras::{ExtraColumns, ExtraError};
 use hashbag_ledger_lib::numbers::MOST;
-use hashbag_ledger_lib::once::Batch;
+use hashbag_ledger_lib::once::{Batch, Kind};
 use hashbag_shell::status::{
     BAD_INPUT, DENIED, ENTERED_BEFORE, IN_USE, IO_FAILED, TOTAL_TOO_LARGE,
 };
@@ -33,7 +33,13 @@ pub fn of_stock<'a>(alloc: Global, db: &str, error: StockError) -> Trouble<'a> {
         ) => IO_FAILED,
         _ => BAD_INPUT,
     };
-    Trouble::with_status(format!(in alloc; "{db}: {error}"), status)
+    let cure = match &error {
+        StockError::Database(sqlite::Error::SqliteFailure(ErrorCode::CannotOpen)) => {
+            "; the file and its folder must be there, and writable, also to be read"
+        }
+        _ => "",
+    };
+    Trouble::with_status(format!(in alloc; "{db}: {error}{cure}"), status)
 }
 
 /// Returns the trouble of a stored balance past the maximum. No batch can cause it.
@@ -57,12 +63,12 @@ pub fn no_stock<'a>(alloc: Global, db: &str) -> Trouble<'a> {
     bad(format!(in alloc; "{db}: no stock in it yet"))
 }
 
-/// Returns the trouble of a new stock where there is one already.
+/// Returns the trouble of an opening stock for a database that already has a stock.
 pub fn has_stock<'a>(alloc: Global, db: &str) -> Trouble<'a> {
     bad(format!(in alloc; "{db}: has a stock already, so it takes no other at the beginning"))
 }
 
-/// Returns the trouble of a count in tables of a version that has no counts.
+/// Returns the trouble of a stocktaking (`count`) in a database whose version of tables stores none.
 pub fn no_counts<'a>(alloc: Global, db: &str, version: i64) -> Trouble<'a> {
     bad(format!(in alloc;
         "{db}: tables of version {version} take no count: `close --into NEW` makes newer ones"
@@ -81,7 +87,7 @@ pub fn no_dates<'a>(alloc: Global, db: &str) -> Trouble<'a> {
     ))
 }
 
-// Returns how to read a text without a column of these, which the stock keeps, if the text lacks one.
+// If a text lacks a column of dates or of notes that the stock keeps, returns the option by which the text is read without that column.
 fn cure_of(kept: ExtraColumns<&str>, error: &SheetError) -> Option<&'static str> {
     let SheetError::Line {
         fault: Fault::NoColumn { name, .. },
@@ -112,7 +118,7 @@ fn with_cure<'a>(alloc: Global, trouble: Trouble<'a>, cure: &str) -> Trouble<'a>
     }
 }
 
-/// Returns the trouble of dates and notes that can't be read. `kept` has the columns that the stock keeps, and no option names.
+/// Returns the trouble of dates and notes that can't be read. `kept` has the columns that the stock keeps and that no option names.
 pub fn of_extras<'a>(
     alloc: Global,
     file: &'a str,
@@ -146,11 +152,16 @@ pub fn moved_too_much<'a>(alloc: Global, db: &str) -> Trouble<'a> {
     Trouble::with_status(what, TOTAL_TOO_LARGE)
 }
 
-/// Returns the trouble of a file that was entered before, as this batch.
+/// Returns the trouble of a file that was entered or counted before, as this batch.
 pub fn entered_as<'a>(alloc: Global, file: &str, batch: &Batch) -> Trouble<'a> {
     let (number, name) = (batch.number, batch.file.as_str());
+    let done = if batch.kind.as_str() == Kind::Count.name() {
+        "counted"
+    } else {
+        "entered"
+    };
     let what = format!(in alloc;
-        "{file}: entered before, as batch {number} ({name}); `enter --again` enters it again"
+        "{file}: {done} before, as batch {number} ({name}); `--again` takes it once more"
     );
     Trouble::with_status(what, ENTERED_BEFORE)
 }

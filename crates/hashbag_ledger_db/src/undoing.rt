@@ -1,6 +1,6 @@
 //! A batch that is taken back, in an open database.
+use crate::messages::{entered_text, movements_in};
 use crate::putting::{in_database, put as put_in};
-use crate::said::{entered_text, movements_in};
 use crate::stages::{Stage, Stages};
 use crate::troubles::{start_too_many, too_large, undone_before};
 use crate::wanted::wanted_of;
@@ -11,7 +11,7 @@ use hashbag_ledger_lib::ledger::booking::Booked;
 use hashbag_ledger_lib::movements::{Movement, Refusal};
 use hashbag_ledger_lib::once::{Batch, Kind, next_number, undone_by};
 use hashbag_ledger_lib::output::refusals_text;
-use hashbag_ledger_lib::pairs::halves;
+use hashbag_ledger_lib::pairs::unzip;
 use hashbag_ledger_lib::rows::RowChange;
 use hashbag_ledger_lib::sealing::{Draft, sealed_rows};
 use hashbag_ledger_lib::style::Style;
@@ -30,17 +30,17 @@ use std::hash::BuildHasher;
 struct Found {
     number: i64,
     file: String,
-    // The number of the batch that undoes it.
-    by: i64,
-    // How many movements there are before.
+    // The number that the batch of the undo will have.
+    undo_number: i64,
+    // How many movements there are before the undo.
     movements: u64,
 }
 
-// What an undo leaves: its refusals, or what is said of it.
+// What an undo leaves: its refusals, or the message about its batch.
 #[derive(Drop)]
 struct Undone {
     refusals: Vec<Refusal<String>>,
-    said: String,
+    message: String,
 }
 
 // Returns what is known of the batch that is asked for, if it may be undone.
@@ -51,13 +51,13 @@ fn found_of<'a>(alloc: Global, job: &Job<'a>, batches: &[Batch]) -> Result<Found
         None => Ok(Found {
             number: batch.number,
             file: batch.file.clone()?,
-            by: next_number(batches),
+            undo_number: next_number(batches),
             movements: movements_in(batches),
         }),
     }
 }
 
-// Writes the undo of a batch, and returns what is said of it.
+// Writes the undo of a batch, and returns the message about the batch of the undo.
 fn put<'a, D: Alter>(
     alloc: Global,
     conn: &mut Connection<D>,
@@ -70,7 +70,7 @@ fn put<'a, D: Alter>(
 ) -> Result<String, Trouble<'a>> {
     let time = in_database(alloc, db, time_of(conn))?;
     let draft = Draft {
-        number: found.by,
+        number: found.undo_number,
         file: found.file.as_str(),
         sha256: "",
         kind: Kind::Undo(found.number),
@@ -92,9 +92,9 @@ fn put<'a, D: Alter>(
         extras,
         changed,
     };
-    let said = entered_text(alloc, db, found.movements, &batches)?;
+    let message = entered_text(alloc, db, found.movements, &batches)?;
     put_in(alloc, db, conn, None, &new)?;
-    Ok(said)
+    Ok(message)
 }
 
 // Returns what is known of the batch that is asked for, if it may be undone.
@@ -108,7 +108,7 @@ fn found_in<'a, D: Alter>(
     found_of(alloc, job, &batches)
 }
 
-// Decides about an undo of these movements in a stock with this balance, and what becomes of the rows of that.
+// Undoes these movements in a stock with this balance, all or none. Returns the undo, and the changes of the balance's rows.
 fn undo_of<'a, S: BuildHasher + Drop>(
     alloc: Global,
     state: S,
@@ -128,7 +128,7 @@ fn undo_of<'a, S: BuildHasher + Drop>(
     }
 }
 
-// Takes the batch back in an open database, and returns what is written of that.
+// Takes the batch back in an open database. Returns the refusals, or the message about the batch of the undo.
 fn take_back_in<'a, D: Alter, S: BuildHasher + Drop, G: Stages>(
     alloc: Global,
     state: S,
@@ -145,7 +145,7 @@ fn take_back_in<'a, D: Alter, S: BuildHasher + Drop, G: Stages>(
     } else {
         Vec::new(alloc)
     };
-    let (entered, _) = halves(alloc, entered)?;
+    let (entered, _) = unzip(alloc, entered)?;
     let kept = in_database(alloc, db, balance_of(alloc, conn))?;
     let file = found.file.as_str();
     stages.begin(Stage::Booking(entered.len()));
@@ -153,13 +153,13 @@ fn take_back_in<'a, D: Alter, S: BuildHasher + Drop, G: Stages>(
     match undo {
         Undo::Refused(refusals) => Ok(Undone {
             refusals,
-            said: String::new(alloc),
+            message: String::new(alloc),
         }),
         Undo::Done(booked) => {
             stages.begin(Stage::Writing);
             Ok(Undone {
                 refusals: Vec::new(alloc),
-                said: put(alloc, conn, db, shape, found, &booked, &extras, &changed)?,
+                message: put(alloc, conn, db, shape, found, &booked, &extras, &changed)?,
             })
         }
     }
@@ -167,38 +167,38 @@ fn take_back_in<'a, D: Alter, S: BuildHasher + Drop, G: Stages>(
 
 /// What is written of an undo.
 #[derive(Drop)]
-pub struct Report {
+pub struct UndoReport {
     /// The refusals.
     pub refusals: String,
-    /// What is said of the batch that was entered.
-    pub said: String,
+    /// The message about the batch that was entered.
+    pub message: String,
     /// The status with which the program ends.
     pub status: u8,
 }
 
-// Returns what is written of an undo of a batch of that file.
+// Returns the report of an undo. `file` is the file of the batch that was undone.
 fn report_of(
     alloc: Global,
     job: &Job<'_>,
     shape: Shape,
     file: &str,
     undone: Undone,
-) -> Result<Report, AllocError> {
+) -> Result<UndoReport, AllocError> {
     let names = [file];
     let reading = job.reading(shape.style);
     let refusals = refusals_text(alloc, names.as_slice(), reading.scale, &undone.refusals)?;
-    Ok(Report {
+    Ok(UndoReport {
         refusals,
         status: if undone.refusals.is_empty() {
             DONE
         } else {
             DENIED
         },
-        said: undone.said,
+        message: undone.message,
     })
 }
 
-/// Takes the batch back in an open database, and returns what is written of that.
+/// Takes the batch back in an open database, and returns the report.
 ///
 /// # Errors
 ///
@@ -210,7 +210,7 @@ pub fn undo_in<'a, D: Alter, S: BuildHasher + Drop, G: Stages>(
     job: &Job<'a>,
     shape: Shape,
     conn: &mut Connection<D>,
-) -> Result<Report, Trouble<'a>> {
+) -> Result<UndoReport, Trouble<'a>> {
     stages.begin(Stage::Reading);
     let found = found_in(alloc, conn, job, shape)?;
     let undone = take_back_in(alloc, state, stages, job, shape, conn, &found)?;

@@ -1,7 +1,6 @@
-//! A stock that isn't kept: a call without a database. Which files are read and entered is decided here, so the clauses hold whatever the files
-//! contain.
+//! A stock that isn't kept: a call without a database. Files are read through `Inputs`, so the clauses hold for any bytes.
 ghost use Rattle.std.specs.Prelude.{◌≡◌, ◌↔◌, None, true, IfOk, OnOk};
-ghost use Rattle.hashbag_ledger_db.specs.Unkept.{EntersFileOf, EntersFiles, IsBegunFrom, IsEnteredOf, IsStartOf, has_refusal, status_with};
+ghost use Rattle.hashbag_ledger_db.specs.Unkept.{EntersFileOf, EntersFiles, IsBegunFrom, IsEnteredOf, IsStartOf, has_refused, status_with};
 
 use hashbag_csv::counts::read_counts_as;
 use hashbag_csv::fault::in_file;
@@ -19,7 +18,7 @@ use std::hash::BuildHasher;
 
 /// What a call writes.
 #[derive(Drop)]
-pub struct Report {
+pub struct UnkeptReport {
     /// The refusals.
     pub refusals: Vec<u8>,
     /// The balance; `None` if none is written.
@@ -30,7 +29,7 @@ pub struct Report {
     pub entered: Entered<String>,
 }
 
-// Reads the stock at the beginning, which is empty if no file is named.
+// Reads the opening stock, which is empty if no file is named.
 fn start_of<'a, I: Inputs>(
     alloc: Global,
     inputs: &I,
@@ -47,7 +46,7 @@ fn start_of<'a, I: Inputs>(
     Ok(in_start(alloc, file, start)?)
 }
 
-// Returns the ledger of the stock at the beginning.
+// Returns the ledger of the opening stock.
 fn ledger_of<'a, I: Inputs, S: BuildHasher + Drop>(
     alloc: Global,
     state: S,
@@ -59,7 +58,7 @@ fn ledger_of<'a, I: Inputs, S: BuildHasher + Drop>(
     let start = start_of(alloc, inputs, settings)?;
     match Ledger::begin(alloc, state, usize::MAX, start) {
         Ok(ledger) => Ok(ledger),
-        // The stock at the beginning isn't too large: that was checked when it was read.
+        // The opening stock isn't too large: that was checked when it was read.
         Err(_) => Err(Trouble::Memory),
     }
 }
@@ -96,7 +95,7 @@ fn enter_files<'a, I: Inputs, S: BuildHasher + Drop>(
     Ok(())
 }
 
-// Enters the movements of all files into the stock at the beginning.
+// Enters the movements of all files into the opening stock.
 fn entered_of<'a, I: Inputs, S: BuildHasher + Drop>(
     alloc: Global,
     state: S,
@@ -110,7 +109,7 @@ fn entered_of<'a, I: Inputs, S: BuildHasher + Drop>(
     Ok(end(alloc, ledger)?)
 }
 
-// Returns the text of the refusals: of the first one alone, if that is asked for.
+// Returns the text of the refusals. With `--strict`, only the first refusal is in the text.
 fn refused_text(
     alloc: Global,
     settings: &Settings<'_>,
@@ -137,7 +136,7 @@ fn left_text(
     settings: &Settings<'_>,
     entered: &Entered<String>,
 ) -> Result<Option<Vec<u8>>, AllocError>
-    ensures { IfOk result (λ text. text ≡ None ↔ (settings.now.strict ≡ true) × (has_refusal entered.now ≡ true)) }
+    ensures { IfOk result (λ text. text ≡ None ↔ (settings.now.strict ≡ true) × (has_refused entered.now ≡ true)) }
 {
     if settings.strict && is_refused(entered) {
         return Ok(None);
@@ -148,7 +147,7 @@ fn left_text(
 
 // Returns whether there is a refusal.
 fn is_refused(entered: &Entered<String>) -> bool
-    ensures { result ≡ has_refusal entered.now }
+    ensures { result ≡ has_refused entered.now }
 {
     entered.refusals.len() > 0
 }
@@ -160,8 +159,8 @@ fn status_of(entered: &Entered<String>) -> u8
     if is_refused(entered) { DENIED } else { DONE }
 }
 
-/// Enters the movements of all files that are named into the stock at the beginning, and returns what is to be written. The text of a file is
-/// dropped before the next one is read.
+/// Enters the movements of all named files into the opening stock, and returns the texts to write. The text of a file is dropped before the
+/// next one is read.
 ///
 /// # Errors
 ///
@@ -171,8 +170,8 @@ pub fn enter_unkept<'a, I: Inputs, S: BuildHasher + Drop>(
     state: S,
     inputs: &I,
     settings: &Settings<'a>,
-) -> Result<Report, Trouble<'a>>
-    // All movements of all files that are named come, in turn, to the stock at the beginning.
+) -> Result<UnkeptReport, Trouble<'a>>
+    // The entered movements are those of all named files, in turn, on top of the opening stock.
     ensures entered { IfOk result (λ report. IsEnteredOf (I.gives inputs.now) settings.now report.entered) }
 
     // The status is 1 exactly if a movement is refused.
@@ -182,7 +181,7 @@ pub fn enter_unkept<'a, I: Inputs, S: BuildHasher + Drop>(
     ensures denied { IfOk result (λ report. report.balance ≡ None ↔ (settings.now.strict ≡ true) × (report.status ≡ 1)) }
 {
     let entered = entered_of(alloc, state, inputs, settings)?;
-    Ok(Report {
+    Ok(UnkeptReport {
         refusals: refused_text(alloc, settings, entered.refusals.as_slice())?,
         balance: left_text(alloc, settings, &entered)?,
         status: status_of(&entered),

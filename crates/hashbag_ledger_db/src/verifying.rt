@@ -37,7 +37,7 @@ fn wrong_article(
     Ok(Some(format!(in alloc; "\"{article}\": {stored} kept, {counted} by the movements")?))
 }
 
-// Returns the first row that isn't as it was written, or isn't what the movements make.
+// Returns a message about the first row that isn't as it was written, or isn't what the movements make.
 fn wrong_row(
     alloc: Global,
     reading: Reading,
@@ -48,8 +48,8 @@ fn wrong_row(
     extras: &[Extra],
     booked: Booked<String>,
 ) -> Result<Option<String>, AllocError> {
-    if let Some(said) = wrong_article(alloc, reading, balance, &booked.balance)? {
-        return Ok(Some(said));
+    if let Some(message) = wrong_article(alloc, reading, balance, &booked.balance)? {
+        return Ok(Some(message));
     }
     if shape.is_sealed
         && let Some(number) = wrong_seal(
@@ -72,7 +72,7 @@ fn wrong_row(
     }
 }
 
-// Returns what is said if the total is too large with the movement of this number.
+// Returns the message that the total passes the maximum with the movement of this number.
 fn past_the_most(alloc: Global, reading: Reading, number: usize) -> Result<String, AllocError> {
     let most = write_decimal(alloc, MOST, reading.scale)?;
     format!(in alloc; "movement {number}: total past {most}")
@@ -109,13 +109,13 @@ fn difference_of<'a, S: BuildHasher + Drop>(
     }
 }
 
-// Returns a number with its noun, which ends in `ending` unless it is 1.
+// Returns a number with its noun. The noun ends in `ending` unless the number is 1.
 fn counted(alloc: Global, number: usize, noun: &str, ending: &str) -> Result<String, AllocError> {
     let ending = if number == 1 { "" } else { ending };
     format!(in alloc; "{number} {noun}{ending}")
 }
 
-// Returns what is said of a stock that agrees.
+// Returns the message about a stock that agrees with its movements.
 fn agreement(
     alloc: Global,
     batches: usize,
@@ -135,10 +135,10 @@ fn agreement(
     )
 }
 
-/// What is said of a stock: that it agrees, or the first way in which it doesn't.
+/// The message about a stock: that it agrees with its movements, or the first way in which it doesn't.
 #[derive(Drop)]
 pub enum Verdict {
-    /// The balance, the refusals and the seals are those of the movements.
+    /// The balance, the refusals and the seals agree with the movements.
     Agrees(String),
     /// The first difference.
     Differs(String),
@@ -161,7 +161,7 @@ pub fn verify_in<'a, D: Alter, S: BuildHasher + Drop, G: Stages>(
     stages.begin(Stage::Reading);
     let kept = in_database(alloc, db, everything_of(alloc, conn, shape))?;
     stages.begin(Stage::Booking(kept.movements.len()));
-    let said = agreement(
+    let message = agreement(
         alloc,
         kept.batches.len(),
         kept.movements.len(),
@@ -170,6 +170,6 @@ pub fn verify_in<'a, D: Alter, S: BuildHasher + Drop, G: Stages>(
     )?;
     match difference_of(alloc, state, kept, job.reading(shape.style))? {
         Some(what) => Ok(Verdict::Differs(format!(in alloc; "{db}: {what}\n")?)),
-        None => Ok(Verdict::Agrees(said)),
+        None => Ok(Verdict::Agrees(message)),
     }
 }

@@ -21,7 +21,7 @@ fn last_of(batches: &[Batch]) -> Option<&Batch> {
     last
 }
 
-// Returns the last batch of a file that wasn't undone, or else its first.
+// Returns the last batch of a file that wasn't undone. If all were undone, returns the first.
 fn batch_of_file<'b>(batches: &'b [Batch], file: &str) -> Option<&'b Batch> {
     let mut found = None;
     for batch in batches {
@@ -40,7 +40,8 @@ fn base_of(path: &str) -> &str {
     path.rsplit_once('/').map_or(path, |parts| parts.1)
 }
 
-// Returns how many batches, of those that are no undo and weren't undone, have a file with the same last component; and the last of them.
+// Of the batches that are no undo and weren't undone, finds those whose file has the same last component. Returns how many there are, and the
+// last one.
 fn near_to<'b>(batches: &'b [Batch], file: &str) -> (usize, Option<&'b Batch>) {
     let (mut count, mut last) = (0usize, None);
     for batch in batches {
@@ -57,7 +58,8 @@ fn is_bare(path: &str) -> bool {
     base_of(path) == path.strip_prefix("./").unwrap_or(path)
 }
 
-// Returns the batch of a file: of its name, or the only one whose file has the same last component, if one of both names has no folder.
+// Returns the batch of the file of this name. If there is none, returns the only batch whose file has the same last component, if this name or
+// the name of that file has no folder.
 fn batch_named<'a, 'b>(
     alloc: Global,
     db: &str,
@@ -83,7 +85,7 @@ pub(crate) fn wanted_of<'a, 'b>(
     job: &Job<'a>,
     batches: &'b [Batch],
 ) -> Result<&'b Batch, Trouble<'a>> {
-    let (wanted, name) = match job.batch {
+    let (wanted, name) = match job.wanted_batch {
         None => (last_of(batches), "to undo"),
         Some(name) => match name.parse::<i64>() {
             Ok(number) => (batch_of(batches, number), name),

@@ -5,7 +5,7 @@ use Rattle.std.proofs.Math.Seq.{take-nil}
 use Rattle.hashbag_ledger_lib.specs.declared.movements.Movement.{Movement}
 use Rattle.hashbag_ledger_lib.specs.declared.movements.Place.{Place}
 use Rattle.hashbag_ledger_lib.specs.declared.movements.Refusal.{Refusal}
-use Rattle.hashbag_csv.specs.Quantities.{numbers, quantity}
+use Rattle.hashbag_csv.specs.Quantities.{number_sum, quantity}
 use Rattle.hashbag_ledger_lib.specs.Ledger.{coming, going, total_after, stock_of, came, went, asks_too_much, entered_after, refused_after, refusal, entered_of, ChangesStock, RefusesMovement}
 use Rattle.hashbag_ledger_lib.specs.Settled.{listed, IsPastWithin, IsAfter}
 use Rattle.hashbag_ledger_lib.proofs.LedgerLemmas.{SoFar, entered_more, one_entered, one_refused, leaves}
@@ -41,7 +41,7 @@ module _ {T : Type 0} (eq : T → T → Bool) where
 
   module _ {L : List (T × ℕ)} {ms : List (Movement T)} {refused : List (Refusal T)} {items : List T} {most : ℕ} (m : Movement T) (h : IsAfter eq L ms refused items most) where
     -- these have come, and one is to come
-    comes : SoFar eq (listed eq L) (numbers L) (ms ++ m ∷ []) (m ∷ []) refused (length items) (stock_of eq items)
+    comes : SoFar eq (listed eq L) (number_sum L) (ms ++ m ∷ []) (m ∷ []) refused (length items) (stock_of eq items)
     comes = record {
       gone = ms;
       in_turn = refl;
@@ -50,7 +50,7 @@ module _ {T : Type 0} (eq : T → T → Bool) where
       entered_in_all = sym (entered_more eq (listed eq L) [] ms m);
       refused_in_all = (λ i. h.refusals i ++ refused_after eq (listed eq L) (entered_of eq (listed eq L) ms) (m ∷ [])) ∙ sym (refused_more (listed eq L) [] ms m);
       counts = h.leaves.counts;
-      never = h.leaves.never;
+      never_below_zero = h.leaves.never_below_zero;
       total_is = h.total;
     }
 
@@ -66,18 +66,18 @@ module _ {T : Type 0} (eq : T → T → Bool) where
       })
       | inr same ↦
           let total = h.total in
-          let over : most < total_after (numbers L) (entered_of eq (listed eq L) ms) + coming m.change = subst (λ (x : Movement T). most < total_after (numbers L) (entered_of eq (listed eq L) ms) + coming x.change) same.1
-          (subst (λ (b : List (Movement T)). most < total_after (numbers L) (entered_of eq (listed eq L) b) + coming past.movement.change) same.0 past.over) in
+          let over : most < total_after (number_sum L) (entered_of eq (listed eq L) ms) + coming m.change = subst (λ (x : Movement T). most < total_after (number_sum L) (entered_of eq (listed eq L) ms) + coming x.change) same.1
+          (subst (λ (b : List (Movement T)). most < total_after (number_sum L) (entered_of eq (listed eq L) b) + coming past.movement.change) same.0 past.over) in
           omega arith
     ]
 
   -- what SoFar says of movements that have all come
-  is_after : {L : List (T × ℕ)} {ms : List (Movement T)} {refused : List (Refusal T)} {items : List T} {most : ℕ} → SoFar eq (listed eq L) (numbers L) ms [] refused (length items) (stock_of eq items)
+  is_after : {L : List (T × ℕ)} {ms : List (Movement T)} {refused : List (Refusal T)} {items : List T} {most : ℕ} → SoFar eq (listed eq L) (number_sum L) ms [] refused (length items) (stock_of eq items)
       → ((p : Place) → ¬ (IsPastWithin eq most L ms p)) → IsAfter eq L ms refused items most
   is_after {L = L} {ms = ms} {refused = refused} {items = items} h fit = record {
     leaves = leaves eq (listed eq L) h;
     refusals = sym (append-nil refused) ∙ h.refused_in_all;
-    total = subst (λ (E : List (Movement T)). length items + sum_by (λ (m : Movement T). going m.change) E ≡ numbers L + sum_by (λ (m : Movement T). coming m.change) E) h.entered_in_all h.total_is;
+    total = subst (λ (E : List (Movement T)). length items + sum_by (λ (m : Movement T). going m.change) E ≡ number_sum L + sum_by (λ (m : Movement T). coming m.change) E) h.entered_in_all h.total_is;
     fit = fit;
   }
 
@@ -104,7 +104,7 @@ module _ {T : Type 0} (eq : T → T → Bool) where
       }
 
   -- none has come: the stock is that of the list
-  pub after_none : (L : List (T × ℕ)) (items : List T) (most : ℕ) → ((v : T) → stock_of eq items v ≡ quantity eq v L) → length items ≡ numbers L → IsAfter eq L [] [] items most
+  pub after_none : (L : List (T × ℕ)) (items : List T) (most : ℕ) → ((v : T) → stock_of eq items v ≡ quantity eq v L) → length items ≡ number_sum L → IsAfter eq L [] [] items most
   after_none L items most same long = is_after (record {
     gone = [];
     in_turn = refl;
@@ -113,7 +113,7 @@ module _ {T : Type 0} (eq : T → T → Bool) where
     entered_in_all = refl;
     refused_in_all = refl;
     counts = λ v. let now = same v in omega arith;
-    never = λ k v. subst (λ (l : List (Movement T)). went eq v l ≤ listed eq L v + came eq v l) (sym (take-nil k)) (omega arith);
+    never_below_zero = λ k v. subst (λ (l : List (Movement T)). went eq v l ≤ listed eq L v + came eq v l) (sym (take-nil k)) (omega arith);
     total_is = omega arith;
   })
       (λ p past.

@@ -90,7 +90,7 @@ module _ {T : Type 0} (eq : T → T → Bool) where
     first = entered_of eq start before
 
     within_first : (v : T) → went eq v first ≤ start v + came eq v first
-    within_first v = subst (λ (l : List (Movement T)). went eq v l ≤ start v + came eq v l) (take-length first) (were.never (length first) v)
+    within_first v = subst (λ (l : List (Movement T)). went eq v l ≤ start v + came eq v l) (take-length first) (were.never_below_zero (length first) v)
 
     held_is : listed eq held ≡ in_the_end eq start before
     held_is = λ i v. were.counts v i
@@ -116,7 +116,7 @@ module _ {T : Type 0} (eq : T → T → Bool) where
                 let two = then.conserved v in
                 let joint = were.counts v in
                 omega arith);
-            never = subst (λ (l : List (Movement T)). IsNeverBelowZero eq start l) (sym entered_is) (never_onwards start first within_first were.never second then.never);
+            never_below_zero = subst (λ (l : List (Movement T)). IsNeverBelowZero eq start l) (sym entered_is) (never_onwards start first within_first were.never_below_zero second then.never_below_zero);
           };
           refused =
               let is : refusals ≡ refused_of eq (in_the_end eq start before) batch = refused ∙ ap (λ (s : T → ℕ). refused_of eq s batch) held_is in

@@ -142,11 +142,11 @@ module _ (v : List ℕ) (L M N O : List (String Global × ℕ)) (one : Without v
   made cs are was w true same is =
       let text : w ≡ v = (bytes_decides w v).0 same in
       subst (λ (u : List ℕ). applied u cs was ≡ number_in u M) (sym text) (untouched v cs was (changes_above cs are.needed) ∙ is)
-  made cs are was w false other is = ap (applied w cs) (one.others w other) ∙ are.makes w ∙ sym (two.others w other)
+  made cs are was w false other is = ap (applied w cs) (one.others w other) ∙ are.turns w ∙ sym (two.others w other)
 
   kept : number_in v L ≡ number_in v M → (cs : List RowChange) → AreChanges N O cs → AreChanges L M cs
   kept same cs are = record {
-    makes = λ w. at w (bytes_eq w v) refl;
+    turns = λ w. at w (bytes_eq w v) refl;
     rising = are.rising;
     needed = still_needed cs are.needed;
   }
@@ -159,7 +159,7 @@ module _ (v : List ℕ) (L M N O : List (String Global × ℕ)) (one : Without v
   put : (c : RowChange) → string_bytes (article_of c) ≡ v → number_in v L ≢ number_in v M → new_number c ≡ number_in v M → (cs : List RowChange) → AreChanges N O cs → AreChanges L M (c ∷ cs)
   unfolding IsStrictlySortedBy
   put c text differ is cs are = record {
-    makes = λ w. made cs are (new_number c) w (bytes_eq w (string_bytes (article_of c))) (ap (bytes_eq w) (sym text)) is;
+    turns = λ w. made cs are (new_number c) w (bytes_eq w (string_bytes (article_of c))) (ap (bytes_eq w) (sym text)) is;
     rising = (subst (λ (u : List ℕ). Above u (map article_of cs)) (sym text) (changes_above cs are.needed), are.rising);
     needed = All-cons (Needed L M) c cs (subst (λ (u : List ℕ). number_in u L ≢ number_in u M) (sym text) differ) (still_needed cs are.needed);
   }
@@ -169,7 +169,7 @@ module _ (v : List ℕ) (L M N O : List (String Global × ℕ)) (one : Without v
 -- there are none
 pub none : AreChanges [] [] []
 unfolding IsStrictlySortedBy
-none = record { makes = λ v. refl; rising = tt; needed = All-nil (Needed [] []) }
+none = record { turns = λ v. refl; rising = tt; needed = All-nil (Needed [] []) }
 
 -- the first article of the balance before is in that one alone
 pub removed : (a : String Global) (e : String Global × ℕ) (before after L : List (String Global × ℕ)) → before ≡ e ∷ L → string_bytes a ≡ string_bytes e.0 → IsBefore (string_bytes e.0) after → Begins before after (Remove a ∷ []) L after

@@ -1,7 +1,7 @@
 -- A copy of a balance: movements do the same to both, since they have the same rows.
 use Rattle.std.proofs.Common.{◌≡◌, ℕ, List, [], ◌∷◌, sum_by, cond, bytes_eq, string_bytes, string_eq, string_cmp, String, Global, refl, sym, ◌∙◌, ap, subst, subst₂, ◌+◌}
 use Rattle.std.proofs.lemmas.List.Sums.{sum_by-cons}
-use Rattle.hashbag_csv.specs.Quantities.{numbers, quantity, IsBalance}
+use Rattle.hashbag_csv.specs.Quantities.{number_sum, quantity, IsBalance}
 use Rattle.hashbag_ledger_lib.specs.declared.movements.Entry.{Entry}
 use Rattle.hashbag_ledger_lib.specs.declared.movements.Movement.{Movement}
 use Rattle.hashbag_ledger_lib.specs.declared.movements.Place.{Place}
@@ -24,7 +24,7 @@ all_in rows = sum_by (λ (r : List ℕ × ℕ). r.1) rows
 abbrev of_bytes : List ℕ → List ℕ × ℕ → ℕ
 of_bytes v r = cond (bytes_eq v r.0) r.1 0
 
-numbers_of_rows : (L : Articles) → all_in (rows_of L) ≡ numbers L
+numbers_of_rows : (L : Articles) → all_in (rows_of L) ≡ number_sum L
 numbers_of_rows [] = refl
 numbers_of_rows (e ∷ L) =
     sum_by-cons (λ (r : List ℕ × ℕ). r.1) (row e) (rows_of L)
@@ -39,7 +39,7 @@ quantity_of_rows v (e ∷ L) =
     ∙ sym (sum_by-cons (λ (x : String Global × ℕ). cond (string_eq v x.0) x.1 0) e L)
 
 module _ (L M : Articles) (same : rows_of L ≡ rows_of M) where
-  pub numbers_same : numbers L ≡ numbers M
+  pub numbers_same : number_sum L ≡ number_sum M
   numbers_same = sym (numbers_of_rows L) ∙ ap all_in same ∙ numbers_of_rows M
 
   pub listed_same : listed string_eq L ≡ listed string_eq M
@@ -64,9 +64,9 @@ module _ (L M : Articles) (same : rows_of L ≡ rows_of M) where
   pub undo_same : (batch : List (Movement (String Global))) (u : Undo (String Global)) → IsUndo string_eq string_cmp (listed string_eq L) batch u → IsUndo string_eq string_cmp (listed string_eq M) batch u
   undo_same batch u is = subst (λ (s : String Global → ℕ). IsUndo string_eq string_cmp s batch u) listed_same is
 
-  pub each_same : (batch : List (Movement (String Global))) (u : Undo (String Global)) → EntersOrRefuses string_eq L batch u → EntersOrRefuses string_eq M batch u
-  each_same batch (Done booked) is = is ∙ ap (λ (s : String Global → ℕ). entries_of string_eq s (opposites_of batch)) listed_same
-  each_same batch (Refused refusals) is = is ∙ ap (λ (s : String Global → ℕ). refused_of string_eq s (opposites_of batch)) listed_same
+  pub entries_same : (batch : List (Movement (String Global))) (u : Undo (String Global)) → EntersOrRefuses string_eq L batch u → EntersOrRefuses string_eq M batch u
+  entries_same batch (Done booked) is = is ∙ ap (λ (s : String Global → ℕ). entries_of string_eq s (opposites_of batch)) listed_same
+  entries_same batch (Refused refusals) is = is ∙ ap (λ (s : String Global → ℕ). refused_of string_eq s (opposites_of batch)) listed_same
 
 -- the rows that an undo leaves are in ascending order
 pub undo_rises : (stock : String Global → ℕ) (batch : List (Movement (String Global))) (u : Undo (String Global)) → IsUndo string_eq string_cmp stock batch u → HasRisingRows u

@@ -10,7 +10,7 @@ use Rattle.std.specs.Map.{keys_of}
 use Rattle.std.specs.Ordering.{nat_cmp}
 use Rattle.std.specs.String.{string_bytes}
 use Rattle.hashbag_csv.specs.Quantities.{quantity, IsBalance}
-use Rattle.hashbag_ledger_lib.specs.Dated.{came_of, count_of, counted, counts_at, moved, named, named_sum, net, went_of, Dated, HasSumsOf, IsBalanceAt, IsNetOf}
+use Rattle.hashbag_ledger_lib.specs.Dated.{came_of, count_of, counting_by, counts_at, moved, with_bytes, named_sum, net, went_of, Dated, HasSumsOf, IsBalanceAt, IsNetOf}
 use Rattle.hashbag_ledger_lib.specs.Ledger.{coming, going}
 use Rattle.hashbag_ledger_lib.specs.Numbers.{size}
 use Rattle.hashbag_ledger_lib.specs.declared.dated.Part.{Part}
@@ -20,33 +20,33 @@ use Rattle.hashbag_ledger_lib.specs.declared.movements.Change.TheVariants.{In, O
 use Rattle.hashbag_ledger_lib.specs.declared.movements.Movement.{Movement}
 
 module _ (date : List ℕ) (e : Dated) (part : Part) (xs : List (Bor (List ℕ) × ℕ)) where
-  counted_next : (es : List Dated) → counted date (e ∷ es) ≡ counted date (e ∷ []) ++ counted date es
-  counted_next es = by_case (counts_at date e)
+  counting_next : (es : List Dated) → counting_by date (e ∷ es) ≡ counting_by date (e ∷ []) ++ counting_by date es
+  counting_next es = by_case (counts_at date e)
     where
-      by_case : (b : Bool) → cond b (e.0.movement ∷ counted date es) (counted date es) ≡ cond b (e.0.movement ∷ []) [] ++ counted date es
+      by_case : (b : Bool) → cond b (e.0.movement ∷ counting_by date es) (counting_by date es) ≡ cond b (e.0.movement ∷ []) [] ++ counting_by date es
       by_case true = refl
       by_case false = refl
 
   -- it counts
-  pub pushed_one : (ys : List (Bor (List ℕ) × ℕ)) (x : Bor (List ℕ) × ℕ) → counts_at date e ≡ true → ys ≡ xs ++ x ∷ [] → named x ≡ moved part e.0.movement
-      → map named ys ≡ map named xs ++ map (moved part) (counted date (e ∷ []))
+  pub pushed_one : (ys : List (Bor (List ℕ) × ℕ)) (x : Bor (List ℕ) × ℕ) → counts_at date e ≡ true → ys ≡ xs ++ x ∷ [] → with_bytes x ≡ moved part e.0.movement
+      → map with_bytes ys ≡ map with_bytes xs ++ map (moved part) (counting_by date (e ∷ []))
   pushed_one ys x counts is same =
-      ap (map named) is ∙ map-append named xs (x ∷ []) ∙ ap (λ (r : List ℕ × ℕ). map named xs ++ r ∷ []) same
-      ∙ ap (λ (b : Bool). map named xs ++ map (moved part) (cond b (e.0.movement ∷ []) [])) (sym counts)
+      ap (map with_bytes) is ∙ map-append with_bytes xs (x ∷ []) ∙ ap (λ (r : List ℕ × ℕ). map with_bytes xs ++ r ∷ []) same
+      ∙ ap (λ (b : Bool). map with_bytes xs ++ map (moved part) (cond b (e.0.movement ∷ []) [])) (sym counts)
 
   -- it doesn't
-  pub pushed_none : counts_at date e ≡ false → map named xs ≡ map named xs ++ map (moved part) (counted date (e ∷ []))
-  pushed_none counts = sym (append-nil (map named xs)) ∙ ap (λ (b : Bool). map named xs ++ map (moved part) (cond b (e.0.movement ∷ []) [])) (sym counts)
+  pub pushed_none : counts_at date e ≡ false → map with_bytes xs ≡ map with_bytes xs ++ map (moved part) (counting_by date (e ∷ []))
+  pushed_none counts = sym (append-nil (map with_bytes xs)) ∙ ap (λ (b : Bool). map with_bytes xs ++ map (moved part) (cond b (e.0.movement ∷ []) [])) (sym counts)
 
   -- one entry less is left
   pub next_moved : (all : List (List ℕ × ℕ)) (ys : List (Bor (List ℕ) × ℕ)) (es : List Dated)
-      → map named xs ++ map (moved part) (counted date (e ∷ es)) ≡ all
-      → map named ys ≡ map named xs ++ map (moved part) (counted date (e ∷ []))
-      → map named ys ++ map (moved part) (counted date es) ≡ all
+      → map with_bytes xs ++ map (moved part) (counting_by date (e ∷ es)) ≡ all
+      → map with_bytes ys ≡ map with_bytes xs ++ map (moved part) (counting_by date (e ∷ []))
+      → map with_bytes ys ++ map (moved part) (counting_by date es) ≡ all
   next_moved all ys es whole pushed =
-      ap (λ (l : List (List ℕ × ℕ)). l ++ map (moved part) (counted date es)) pushed
-      ∙ append_assoc (map named xs) (map (moved part) (counted date (e ∷ []))) (map (moved part) (counted date es))
-      ∙ ap (λ (l : List (List ℕ × ℕ)). map named xs ++ l) (sym (map-append (moved part) (counted date (e ∷ [])) (counted date es)) ∙ ap (map (moved part)) (sym (counted_next es)))
+      ap (λ (l : List (List ℕ × ℕ)). l ++ map (moved part) (counting_by date es)) pushed
+      ∙ append_assoc (map with_bytes xs) (map (moved part) (counting_by date (e ∷ []))) (map (moved part) (counting_by date es))
+      ∙ ap (λ (l : List (List ℕ × ℕ)). map with_bytes xs ++ l) (sym (map-append (moved part) (counting_by date (e ∷ [])) (counting_by date es)) ∙ ap (map (moved part)) (sym (counting_next es)))
       ∙ whole
 
 -- ---- sums
@@ -90,11 +90,11 @@ both_is v (m ∷ ms) =
     omega arith
 
 -- how many a bag of a list has
-pub sum_named : (v : Bor (List ℕ)) (L : List (Bor (List ℕ) × ℕ)) → quantity (λ x y. bytes_eq x.now y.now) v L ≡ named_sum v.now (map named L)
+pub sum_named : (v : Bor (List ℕ)) (L : List (Bor (List ℕ) × ℕ)) → quantity (λ x y. bytes_eq x.now y.now) v L ≡ named_sum v.now (map with_bytes L)
 sum_named v [] = refl
 sum_named v (e ∷ L) =
     let here = sum_by-cons (λ (x : Bor (List ℕ) × ℕ). cond (bytes_eq v.now x.0.now) x.1 0) e L in
-    let rows = sum_by-cons (of_row v.now) (named e) (map named L) in
+    let rows = sum_by-cons (of_row v.now) (with_bytes e) (map with_bytes L) in
     let later = sum_named v L in
     omega arith
 
@@ -107,14 +107,14 @@ key_within L e there =
     (there.0, omega arith, get_or-map (λ x. x.0) L there.0 e e.0 below ∙ ap (λ (x : Bor (List ℕ) × ℕ). x.0) there.2)
 
 module _ (date : List ℕ) (es : List Dated) where
-  abbrev all_counted : List (Movement (String Global))
-  all_counted = counted date es
+  abbrev all_counting : List (Movement (String Global))
+  all_counting = counting_by date es
 
   -- a bag whose list has what these movements move
   abbrev IsOf : Part → List (Bor (List ℕ)) → List (Bor (List ℕ) × ℕ) → Type 0
-  IsOf part items list = HasSumsOf list items × (map named list ≡ map (moved part) all_counted)
+  IsOf part items list = HasSumsOf list items × (map with_bytes list ≡ map (moved part) all_counting)
 
-  by_list : (part : Part) (items : List (Bor (List ℕ))) (list : List (Bor (List ℕ) × ℕ)) → IsOf part items list → (v : Bor (List ℕ)) → count_of v items ≡ named_sum v.now (map (moved part) all_counted)
+  by_list : (part : Part) (items : List (Bor (List ℕ))) (list : List (Bor (List ℕ) × ℕ)) → IsOf part items list → (v : Bor (List ℕ)) → count_of v items ≡ named_sum v.now (map (moved part) all_counting)
   by_list part items list h v = h.0 v ∙ ap (named_sum v.now) h.1
 
   pub is_balance : (came went all : List (Bor (List ℕ))) (c w a articles : List (Bor (List ℕ) × ℕ)) (rows : List (Bor (List ℕ) × Change))
@@ -124,13 +124,13 @@ module _ (date : List ℕ) (es : List Dated) where
   is_balance came went all c w a articles rows is_came is_went is_all balance keys nets = record {
     numbers = λ k d within.
         let r = get_or rows k d in
-        let came_to = by_list Came came c is_came r.0 ∙ came_is r.0.now all_counted in
-        let went_to = by_list Went went w is_went r.0 ∙ went_is r.0.now all_counted in
+        let came_to = by_list Came came c is_came r.0 ∙ came_is r.0.now all_counting in
+        let went_to = by_list Went went w is_went r.0 ∙ went_is r.0.now all_counting in
         nets k d within ∙ (λ i. net (came_to i) (went_to i));
     rising = subst (λ (ks : List (Bor (List ℕ))). IsStrictlySortedBy (λ x y. slice_cmp nat_cmp x.now y.now) ks) (sym keys) balance.rising;
     each = λ v some.
         let b : Bor (List ℕ) = record { ref_ptr = (0, 0); now = v } in
-        let there : count_of b all ≡ came_of v all_counted + went_of v all_counted = by_list Both all a is_all b ∙ both_is v all_counted in
+        let there : count_of b all ≡ came_of v all_counting + went_of v all_counting = by_list Both all a is_all b ∙ both_is v all_counting in
         let (e, within, same) = balance.each b (subst (λ (n : ℕ). 0 < n) (sym there) some) in
         (e.0, subst (λ (ks : List (Bor (List ℕ))). Contains ks e.0) (sym keys) (key_within articles e within), same);
   }

@@ -66,7 +66,7 @@ module _ {T : Type 0} (eq : T → T → Bool) (start : T → ℕ) where
     pub entered_in_all : entered_after eq start entered to_come ≡ entered_of eq start all
     pub refused_in_all : refusals ++ refused_after eq start entered to_come ≡ refused_of eq start all
     pub counts : (v : T) → stock v ≡ there eq start entered v
-    pub never : IsNeverBelowZero eq start entered
+    pub never_below_zero : IsNeverBelowZero eq start entered
     pub total_is : total_now + sum_by (λ (m : Movement T). going m.change) entered ≡ total + sum_by (λ (m : Movement T). coming m.change) entered
 
   pub one_entered : {total now then : ℕ} {all to_come : List (Movement T)} {m : Movement T} {refusals : List (Refusal T)} {before after : T → ℕ} → SoFar total all (m ∷ to_come) refusals now before
@@ -86,8 +86,8 @@ module _ {T : Type 0} (eq : T → T → Bool) (start : T → ℕ) where
         entered_is = entered_more [] h.gone m ∙ ap (λ (l : List (Movement T)). entered_after eq start l (m ∷ [])) h.entered_is ∙ ap (λ (b : Bool). cond b E (E ++ m ∷ [])) fits;
         entered_in_all = ap (λ (b : Bool). entered_after eq start (cond b E (E ++ m ∷ [])) to_come) (sym fits) ∙ h.entered_in_all;
         refused_in_all = ap (λ (b : Bool). refusals ++ cond b (refusal eq start E m ∷ refused_after eq start E to_come) (refused_after eq start (E ++ m ∷ []) to_come)) (sym fits) ∙ h.refused_in_all;
-        counts = there_more E m h.never before after h.counts changes;
-        never = never_more E m h.never before after h.counts changes;
+        counts = there_more E m h.never_below_zero before after h.counts changes;
+        never_below_zero = never_more E m h.never_below_zero before after h.counts changes;
         total_is = omega arith;
       }
 
@@ -108,7 +108,7 @@ module _ {T : Type 0} (eq : T → T → Bool) (start : T → ℕ) where
         refused_in_all = append_assoc refusals (r ∷ []) (refused_after eq start E to_come) ∙ (λ i. refusals ++ refused i ∷ refused_after eq start E to_come)
             ∙ ap (λ (b : Bool). refusals ++ cond b (refusal eq start E m ∷ refused_after eq start E to_come) (refused_after eq start (E ++ m ∷ []) to_come)) (sym too_much) ∙ h.refused_in_all;
         counts = h.counts;
-        never = h.never;
+        never_below_zero = h.never_below_zero;
         total_is = h.total_is;
       }
 
@@ -116,7 +116,7 @@ module _ {T : Type 0} (eq : T → T → Bool) (start : T → ℕ) where
   module _ {total now : ℕ} {all : List (Movement T)} {refusals : List (Refusal T)} {stock : T → ℕ} (h : SoFar total all [] refusals now stock) where
     pub leaves : Leaves eq start all stock
     leaves =
-        let never : IsNeverBelowZero eq start (entered_of eq start all) = subst (λ (E : List (Movement T)). IsNeverBelowZero eq start E) h.entered_in_all h.never in
+        let never : IsNeverBelowZero eq start (entered_of eq start all) = subst (λ (E : List (Movement T)). IsNeverBelowZero eq start E) h.entered_in_all h.never_below_zero in
         let counts : (v : T) → stock v ≡ there eq start (entered_of eq start all) v = λ v. h.counts v ∙ ap (λ (E : List (Movement T)). there eq start E v) h.entered_in_all in
         record {
           counts = counts;
@@ -124,5 +124,5 @@ module _ {T : Type 0} (eq : T → T → Bool) (start : T → ℕ) where
               let now = counts v in
               let within = at_end (entered_of eq start all) never v in
               omega arith;
-          never = never;
+          never_below_zero = never;
         }

@@ -1,4 +1,4 @@
--- Clauses about booked movements. They hold for any list L that the stock began as, and for any earlier movements ms.
+-- Clauses about booked movements. They hold for any list L that the stock had at the beginning, and for any earlier movements ms.
 use Rattle.std.specs.Prelude.{ℕ, ◌++◌, List, [], ◌∷◌, String, string_cmp}
 use Rattle.std.specs.Global.{Global}
 use Rattle.std.specs.String.{string_eq}
@@ -34,8 +34,8 @@ BooksFirst stock ms booked = (L : List (String Global × ℕ)) → IsStockAfter 
 abbrev pub StockPassesLimitAmong : {S : Type 0} → Bag (String Global) S → List (Movement (String Global)) → Place → Type 0
 StockPassesLimitAmong stock ms place = (L : List (String Global × ℕ)) → IsStockAfter string_eq L [] stock → IsPastWithin string_eq stock.most L ms place
 
--- for any movements `before` that left the balance `kept`: the new balance, and the refusals of `before` followed by the new ones, are those of
--- all these movements entered as one batch
+-- for any movements `before` that left the balance `kept`: if these and the batch were entered as one batch, the balance would be the new
+-- balance, and the refusals would be the refusals of `before` followed by the new refusals
 abbrev pub ContinuesFrom : List (String Global × ℕ) → List (Movement (String Global)) → Booked (String Global) → Type 0
 ContinuesFrom kept batch booked =
     (start : String Global → ℕ) (before : List (Movement (String Global))) → Leaves string_eq start before (listed string_eq kept) → Continues string_eq string_cmp start before batch booked.balance.items (refusals_in booked.entries.items)

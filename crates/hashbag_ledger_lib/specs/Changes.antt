@@ -41,7 +41,7 @@ applied v (c ∷ cs) was = applied v cs (if bytes_eq v (string_bytes (article_of
 -- these changes turn the first balance into the second; their articles are in ascending order, and each has another number in the second
 -- balance
 pub record AreChanges (before after : List (String Global × ℕ)) (cs : List RowChange) : Type 0 where
-  pub makes : (v : List ℕ) → applied v cs (number_in v before) ≡ number_in v after
+  pub turns : (v : List ℕ) → applied v cs (number_in v before) ≡ number_in v after
   pub rising : IsStrictlySortedBy string_cmp (map article_of cs)
   pub needed : All (λ c. number_in (string_bytes (article_of c)) before ≢ number_in (string_bytes (article_of c)) after) cs
 

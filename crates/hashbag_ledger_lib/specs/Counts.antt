@@ -1,7 +1,8 @@
 -- A stock that is counted. The records of a count are movements into an empty stock, so the numbers of an article are added.
 use Rattle.std.specs.Prelude.{◌≡◌, ℕ, ◌+◌, ◌-◌, ◌^◌, if◌then◌else◌, nat_lt, Bool, List, [], ◌∷◌, ◌++◌, map, sum_by, String, string_bytes, string_cmp}
-use Rattle.std.specs.Global.{Global}
+use Rattle.std.specs.Global.{Global, Vec}
 use Rattle.std.specs.String.{string_eq}
+use Rattle.hashbag.specs.Bag.{Bag}
 use Rattle.hashbag_ledger_lib.specs.declared.filing.Filed.{Filed}
 use Rattle.hashbag_ledger_lib.specs.declared.movements.Change.{Change}
 use Rattle.hashbag_ledger_lib.specs.declared.movements.Change.TheVariants.{In, Out}
@@ -53,15 +54,17 @@ module _ {T : Type 0} (eq : T → T → Bool) where
   abbrev pub NotesArticle : T → List T → List T → Type 0
   NotesArticle article old new = (v : T) → stock_of eq new v ≡ stock_of eq old v + (if eq v article then 1 else 0)
 
-  -- the difference of a record's article was appended, unless `noted` has the article
-  abbrev pub AppendsDifference : List T → List T → List T → Movement T → List (Movement T) → List (Movement T) → Type 0
-  AppendsDifference there counted noted m old new =
-      new ≡ old ++ (if nat_lt 0 (stock_of eq noted m.article) then [] else (record { place = m.place; article = m.article; change = change_to (stock_of eq there m.article) (stock_of eq counted m.article) }) ∷ [])
+module _ {S : Type 0} (there counted : Bag (String Global) S) where
+  -- the difference of a record's article was added at the end, unless `named` has the article
+  abbrev pub AddsDifference : Bag (String Global) S → Movement (String Global) → Vec (Movement (String Global)) → Vec (Movement (String Global)) → Type 0
+  AddsDifference named m old new =
+      new.items ≡ old.items ++ (if nat_lt 0 (stock_of string_eq named.items m.article) then [] else (record { place = m.place; article = m.article; change = change_to (stock_of string_eq there.items m.article) (stock_of string_eq counted.items m.article) }) ∷ [])
 
-  -- if `noted` is empty, `found` are the differences of the articles that records name
-  abbrev pub AreDifferencesOf : List T → List T → List T → List (Entry T) → List (Movement T) → Type 0
-  AreDifferencesOf there counted noted records found =
-      ((v : T) → stock_of eq noted v ≡ 0) → found ≡ differences_after eq (stock_of eq there) (stock_of eq counted) [] (movements_of records)
+  -- if `unnamed` is empty, `found` are the differences of the articles that the records name
+  abbrev pub AreDifferencesOf : Bag (String Global) S → Vec (Entry (String Global)) → Vec (Movement (String Global)) → Type 0
+  AreDifferencesOf unnamed records found =
+      ((v : String Global) → stock_of string_eq unnamed.items v ≡ 0)
+      → found.items ≡ differences_after string_eq (stock_of string_eq there.items) (stock_of string_eq counted.items) [] (movements_of records.items)
 
 -- the stock was counted: the differences are entered, and none of them is refused. Then each article that a record names has the counted
 -- number, and any other article the number that it had

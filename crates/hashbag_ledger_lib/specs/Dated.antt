@@ -1,4 +1,4 @@
--- The balance of a day: the sum of the movements whose day is that one or before, in whatever order they were entered.
+-- The balance of a day: the sum of the movements whose day is this day or before, in whatever order they were entered.
 use Rattle.std.specs.Prelude.{◌≡◌, ℕ, ◌+◌, ◌-◌, ◌<◌, nat_lt, if◌then◌else◌, Bool, true, false, List, [], ◌∷◌, map, sum_by, All, bytes_eq, String}
 use Rattle.std.specs.Borrow.{Bor}
 use Rattle.std.specs.Cmp.Lexicographic.{slice_cmp}
@@ -22,7 +22,7 @@ use Rattle.hashbag_ledger_lib.specs.declared.movements.Movement.{Movement}
 use Rattle.hashbag_ledger_lib.specs.declared.movements.Outcome.{Outcome}
 use Rattle.hashbag_ledger_lib.specs.declared.movements.Outcome.TheVariants.{Entered, Refused}
 
--- not after
+-- the order isn't `Greater`
 abbrev pub is_up_to : Ordering → Bool
 is_up_to Less = true
 is_up_to Equal = true
@@ -37,13 +37,14 @@ counts_by date (Refused n) day = false
 abbrev pub Dated : Type 0
 Dated = Entry (String Global) × String Global
 
+-- whether an entry counts on a date
 abbrev pub counts_at : List ℕ → Dated → Bool
 counts_at date e = counts_by date e.0.outcome (string_bytes e.1)
 
 -- of these entries the movements that count on a date
-abbrev pub counted : List ℕ → List Dated → List (Movement (String Global))
-counted date [] = []
-counted date (e ∷ es) = if counts_at date e then e.0.movement ∷ counted date es else counted date es
+abbrev pub counting_by : List ℕ → List Dated → List (Movement (String Global))
+counting_by date [] = []
+counting_by date (e ∷ es) = if counts_at date e then e.0.movement ∷ counting_by date es else counting_by date es
 
 -- how many of v these movements bring in, and take out
 abbrev pub came_of : List ℕ → List (Movement (String Global)) → ℕ
@@ -58,11 +59,11 @@ net came went = if nat_lt came went then Out (went - came) else In (came - went)
 
 -- the number of v on a date
 abbrev pub balance_at : List ℕ → List Dated → List ℕ → Change
-balance_at date es v = net (came_of v (counted date es)) (went_of v (counted date es))
+balance_at date es v = net (came_of v (counting_by date es)) (went_of v (counting_by date es))
 
 -- an article of a list, by its bytes, with its number
-abbrev pub named : {N : Type 0} → Bor (List ℕ) × N → List ℕ × N
-named e = (e.0.now, e.1)
+abbrev pub with_bytes : {N : Type 0} → Bor (List ℕ) × N → List ℕ × N
+with_bytes e = (e.0.now, e.1)
 
 -- the sum of the numbers of the rows of v
 abbrev pub named_sum : List ℕ → List (List ℕ × ℕ) → ℕ
@@ -72,30 +73,30 @@ named_sum v rows = sum_by (λ r. if bytes_eq v r.0 then r.1 else 0) rows
 abbrev pub count_of : Bor (List ℕ) → List (Bor (List ℕ)) → ℕ
 count_of v X = count (λ x y. bytes_eq x.now y.now) v X
 
--- the items have each article as often as the numbers of its rows add up to
+-- how often the items have an article is the sum of the numbers of its rows
 abbrev pub HasSumsOf : List (Bor (List ℕ) × ℕ) → List (Bor (List ℕ)) → Type 0
-HasSumsOf rows items = (v : Bor (List ℕ)) → count_of v items ≡ named_sum v.now (map named rows)
+HasSumsOf rows items = (v : Bor (List ℕ)) → count_of v items ≡ named_sum v.now (map with_bytes rows)
 
 -- the number of a row is the difference of what came and what went
 abbrev pub IsNetOf : (came went : List (Bor (List ℕ))) → Bor (List ℕ) × Change → Type 0
 IsNetOf came went r = r.1 ≡ net (count_of r.0 came) (count_of r.0 went)
 
--- what of a change is added up
+-- how much a change adds to the sum of a part
 abbrev pub amount : Part → Change → ℕ
 amount Came change = coming change
 amount Went change = going change
 amount Both change = size change
 
--- the article of a movement, by its bytes, with what of its change is added up
+-- the article of a movement, by its bytes, with how much its change adds to the sum of a part
 abbrev pub moved : Part → Movement (String Global) → List ℕ × ℕ
 moved part m = (string_bytes m.article, amount part m.change)
 
--- what an entry adds on a date, if it counts
+-- the row that an entry adds, if the entry counts on this date; else no row
 abbrev pub moved_at : Part → List ℕ → Dated → List (List ℕ × ℕ)
-moved_at part date e = map (moved part) (counted date (e ∷ []))
+moved_at part date e = map (moved part) (counting_by date (e ∷ []))
 
--- the rows have each article that moved, once, with its number on that date, articles in ascending order
+-- each article that moved has one row, with its number on that date; the rows are in ascending order of articles
 pub record IsBalanceAt (date : List ℕ) (es : List Dated) (rows : List (Bor (List ℕ) × Change)) : Type 0 where
   pub numbers : All (λ r. r.1 ≡ balance_at date es r.0.now) rows
   pub rising : IsStrictlySortedBy (λ a b. slice_cmp nat_cmp a.now b.now) (keys_of rows)
-  pub each : (v : List ℕ) → 0 < came_of v (counted date es) + went_of v (counted date es) → (k : Bor (List ℕ)) × Contains (keys_of rows) k × (bytes_eq v k.now ≡ true)
+  pub each : (v : List ℕ) → 0 < came_of v (counting_by date es) + went_of v (counting_by date es) → (k : Bor (List ℕ)) × Contains (keys_of rows) k × (bytes_eq v k.now ≡ true)

@@ -1,4 +1,4 @@
--- The definition of the balance of a day computes.
+-- Which movements count on a day, and the differences of what came and what went, by computing.
 use Rattle.std.specs.Prelude.{◌≡◌, true, false, codes, refl}
 use Rattle.hashbag_ledger_lib.specs.Dated.{counts_by, net}
 use Rattle.hashbag_ledger_lib.specs.declared.movements.Change.TheVariants.{In, Out}

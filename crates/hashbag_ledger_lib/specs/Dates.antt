@@ -2,7 +2,7 @@
 use Rattle.std.specs.Prelude.{ℕ, ◌+◌, ◌*◌, ◌-◌, ◌%◌, ◌==◌, ◌&&◌, ◌||◌, not, nat_le, if◌then◌else◌, Bool, List, length, get_or}
 use Rattle.std.specs.Char.{is_ascii_digit}
 
--- a year has a 29 February: each fourth one, but of the years that end a century each fourth alone
+-- a year has a 29 February if 4 divides it; but if 100 divides it, only if 400 does
 abbrev pub is_leap : ℕ → Bool
 is_leap y = (y % 4 == 0) && (not (y % 100 == 0) || (y % 400 == 0))
 

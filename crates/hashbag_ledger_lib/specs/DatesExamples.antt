@@ -1,4 +1,4 @@
--- The definition of dates computes.
+-- Which texts are dates, by computing.
 use Rattle.std.specs.Prelude.{◌≡◌, true, false, codes, refl}
 use Rattle.hashbag_ledger_lib.specs.Dates.{is_date}
 

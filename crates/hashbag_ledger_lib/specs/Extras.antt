@@ -4,8 +4,9 @@ use Rattle.std.specs.Borrow.{Bor}
 use Rattle.std.specs.String.{string_bytes}
 use Rattle.hashbag_csv.specs.Lines.{place_of}
 use Rattle.hashbag_csv.specs.Readers.{Record, records_in}
-use Rattle.hashbag_csv.specs.Sheets.{left}
+use Rattle.hashbag_csv.specs.Sheets.{left, place, read_last}
 use Rattle.hashbag_csv.specs.declared.delimiter.Delimiter.{Delimiter}
+use Rattle.hashbag_csv.specs.declared.sheet.Column.{Column}
 use Rattle.hashbag_csv.specs.declared.sheet.Sheet.{Sheet}
 use Rattle.hashbag_ledger_lib.specs.Dates.{is_date}
 use Rattle.hashbag_ledger_lib.specs.declared.extras.Extra.{Extra}
@@ -15,11 +16,11 @@ use Rattle.hashbag_ledger_lib.specs.declared.extras.ExtraColumns.{ExtraColumns}
 abbrev pub carried : Extra → Option (List ℕ) × Option (List ℕ)
 carried x = (option_map string_bytes x.date, option_map string_bytes x.note)
 
--- its date, if there is one, is a date
+-- the text of the date, if there is one, is a valid date
 abbrev pub HasNoBadDate : Extra → Type 0
 HasNoBadDate x = IfSome x.date (λ d. is_date (string_bytes d) ≡ true)
 
--- f of each column, in its place: for example a column's place for its name
+-- f applied to each column: it turns names into places, for example
 abbrev pub columns_of : {C D : Type 0} → (C → D) → ExtraColumns C → ExtraColumns D
 columns_of f columns = record { date = option_map f columns.date; note = option_map f columns.note }
 
@@ -31,23 +32,31 @@ place_if header name = option_map (λ n. place_of header n.now) name
 abbrev pub field_at : Record → Option ℕ → Option (List ℕ)
 field_at r column = option_map (λ p. get_or r p []) column
 
+-- the field of a column, if there is one, in the record that was read last
+abbrev pub last_field_if : Sheet → Option Column → Option (List ℕ)
+last_field_if sheet column = field_at (read_last sheet) (option_map place column)
+
 -- the date and the note of a record, which are at these places
 abbrev pub extra_in : ExtraColumns ℕ → Record → Option (List ℕ) × Option (List ℕ)
 extra_in columns r = (field_at r columns.date, field_at r columns.note)
 
--- those of the records after the first one, which is their header: `names` are the names of the columns
+-- the dates and notes of the records after the header, which is the first record; `names` are the names of the columns
 abbrev pub extras_under : ExtraColumns (List ℕ) → List Record → List (Option (List ℕ) × Option (List ℕ))
 extras_under names [] = []
 extras_under names (header ∷ records) = map (extra_in (columns_of (place_of header) names)) records
 
--- those of a text, whose columns have these names
+-- the dates and notes of a text whose columns have these names
 abbrev pub extras_in : Delimiter → ExtraColumns (List ℕ) → List ℕ → List (Option (List ℕ) × Option (List ℕ))
 extras_in delimiter names text = extras_under names (records_in delimiter text)
 
--- `before` is a record and then `after`, and x is what it carries along
+-- the same, with names that a call borrows
+abbrev pub extras_read : Delimiter → ExtraColumns (Bor (List ℕ)) → List ℕ → List (Option (List ℕ) × Option (List ℕ))
+extras_read delimiter names text = extras_in delimiter (columns_of (λ n. n.now) names) text
+
+-- `before` is one record r and then `after`; x is what r carries along
 abbrev pub IsNextExtra : ExtraColumns ℕ → List Record → List Record → Extra → Type 0
 IsNextExtra columns before after x = (r : Record) × (before ≡ r ∷ after) × (carried x ≡ extra_in columns r)
 
--- the next record was read, as what it carries along, or none was left
+-- the next record was read, and `next` is what it carries along; or no record was left, and `next` is `None`
 abbrev pub ReadsNextExtra : ExtraColumns ℕ → Sheet → Option Extra → Sheet → Type 0
 ReadsNextExtra columns old next new = MatchOption next (left old ≡ []) (λ x. IsNextExtra columns (left old) (left new) x)

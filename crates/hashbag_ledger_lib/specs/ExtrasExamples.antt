@@ -1,4 +1,4 @@
--- The definition of the dates and notes of records computes.
+-- The dates and notes of records, by computing.
 use Rattle.std.specs.Prelude.{◌≡◌, ℕ, List, [], ◌∷◌, None, Some, codes, refl}
 use Rattle.hashbag_csv.specs.Readers.{Record}
 use Rattle.hashbag_ledger_lib.specs.Extras.{extras_under}

@@ -1,5 +1,6 @@
 -- Movements of a stock. A stock is a function: for each article how many there are.
 use Rattle.std.specs.Prelude.{◌≡◌, ℕ, ◌+◌, ◌-◌, ◌<◌, ◌≤◌, if◌then◌else◌, nat_lt, Bool, List, [], ◌∷◌, ◌++◌, length, sum_by, take}
+use Rattle.hashbag.specs.Bag.{Bag}
 use Rattle.hashbag.specs.Occurrences.{count}
 use Rattle.hashbag_ledger_lib.specs.declared.movements.Change.{Change}
 use Rattle.hashbag_ledger_lib.specs.declared.movements.Change.TheVariants.{In, Out}
@@ -83,7 +84,7 @@ module _ {T : Type 0} (eq : T → T → Bool) where
     abbrev pub in_the_end : List (Movement T) → T → ℕ
     in_the_end ms = there (entered_of ms)
 
-    -- after each number k of entered movements, no more of an article went out than was there at first and came in
+    -- for each k, after the first k entered movements: what went out of an article is at most what was there at first, plus what came in
     abbrev pub IsNeverBelowZero : List (Movement T) → Type 0
     IsNeverBelowZero entered = (k : ℕ) (v : T) → went v (take k entered) ≤ start v + came v (take k entered)
 
@@ -91,7 +92,7 @@ module _ {T : Type 0} (eq : T → T → Bool) where
     pub record Leaves (ms : List (Movement T)) (end : T → ℕ) : Type 0 where
       pub counts : (v : T) → end v ≡ in_the_end ms v
       pub conserved : (v : T) → start v + came v (entered_of ms) ≡ end v + went v (entered_of ms)
-      pub never : IsNeverBelowZero (entered_of ms)
+      pub never_below_zero : IsNeverBelowZero (entered_of ms)
 
     -- the movement at this place would make the total, which was `total` at first, pass `most`
     pub record IsPast (total most : ℕ) (ms : List (Movement T)) (place : Place) : Type 0 where
@@ -102,9 +103,9 @@ module _ {T : Type 0} (eq : T → T → Bool) where
       pub at_place : place ≡ movement.place
       pub over : most < total_after total (entered_of before) + coming movement.change
 
--- with a movement, the total of the items X would pass `most`
-abbrev pub PassesMost : {T : Type 0} → ℕ → List T → Movement T → Type 0
-PassesMost most X m = most < length X + coming m.change
+-- with a movement, the total of the stock would pass its limit
+abbrev pub PassesLimitWith : {T S : Type 0} → Bag T S → Movement T → Type 0
+PassesLimitWith stock m = stock.most < length stock.items + coming m.change
 
 -- the total rises by what comes in, and falls by what goes out
 abbrev pub ChangesTotal : {T : Type 0} → Change → List T → List T → Type 0

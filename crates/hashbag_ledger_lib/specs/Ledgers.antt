@@ -1,4 +1,5 @@
--- What calls change in a ledger, and what they return from one, for any list L that the ledger began as, and any movements ms so far.
+-- What calls change in a ledger, and what they return. The definitions hold for any list L that the ledger had at the beginning, and for any
+-- movements ms that have come.
 use Rattle.std.specs.Prelude.{◌≡◌, ℕ, ◌++◌, Bool, List, [], ◌∷◌, String}
 use Rattle.std.specs.Global.{Global}
 use Rattle.std.specs.declared.cmp.Ordering.{Ordering}

@@ -23,6 +23,10 @@ use Rattle.hashbag_ledger_lib.specs.Settled.{IsLedgerOf}
 abbrev pub content_of : Movement (String Global) → List ℕ × Change
 content_of m = (string_bytes m.article, m.change)
 
+-- the contents of movements, in turn
+abbrev pub contents_of : List (Movement (String Global)) → List (List ℕ × Change)
+contents_of ms = map content_of ms
+
 -- a number after `-` goes out; a number after `+`, or without a sign, comes in
 abbrev pub signed : Scale → List ℕ → Change
 signed scale [] = In (number_in scale [])
@@ -45,10 +49,11 @@ columns_by f columns = record { article = f columns.article; change = change_by 
 abbrev pub names_now : Columns (Bor (List ℕ)) → Columns (List ℕ)
 names_now names = columns_by (λ n. n.now) names
 
--- the places of the columns of these names under a header
+-- the places of the columns of a change with these names, under a header
 abbrev pub change_places : Record → ChangeColumns (Bor (List ℕ)) → ChangeColumns ℕ
 change_places header names = change_by (λ n. place_of header n.now) names
 
+-- the places of the columns of a movement with these names, under a header
 abbrev pub places_under : Record → Columns (Bor (List ℕ)) → Columns ℕ
 places_under header names = columns_by (λ n. place_of header n.now) names
 
@@ -69,6 +74,10 @@ movements_under scale names (header ∷ records) = map (movement_in scale (colum
 -- the movements of a text, whose columns have these names
 abbrev pub movements_in : Reading → Columns (List ℕ) → List ℕ → List (List ℕ × Change)
 movements_in reading names text = movements_under reading.scale names (records_in reading.delimiter text)
+
+-- the same, with names that a call borrows
+abbrev pub movements_read : Reading → Columns (Bor (List ℕ)) → List ℕ → List (List ℕ × Change)
+movements_read reading names text = movements_in reading (names_now names) text
 
 -- `before` is one record r and then `after`; m is the movement of r
 abbrev pub IsNextMovement : Scale → Columns ℕ → List Record → List Record → Movement (String Global) → Type 0

@@ -1,4 +1,4 @@
--- The definition of the movements of records computes.
+-- The movements of records, by computing.
 use Rattle.std.specs.Prelude.{◌≡◌, ℕ, ◌^◌, ◌-◌, List, [], ◌∷◌, codes, refl}
 use Rattle.std.proofs.Common.{arith}
 use Rattle.hashbag_csv.specs.Readers.{Record}

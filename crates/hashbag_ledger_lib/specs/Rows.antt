@@ -40,8 +40,8 @@ lower_row k c Less = (k.0, k.1, 0)
 lower_row k c Equal = (k.0, k.1, c.1)
 lower_row k c Greater = (c.0, 0, c.1)
 
--- the lower article of a kept and a counted row at the same place, with its number in each row; 0 if the row is of the other article, or
--- missing
+-- of a kept and a counted row at the same place: the lower article, with its number in each row. The number is 0 if the row is missing, or is of
+-- the other article
 abbrev pub wrong_row : Option (List ℕ × ℕ) → Option (List ℕ × ℕ) → Option (List ℕ × ℕ × ℕ)
 wrong_row (Some k) (Some c) = Some (lower_row k c (slice_cmp nat_cmp k.0 c.0))
 wrong_row (Some k) None = Some (k.0, k.1, 0)
@@ -56,8 +56,8 @@ wrong_movement None (Some c) = c.movement
 wrong_movement None None = 0
 
 -- the lower article of two rows, with its number in each row; 0 if the row is of the other article
-abbrev pub first_row : (k c : List ℕ × ℕ) → List ℕ × ℕ × ℕ
-first_row k c = lower_row k c (slice_cmp nat_cmp k.0 c.0)
+abbrev pub lower_row_of : (k c : List ℕ × ℕ) → List ℕ × ℕ × ℕ
+lower_row_of k c = lower_row k c (slice_cmp nat_cmp k.0 c.0)
 
 -- the row of an article, if there is one
 abbrev pub row_there : Option (Bor (String Global × ℕ)) → Option (List ℕ × ℕ)

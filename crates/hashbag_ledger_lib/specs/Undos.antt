@@ -81,6 +81,10 @@ abbrev pub IsChangedBy : List (String Global × ℕ) → Undo (String Global) �
 IsChangedBy kept (Done booked) changed = AreChanges kept booked.balance.items changed
 IsChangedBy kept (Refused refusals) changed = changed ≡ []
 
+-- the same, if the kept balance and the balance that the undo leaves have their rows in ascending order
+abbrev pub IsChangedIfRising : List (String Global × ℕ) → Undo (String Global) → List RowChange → Type 0
+IsChangedIfRising kept undo changed = Rises kept → HasRisingRows undo → IsChangedBy kept undo changed
+
 -- if the batch turned the stock `before` into the kept balance, the undo leaves `before` again
 abbrev pub RestoresWhatWas : List (String Global × ℕ) → List (Movement (String Global)) → Undo (String Global) → Type 0
 RestoresWhatWas kept batch undo =

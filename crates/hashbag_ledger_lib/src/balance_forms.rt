@@ -1,4 +1,4 @@
-//! The forms in which a balance is written. A number is a [`Change`], since by dates an article may be below 0.
+//! The forms in which a balance is written. A number is a [`Change`], since the number of an article on a day may be below 0.
 use crate::listing::change_text;
 use crate::movements::Change;
 use crate::output::push_record;

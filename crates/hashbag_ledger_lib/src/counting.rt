@@ -1,8 +1,8 @@
 //! A stock that is counted: the differences between what is there and what was counted are entered.
 ghost use Rattle.std.specs.Prelude.{◌≡◌, ◌++◌, map, IfOk, OnOk};
 ghost use Rattle.std.specs.String.{string_eq};
-ghost use Rattle.hashbag_ledger_lib.specs.Counts.{AppendsDifference, AreDifferencesOf, IsCounted, NotesArticle, change_to, none_counted};
-ghost use Rattle.hashbag_ledger_lib.specs.Movements.{content_of};
+ghost use Rattle.hashbag_ledger_lib.specs.Counts.{AddsDifference, AreDifferencesOf, IsCounted, NotesArticle, change_to, none_counted};
+ghost use Rattle.hashbag_ledger_lib.specs.Movements.{contents_of};
 
 use crate::entering::LedgerError;
 use crate::filing::{Filed, copy_of, enter_files};
@@ -47,8 +47,7 @@ fn compare<S: BuildHasher + Drop>(
     movement: Movement<String>,
 ) -> Result<(), LedgerError>
     ensures noted { OnOk result (NotesArticle string_eq movement.article named.old.items named.new.items) }
-    ensures pushed { OnOk result (AppendsDifference string_eq there.now.items counted.now.items named.old.items movement
-        differences.old.items differences.new.items) }
+    ensures pushed { OnOk result (AddsDifference there.now counted.now named.old movement differences.old differences.new) }
 {
     let is_named = named.contains(&movement.article) > 0;
     note(named, &movement)?;
@@ -69,7 +68,8 @@ fn compare<S: BuildHasher + Drop>(
     Ok(())
 }
 
-// Returns the difference of each article that the records name, at the first record that names the article. `unnamed` is an empty bag.
+// Returns a movement for each article that the records name: it turns the number in `there` into the number in `counted`, and has the place of
+// the first record that names the article. `unnamed` is an empty bag: only its allocator and its state matter.
 fn differences_of<S: BuildHasher + Drop>(
     alloc: Global,
     there: &HashBag<String, S>,
@@ -77,8 +77,7 @@ fn differences_of<S: BuildHasher + Drop>(
     unnamed: HashBag<String, S>,
     records: Vec<Entry<String>>,
 ) -> Result<Vec<Movement<String>>, LedgerError>
-    ensures { IfOk result (λ found.
-        AreDifferencesOf string_eq there.now.items counted.now.items unnamed.items records.items found.items) }
+    ensures { IfOk result (AreDifferencesOf there.now counted.now unnamed records) }
 {
     let mut named = unnamed;
     let mut differences = Vec::new(alloc);
@@ -94,14 +93,15 @@ fn differences_of<S: BuildHasher + Drop>(
     Ok(differences)
 }
 
-/// Enters the differences that turn the kept balance into what was counted, and returns the result. Each article that the
-/// records name has one difference, at the first record that names it. If several records name an article, their numbers are
-/// added. No other article changes.
+/// Enters the differences that turn the kept balance into what was counted, and returns the result. Each article that the records name has one
+/// difference, with the place of the first record that names the article. If several records name an article, their numbers are added. No other
+/// article changes.
 ///
 /// # Errors
 ///
-/// `StartTooMany` only if the sum of the balance is above [`MOST`]. `TooMany` only if the sum of the counted numbers, or the total with a
-/// difference, would pass [`MOST`]; with the place of the record, or of the article's first record. `Memory` if an allocation fails.
+/// `StartTooMany` only if the sum of the balance is above [`MOST`]. `TooMany` with the place of a record only if the sum of the counted numbers
+/// would pass [`MOST`] with that record. `TooMany` with the place of an article's first record only if the total would pass [`MOST`] with the
+/// difference of that article. `Memory` if an allocation fails.
 ///
 /// # Complexity
 ///
@@ -112,9 +112,10 @@ pub fn count_stock<S: BuildHasher + Copy + Drop>(
     kept: &[(String, usize)],
     records: Vec<Movement<String>>,
 ) -> Result<Filed, LedgerError>
-    // Each article that the records name has the counted number, and no difference is refused.
+    // Each article that the records name has the counted number, and any other article its number before. The entries are the differences; none is refused.
     ensures { IfOk result (IsCounted kept.now records.items) }
 {
+    // Books the records into an empty stock, which adds up the numbers of each article.
     let none = Vec::new(alloc);
     let counts = book_batch(alloc, state, none, records)?;
     let copy = copy_of(alloc, kept)?;
@@ -138,8 +139,8 @@ pub fn name_all(
     records: &mut Vec<Movement<String>>,
     kept: &[(String, usize)],
 ) -> Result<(), AllocError>
-    ensures { OnOk result
-        (map content_of records.new.items ≡ map content_of records.old.items ++ map none_counted kept.now) }
+    // `contents_of`: the article and the change of each record. `none_counted`: an article with the change `In 0`.
+    ensures { OnOk result (contents_of records.new.items ≡ contents_of records.old.items ++ map none_counted kept.now) }
 {
     for entry in kept {
         records

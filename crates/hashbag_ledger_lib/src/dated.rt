@@ -1,7 +1,7 @@
 //! The balance of a day, by the days of movements, and not by the order in which they were entered.
 ghost use Rattle.std.specs.Prelude.{◌≡◌, ◌++◌, All, IfOk, OnOk, map};
 ghost use Rattle.std.specs.Map.{keys_of};
-ghost use Rattle.hashbag_ledger_lib.specs.Dated.{amount, counted, counts_by, moved, moved_at, named, net, HasSumsOf, IsBalanceAt, IsNetOf};
+ghost use Rattle.hashbag_ledger_lib.specs.Dated.{amount, counting_by, counts_by, moved, moved_at, with_bytes, net, HasSumsOf, IsBalanceAt, IsNetOf};
 
 use crate::movements::{Change, Entry, Outcome};
 use hashbag::{BagError, HashBag};
@@ -30,11 +30,11 @@ impl From<AllocError> for DatedError {
 enum Part {
     In,
     Out,
-    // For the articles, each once.
+    // Only the keys of this sum are used: each article that moved, once.
     Both,
 }
 
-// Returns what of a change is added up.
+// Returns how much a change adds to the sum of this part.
 fn amount(part: Part, change: Change) -> usize
     ensures { result ≡ amount part change }
 {
@@ -50,7 +50,7 @@ fn amount(part: Part, change: Change) -> usize
     }
 }
 
-// Returns whether an entry counts on `date`: its movement was entered, and `day`, its own, is `date` or before.
+// Returns whether an entry is part of the balance of `date`: its movement was entered, and its day, `day`, isn't after `date`.
 fn counts(date: &str, entry: &Entry<String>, day: &str) -> bool
     ensures { result ≡ counts_by date.now entry.now.outcome day.now }
 {
@@ -63,14 +63,14 @@ fn counts(date: &str, entry: &Entry<String>, day: &str) -> bool
     }
 }
 
-// Appends the article of an entry with what of its change is added up, if the entry counts on `date`.
+// If an entry counts on `date`, appends its article, with how much its change adds to the sum of this part.
 fn push_moved<'a>(
     list: &mut Vec<(&'a str, usize)>,
     date: &str,
     dated: &'a (Entry<String>, String),
     part: Part,
 ) -> Result<(), AllocError>
-    ensures { OnOk result (map named list.new.items ≡ map named list.old.items ++ moved_at part date.now dated.now) }
+    ensures { OnOk result (map with_bytes list.new.items ≡ map with_bytes list.old.items ++ moved_at part date.now dated.now) }
 {
     let (entry, day) = dated;
     if !counts(date, entry, day.as_str()) {
@@ -82,7 +82,7 @@ fn push_moved<'a>(
     Ok(())
 }
 
-// Returns the articles of the movements that count on `date`, each with what of its change is added up.
+// Returns the articles of the movements that count on `date`, each with how much the change of the movement adds to the sum of this part.
 #[tactic(auto, using(crate::proofs::DatedLemmas::next_moved))]
 fn moved_by<'a>(
     alloc: Global,
@@ -90,7 +90,7 @@ fn moved_by<'a>(
     entries: &'a [(Entry<String>, String)],
     part: Part,
 ) -> Result<Vec<(&'a str, usize)>, AllocError>
-    ensures { IfOk result (λ list. map named list.items ≡ map (moved part) (counted date.now entries.now)) }
+    ensures { IfOk result (λ list. map with_bytes list.items ≡ map (moved part) (counting_by date.now entries.now)) }
 {
     let mut list = Vec::new(alloc);
     let mut left = entries;
@@ -146,9 +146,9 @@ fn rows_of<'a, S: BuildHasher + Drop>(
     Ok(rows)
 }
 
-/// Returns the sum of the movements that were entered and whose day is `date` or before: of each article that has one, articles in ascending
-/// order. Each entry has its day. `Out` is a number below 0. It can occur, since a movement may have an earlier day than one that was entered
-/// before it.
+/// Returns the balance of the day `date`: for each article, the sum of the movements that were entered and whose day is `date` or before.
+/// Articles without such movements have no row, and the others are in ascending order. In `entries` each entry is with its day. A row has
+/// `Out` if its sum is below 0. That can be, since a movement may have an earlier day than a movement that was entered before it.
 ///
 /// # Errors
 ///
@@ -159,6 +159,7 @@ pub fn balance_at<'a, S: BuildHasher + Copy + Drop>(
     date: &str,
     entries: &'a [(Entry<String>, String)],
 ) -> Result<Vec<(&'a str, Change)>, DatedError>
+    // Each row has its article's number on `date`, and rows are in ascending order. Each article of which something came or went up to `date` has a row.
     ensures { IfOk result (λ rows. IsBalanceAt date.now entries.now rows.items) }
 {
     let in_list = moved_by(alloc, date, entries, Part::In)?;

@@ -1,6 +1,6 @@
 //! Entering a movement into a stock.
 ghost use Rattle.std.specs.Prelude.{◌≡◌, ◌⊎◌, ◌+◌, ◌≤◌, ◌↔◌, length, OnOk, OnErr, IfOk, IfErr, IfSome, IsSome};
-ghost use Rattle.hashbag_ledger_lib.specs.Ledger.{coming, stock_of, ChangesItems, ChangesTotal, PassesMost, RefusesMovement};
+ghost use Rattle.hashbag_ledger_lib.specs.Ledger.{coming, stock_of, ChangesItems, ChangesTotal, PassesLimitWith, RefusesMovement};
 
 use crate::movements::{Change, Movement, Place, Refusal};
 use hashbag::{BagError, HashBag};
@@ -12,7 +12,7 @@ use std::hash::{BuildHasher, Hash};
 pub enum LedgerError {
     /// An allocation failed.
     Memory,
-    /// The sum of the numbers of the stock at the beginning is above the limit.
+    /// The sum of the numbers of the opening stock is above the limit.
     StartTooMany,
     /// With the movement at this place the total of the stock would pass its limit.
     TooMany(Place),
@@ -44,7 +44,7 @@ pub fn enter<T: Eq + Hash + Drop, S: BuildHasher + Drop>(
     stock: &mut HashBag<T, S>,
     movement: Movement<T>,
 ) -> Result<Option<Refusal<T>>, LedgerError>
-    // If the result is `None`, the movement was entered: only the number of its article changed.
+    // If the result is `None`, the movement was entered: only the number of its article changed, and the total by as much.
     ensures entered { IfOk result (λ r. r ≡ None → ChangesItems T.eq movement stock.old.items stock.new.items) }
     ensures total { IfOk result (λ r. r ≡ None → ChangesTotal movement.change stock.old.items stock.new.items) }
 
@@ -56,8 +56,7 @@ pub fn enter<T: Eq + Hash + Drop, S: BuildHasher + Drop>(
     ensures fits { OnOk result (length stock.old.items + coming movement.change ≤ stock.old.most) }
     ensures limit { stock.new.most ≡ stock.old.most }
     ensures why { IfErr result (λ e. (e ≡ LedgerError.Memory) ⊎ (e ≡ LedgerError.TooMany movement.place)) }
-    ensures too_many { (result ≡ Err (LedgerError.TooMany movement.place))
-        ↔ PassesMost stock.old.most stock.old.items movement }
+    ensures too_many { (result ≡ Err (LedgerError.TooMany movement.place)) ↔ PassesLimitWith stock.old movement }
     ensures err { OnErr result (stock.new ≡ stock.old) }
 {
     let Movement {

@@ -1,9 +1,9 @@
-//! What movements carry along: their dates and notes. Entering doesn't depend on them, so a list of them goes with the list of the movements, one
-//! for each, in turn. An empty list says that none has a date or a note.
+//! What movements carry along: dates and notes. Entering doesn't depend on dates and notes, so they are in a list of their own: one [`Extra`]
+//! for each movement, in the order of the movements. If the list is empty, no movement has a date or a note.
 ghost use Rattle.std.specs.Prelude.{◌≡◌, true, All, IfOk, IfSome, map, option_map, string_bytes};
 ghost use Rattle.hashbag_csv.specs.Sheets.{place, read_last};
 ghost use Rattle.hashbag_ledger_lib.specs.Dates.{is_date};
-ghost use Rattle.hashbag_ledger_lib.specs.Extras.{carried, columns_of, extras_in, field_at, place_if, HasNoBadDate, ReadsNextExtra};
+ghost use Rattle.hashbag_ledger_lib.specs.Extras.{carried, columns_of, extras_read, last_field_if, place_if, HasNoBadDate, ReadsNextExtra};
 
 use crate::dates::is_date;
 use crate::movements::{Change, Movement};
@@ -35,7 +35,7 @@ pub struct ExtraColumns<C> {
 /// Why dates and notes can't be read.
 #[derive(Debug, Drop)]
 pub enum ExtraError {
-    /// The text is no CSV, has no column of a name, or several, or an allocation failed.
+    /// The text is no CSV; or a name has no column, or several columns; or an allocation failed.
     Sheet(SheetError),
     /// A field of dates is no date.
     NoDate {
@@ -58,7 +58,7 @@ impl From<AllocError> for ExtraError {
     }
 }
 
-// Returns the column of this name, if there is a name, in the header, which is the record that was read last.
+// Looks up a name, if there is one, in the header, and returns its column. The header is the record that was read last.
 fn column_if<'n>(sheet: &Sheet<'_>, name: Option<&'n str>) -> Result<Option<Column<'n>>, SheetError>
     ensures { IfOk result (λ column. option_map place column ≡ place_if (read_last sheet.now) name.entry) }
 {
@@ -68,14 +68,13 @@ fn column_if<'n>(sheet: &Sheet<'_>, name: Option<&'n str>) -> Result<Option<Colu
     }
 }
 
-// Returns the field of a column, if there is one, of the record that was read last.
+// Returns the field that the record that was read last has in this column, or `None` without a column.
 fn field_if(
     alloc: Global,
     sheet: &Sheet<'_>,
     column: Option<Column<'_>>,
 ) -> Result<Option<String>, SheetError>
-    ensures { IfOk result (λ field.
-        option_map string_bytes field ≡ field_at (read_last sheet.now) (option_map place column.entry)) }
+    ensures { IfOk result (λ field. option_map string_bytes field ≡ last_field_if sheet.now column.entry) }
 {
     match column {
         Some(column) => Ok(Some(String::from_str(alloc, sheet.field(column)?)?)),
@@ -132,9 +131,8 @@ pub fn read_extras(
     names: ExtraColumns<&str>,
     delimiter: Delimiter,
 ) -> Result<Vec<Extra>, ExtraError>
-    // They are those that the text has, and each date that is there is valid.
-    ensures extras { IfOk result (λ extras.
-        map carried extras.items ≡ extras_in delimiter (columns_of (λ n. n.now) names.entry) text.now) }
+    // `extras` is what the records of the text carry along, in turn. Each date is valid.
+    ensures extras { IfOk result (λ extras. map carried extras.items ≡ extras_read delimiter names.entry text.now) }
     ensures dates { IfOk result (λ extras. All HasNoBadDate extras.items) }
 {
     let mut sheet = Sheet::open_with(alloc, text, delimiter)?;
@@ -148,7 +146,7 @@ pub fn read_extras(
     Ok(extras)
 }
 
-// Appends the dates and notes of those movements that go out, if `is_out`, or else of those that come in.
+// If `is_out`, appends the dates and notes of the movements that take out, else those of the movements that bring in.
 fn push_turned(
     turned: &mut Vec<Extra>,
     movements: &[(Movement<String>, Extra)],
@@ -163,8 +161,9 @@ fn push_turned(
     Ok(())
 }
 
-/// Returns the dates and notes of the opposite movements of a batch. Each has those of the movement that it takes back: first of those that took out, then
-/// of those that brought in, as [`opposites`](crate::undoing::opposites) orders them.
+/// Returns the dates and notes of the opposite movements of a batch, in the order of [`opposites`](crate::undoing::opposites): first for the
+/// movements that took out, then for the movements that brought in. An opposite movement has the date and the note of the movement that it takes
+/// back.
 ///
 /// # Errors
 ///

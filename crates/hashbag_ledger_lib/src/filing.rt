@@ -1,7 +1,7 @@
 //! The files of one run of a subcommand, entered in turn into the kept balance.
 ghost use Rattle.std.specs.Prelude.{◌≡◌, ◌<◌, ◌^◌, ◌-◌, map, vec_len, IfOk};
 ghost use Rattle.std.specs.String.{string_eq};
-ghost use Rattle.hashbag_csv.specs.Quantities.{numbers};
+ghost use Rattle.hashbag_csv.specs.Quantities.{number_sum};
 ghost use Rattle.hashbag_ledger_lib.specs.Batches.{all_of};
 ghost use Rattle.hashbag_ledger_lib.specs.Bookings.{HasBooked};
 ghost use Rattle.hashbag_ledger_lib.specs.Changes.{Rises, AreChanges};
@@ -45,6 +45,7 @@ pub fn enter_files<S: BuildHasher + Drop>(
     kept: &[(String, usize)],
     files: Vec<Vec<Movement<String>>>,
 ) -> Result<Filed, LedgerError>
+    // The new balance is what the movements of all files leave of the kept balance. The entries say what became of each movement.
     ensures booked { IfOk result (λ f. HasBooked (2 ^ 63 - 1) kept.now (all_of files.items) f.booked) }
 
     // If the kept rows are in ascending order, the changes turn them into the rows of the new balance.
@@ -53,7 +54,7 @@ pub fn enter_files<S: BuildHasher + Drop>(
 
     // `TooMany p`: with the movement at `p` the total would pass 2^63-1.
     ensures past { IfTooMany result (λ p. IsPastWithin string_eq (2 ^ 63 - 1) kept.now (all_of files.items) p) }
-    ensures start { (result ≡ Err LedgerError.StartTooMany) → 2 ^ 63 - 1 < numbers kept.now }
+    ensures start { (result ≡ Err LedgerError.StartTooMany) → 2 ^ 63 - 1 < number_sum kept.now }
 {
     let counts = counts_of(alloc, &files)?;
     let copy = copy_of(alloc, kept)?;
@@ -106,7 +107,7 @@ fn refusal_of(entry: &Entry<String>) -> Result<Option<Refusal<String>>, AllocErr
     }))
 }
 
-/// Returns copies of the refusals among these entries, in turn; only of the first if `is_first_alone`.
+/// Returns copies of the refusals among these entries, in turn. If `is_first_alone`, returns a copy of the first refusal only.
 ///
 /// # Errors
 ///

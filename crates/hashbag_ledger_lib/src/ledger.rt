@@ -1,7 +1,8 @@
-//! A stock into which movements are entered one by one. Clauses hold for any list that the stock began as, and for any movements so far.
+//! A stock into which movements are entered one by one. The clauses hold for any list as which the stock began, and for any movements entered
+//! since.
 ghost use Rattle.std.specs.Prelude.{◌≡◌, ◌⊎◌, ◌<◌, ◌↔◌, ◌≤◌, [], length, IsTrue, IfOk, IfErr, OnOk};
 ghost use Rattle.hashbag.specs.Occurrences.{count};
-ghost use Rattle.hashbag_csv.specs.Quantities.{numbers, quantity};
+ghost use Rattle.hashbag_csv.specs.Quantities.{number_sum, quantity};
 ghost use Rattle.hashbag_ledger_lib.specs.Ledgers.{AreRefusalsOf, EntersMovement, IsBalanceOf, IsLeftBy, LedgerPassesLimitWith};
 ghost use Rattle.hashbag_ledger_lib.specs.Errors.{IfTooMany};
 ghost use Rattle.hashbag_ledger_lib.specs.declared.movements.Movement.{Movement};
@@ -28,7 +29,7 @@ pub struct Entered<T> {
 
 // Returns whether the sum of the numbers of a list is at most `most`.
 fn numbers_fit<T>(list: &[(T, usize)], most: usize) -> bool
-    ensures { IsTrue result ↔ (numbers list.now ≤ most) }
+    ensures { IsTrue result ↔ (number_sum list.now ≤ most) }
 {
     let mut total = 0usize;
     for entry in list {
@@ -46,9 +47,9 @@ fn stock_of_list<T: Eq + Hash + Drop, S: BuildHasher + Drop>(
     state: S,
     list: Vec<(T, usize)>,
 ) -> Result<HashBag<T, S>, LedgerError>
-    requires { numbers list.items ≤ usize.MAX }
+    requires { number_sum list.items ≤ usize.MAX }
     ensures counts { IfOk result (λ stock. (v : T) → count T.eq v stock.items ≡ quantity T.eq v list.items) }
-    ensures len { IfOk result (λ stock. length stock.items ≡ numbers list.items) }
+    ensures len { IfOk result (λ stock. length stock.items ≡ number_sum list.items) }
     ensures only { IfErr result (λ e. e ≡ LedgerError.Memory) }
 {
     let mut stock = HashBag::with_hasher(alloc, state);
@@ -73,14 +74,14 @@ pub fn stock_at_start<T: Eq + Hash + Drop, S: BuildHasher + Drop>(
     most: usize,
     list: Vec<(T, usize)>,
 ) -> Result<HashBag<T, S>, LedgerError>
-    // v occurs as often as the numbers that the list has for it add up to. No movement has come yet.
+    // The count of v is the sum of the numbers that the list has for v. No movement has come yet.
     ensures counts { IfOk result (λ stock. (v : T) → count T.eq v stock.items ≡ quantity T.eq v list.items) }
-    ensures len { IfOk result (λ stock. length stock.items ≡ numbers list.items) }
+    ensures len { IfOk result (λ stock. length stock.items ≡ number_sum list.items) }
     ensures begun { IfOk result (λ stock. IsStockAfter T.eq list.items [] stock) }
     ensures limit { IfOk result (λ stock. stock.most ≡ most) }
-    ensures too_many { (result ≡ Err LedgerError.StartTooMany) ↔ (most < numbers list.items) }
-    ensures fits { OnOk result (numbers list.items ≤ most) }
-    ensures only_memory { numbers list.items ≤ most → IfErr result (λ e. e ≡ LedgerError.Memory) }
+    ensures too_many { (result ≡ Err LedgerError.StartTooMany) ↔ (most < number_sum list.items) }
+    ensures fits { OnOk result (number_sum list.items ≤ most) }
+    ensures only_memory { number_sum list.items ≤ most → IfErr result (λ e. e ≡ LedgerError.Memory) }
 {
     if !numbers_fit(&list, most) {
         return Err(LedgerError::StartTooMany);
@@ -96,7 +97,7 @@ pub fn stock_at_start<T: Eq + Hash + Drop, S: BuildHasher + Drop>(
 /// A stock that begins as a list, and the refusals of the movements so far. No movement is kept.
 ///
 /// The clauses name the list, and the movements that have come. [`Ledger::begin`] returns the ledger of a list and no movements.
-/// [`Ledger::enter`] appends a movement: the ledger is then that of the same list and of the movements with this one at the end.
+/// [`Ledger::enter`] appends a movement: the ledger then has the same list, and this movement at the end.
 #[derive(Drop)]
 pub struct Ledger<T: Eq + Hash + Drop, S: BuildHasher + Drop> {
     stock: HashBag<T, S>,
@@ -123,8 +124,8 @@ impl<T: Eq + Hash + Drop, S: BuildHasher + Drop> Ledger<T, S> {
         // The result is the ledger of the list and no movements.
         ensures begun { IfOk result (λ l. IsLedgerOf T.eq start.items [] l.refusals.items l.stock) }
         ensures limit { IfOk result (λ l. l.stock.most ≡ most) }
-        ensures too_many { (result ≡ Err LedgerError.StartTooMany) ↔ (most < numbers start.items) }
-        ensures only_memory { numbers start.items ≤ most → IfErr result (λ e. e ≡ LedgerError.Memory) }
+        ensures too_many { (result ≡ Err LedgerError.StartTooMany) ↔ (most < number_sum start.items) }
+        ensures only_memory { number_sum start.items ≤ most → IfErr result (λ e. e ≡ LedgerError.Memory) }
     {
         let stock = stock_at_start(alloc, state, most, start)?;
         Ok(Ledger {
@@ -172,7 +173,7 @@ pub fn end<T: Ord + Hash + Drop, S: BuildHasher + Drop>(
     alloc: Global,
     ledger: Ledger<T, S>,
 ) -> Result<Entered<T>, AllocError>
-    // The balance and the refusals are those after all movements. For each article: at the beginning + in = in the balance + out.
+    // The balance and the refusals are what all movements leave. For each article: at the beginning + in = in the balance + out.
     ensures balance { IfOk result (λ e. IsBalanceOf T.eq T.cmp ledger e.balance.items) }
     ensures leaves { IfOk result (λ e. IsLeftBy T.eq ledger e.balance.items) }
     ensures refusals { IfOk result (λ e. AreRefusalsOf T.eq ledger e.refusals.items) }

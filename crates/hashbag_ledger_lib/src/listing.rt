@@ -74,7 +74,7 @@ pub fn batches_text(
 }
 
 // Returns whether a movement was refused, and how many of the article there are after the movement.
-fn outcome_of(entry: &Entry<String>) -> (bool, usize) {
+fn refused_and_left(entry: &Entry<String>) -> (bool, usize) {
     match entry.outcome {
         Outcome::Entered { after } => (false, after),
         Outcome::Refused { there } => (true, there),
@@ -101,7 +101,7 @@ pub fn movements_text(
         let movement = &entry.movement;
         let line = format!(in alloc; "{}", movement.place.line)?;
         let change = change_text(alloc, movement.change, reading.scale)?;
-        let (is_refused, after) = outcome_of(entry);
+        let (is_refused, after) = refused_and_left(entry);
         let outcome = if is_refused { "refused" } else { "entered" };
         let number = write_decimal(alloc, after, reading.scale)?;
         let fields = [
@@ -129,9 +129,9 @@ fn source_of(batches: &[Batch], number: usize) -> (&str, &str) {
 
 /// Returns the movements of an article as CSV, with the header `batch,file,line,time,date,change,outcome,number,note`.
 ///
-/// In `entries` the number `place.file` is that of the batch, whose file and time are written. `outcome` is `entered` or
-/// `refused`, and `number` how many of the article there are after the movement. Each movement has its date and its note; a field is
-/// empty if there is none.
+/// In `entries`, `place.file` is the number of the batch. The file and the time of that batch are written. `outcome` is `entered` or `refused`,
+/// and `number` how many of the article there are after the movement. Each movement has its date and its note; a field is empty if there is
+/// none.
 ///
 /// # Errors
 ///
@@ -150,7 +150,7 @@ pub fn history_text(
     for (entry, extra) in entries {
         let place = entry.movement.place;
         let (file, time) = source_of(batches, place.file);
-        let (is_refused, after) = outcome_of(entry);
+        let (is_refused, after) = refused_and_left(entry);
         let batch = format!(in alloc; "{}", place.file)?;
         let line = format!(in alloc; "{}", place.line)?;
         let change = change_text(alloc, entry.movement.change, reading.scale)?;
@@ -179,8 +179,8 @@ fn before_change(change: Change, after: usize) -> usize {
     }
 }
 
-/// Returns the differences of a counted stock as CSV, with the header `article,there,counted,change`. The entries are those of
-/// [`count_stock`](crate::counting::count_stock).
+/// Returns the differences of a counted stock as CSV, with the header `article,there,counted,change`. `entries` are the entries of what
+/// [`count_stock`](crate::counting::count_stock) returned.
 ///
 /// # Errors
 ///
@@ -197,7 +197,7 @@ pub fn differences_text(
     )?;
     for entry in entries {
         let change = entry.movement.change;
-        let (_, after) = outcome_of(entry);
+        let (_, after) = refused_and_left(entry);
         let there = write_decimal(alloc, before_change(change, after), reading.scale)?;
         let counted = write_decimal(alloc, after, reading.scale)?;
         let change = change_text(alloc, change, reading.scale)?;

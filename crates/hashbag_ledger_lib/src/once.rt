@@ -5,7 +5,7 @@ ghost use Rattle.hashbag_ledger_lib.specs.Kinds.{name_of, undone_of, IsBatchOfDi
 /// What a batch is.
 #[derive(Clone, Copy, PartialEq, Eq, Debug)]
 pub enum Kind {
-    /// The stock at the beginning.
+    /// The opening stock.
     Start,
     /// A file of movements.
     Moves,
@@ -64,7 +64,7 @@ pub struct Batch {
 
 /// Returns the first batch whose file has this SHA-256, or `None`.
 pub fn entered_before<'a>(batches: &'a [Batch], sha256: &str) -> Option<&'a Batch>
-    // The result is `None` exactly if no batch has this digest.
+    // The result is `None` exactly if no batch has this digest, else a batch of the list that has it.
     ensures { IsBatchOfDigest sha256.now batches.now result }
 {
     for batch in batches {

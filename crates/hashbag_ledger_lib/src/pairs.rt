@@ -5,12 +5,12 @@ ghost use Rattle.std.specs.Map.{keys_of, values_of};
 
 use std::alloc::{AllocError, Global};
 
-/// Returns the first halves of pairs, in turn, and the second ones.
+/// Returns two lists: the first halves of the pairs, and their second halves, each in the order of the pairs.
 ///
 /// # Errors
 ///
 /// An allocation fails.
-pub fn halves<A: Drop, B: Drop>(
+pub fn unzip<A: Drop, B: Drop>(
     alloc: Global,
     pairs: Vec<(A, B)>,
 ) -> Result<(Vec<A>, Vec<B>), AllocError>
@@ -26,12 +26,12 @@ pub fn halves<A: Drop, B: Drop>(
     Ok((firsts, seconds))
 }
 
-/// Returns each element of a list with the one of the other list at its place. What is left of the longer one is dropped.
+/// Returns the pairs of the elements that are at the same place in both lists. The elements of the longer list without a partner are dropped.
 ///
 /// # Errors
 ///
 /// An allocation fails.
-pub fn paired<A: Drop, B: Drop>(
+pub fn zip<A: Drop, B: Drop>(
     alloc: Global,
     firsts: Vec<A>,
     seconds: Vec<B>,

@@ -1,11 +1,11 @@
 //! Reading movements from CSV texts.
-ghost use Rattle.std.specs.Prelude.{◌≡◌, String, All, IfOk, IfSome, OnOk, map};
+ghost use Rattle.std.specs.Prelude.{◌≡◌, String, All, IfOk, IfSome, OnOk};
 ghost use Rattle.std.specs.Global.{Global};
 ghost use Rattle.std.specs.String.{string_eq};
 ghost use Rattle.hashbag_csv.specs.Sheets.{place, read_last};
 ghost use Rattle.hashbag_ledger_lib.specs.Ledgers.{EntersFileInto, EntersMovement};
 ghost use Rattle.hashbag_ledger_lib.specs.declared.movements.Movement.{Movement};
-ghost use Rattle.hashbag_ledger_lib.specs.Movements.{content_of, signed, of_kind, change_by, change_places, columns_by, change_in, movements_in, names_now, places_under, ReadsNextMovement};
+ghost use Rattle.hashbag_ledger_lib.specs.Movements.{contents_of, signed, of_kind, change_by, change_places, columns_by, change_in, movements_read, places_under, ReadsNextMovement};
 
 use crate::entering::LedgerError;
 use crate::ledger::Ledger;
@@ -153,9 +153,8 @@ pub fn read_movements(
     names: Columns<&str>,
     reading: Reading,
 ) -> Result<Vec<Movement<String>>, SheetError>
-    // The result is the list of the movements that the text has.
-    ensures movements { IfOk result (λ movements.
-        map content_of movements.items ≡ movements_in reading (names_now names.entry) text.now) }
+    // The articles and changes of the result are those of the records below the header, in turn, read by `names` and `reading`.
+    ensures movements { IfOk result (λ all. contents_of all.items ≡ movements_read reading names.entry text.now) }
     ensures places { IfOk result (λ movements. All (λ m. m.place.file ≡ file) movements.items) }
 {
     let mut sheet = Sheet::open_with(alloc, text, reading.delimiter)?;
@@ -173,7 +172,7 @@ pub fn read_movements(
     Ok(movements)
 }
 
-// Enters a movement, which is that of the record that was read last, into a ledger.
+// Enters into a ledger the movement of the record that was read last.
 fn enter_record<S: BuildHasher + Drop>(
     alloc: Global,
     ledger: &mut Ledger<String, S>,
@@ -209,9 +208,8 @@ pub fn enter_movements<S: BuildHasher + Drop>(
     names: Columns<&str>,
     reading: Reading,
 ) -> Result<(), SheetError>
-    // The movements of the text follow the movements that the ledger had.
-    ensures { OnOk result
-        (EntersFileInto file (movements_in reading (names_now names.entry) text.now) ledger.old ledger.new) }
+    // The movements of the text, each with `file` in its place, follow the movements that the ledger had.
+    ensures { OnOk result (EntersFileInto file (movements_read reading names.entry text.now) ledger.old ledger.new) }
 {
     let mut sheet = Sheet::open_with(alloc, text, reading.delimiter)?;
     let columns = columns_of(&sheet, names)?;

@@ -1,5 +1,5 @@
-//! What became of the movements in a database: the entries are computed again, from an empty stock. What a movement carries along, as its
-//! day, or its date and note, stays in one pair with the movement.
+//! What became of the movements in a database: the entries are computed again, from an empty stock. Each movement is in a pair with what it
+//! carries along: its day, or its date and its note.
 ghost use Rattle.std.specs.Prelude.{◌≡◌, ◌++◌, ◌∷◌, [], IfOk, OnOk, filter};
 ghost use Rattle.std.specs.Map.{values_of};
 ghost use Rattle.hashbag_ledger_lib.specs.Recalls.{is_of, recalled, recalled_of};
@@ -7,7 +7,7 @@ ghost use Rattle.hashbag_ledger_lib.specs.Recalls.{is_of, recalled, recalled_of}
 use crate::entering::LedgerError;
 use crate::ledger::booking::book_batch;
 use crate::movements::{Entry, Movement};
-use crate::pairs::{halves, paired};
+use crate::pairs::{unzip, zip};
 use std::alloc::{AllocError, Global};
 use std::hash::BuildHasher;
 
@@ -22,12 +22,13 @@ pub fn recall<X: Drop, S: BuildHasher + Drop>(
     state: S,
     movements: Vec<(Movement<String>, X)>,
 ) -> Result<Vec<(Entry<String>, X)>, LedgerError>
+    // The movements, each with what becomes of it if all are entered in turn into an empty stock, and with what it carries along.
     ensures entries { IfOk result (λ entries. entries.items ≡ recalled movements.items) }
     ensures carried { IfOk result (λ entries. values_of entries.items ≡ values_of movements.items) }
 {
-    let (bare, carried) = halves(alloc, movements)?;
+    let (bare, carried) = unzip(alloc, movements)?;
     let booked = book_batch(alloc, state, Vec::new(alloc), bare)?;
-    Ok(paired(alloc, booked.entries, carried)?)
+    Ok(zip(alloc, booked.entries, carried)?)
 }
 
 // Appends an entry if it is of this batch.
@@ -60,7 +61,7 @@ fn own_of<X: Drop>(
 }
 
 /// Returns the movements of a batch, in turn, each with what became of it, and with what it carries along. `movements` are all movements up to
-/// the end of the batch; in each `place.file` is the number of the batch.
+/// the end of the batch; the `place.file` of each is the number of its batch.
 ///
 /// # Errors
 ///
@@ -71,7 +72,7 @@ pub fn recall_batch<X: Drop, S: BuildHasher + Drop>(
     movements: Vec<(Movement<String>, X)>,
     batch: usize,
 ) -> Result<Vec<(Entry<String>, X)>, LedgerError>
-    // The movements before the batch decide what became of the batch's movements.
+    // All movements are entered in turn into an empty stock. The result has those whose `place.file` is `batch`, each with what becomes of it.
     ensures { IfOk result (λ own. own.items ≡ recalled_of batch movements.items) }
 {
     let entries = recall(alloc, state, movements)?;

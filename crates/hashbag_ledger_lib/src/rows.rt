@@ -41,7 +41,7 @@ pub fn rises(balance: &[(String, usize)]) -> bool
     true
 }
 
-// Returns the change of the next article's row, or `None` if the row stays, and the rows after that article in both balances.
+// Returns the change of the row of the next article, or `None` if that row stays. Also returns the rows after that article in both balances.
 fn next_change<'a, 'b>(
     before: Balance<'a>,
     after: Balance<'b>,

@@ -225,6 +225,7 @@ fn is_sealed(
 
 /// Returns the first `count` elements of a list, or all, and the elements after them.
 pub fn cut<T>(list: &[T], count: u64) -> (&[T], &[T])
+    // `take count list`: the first `count` elements, or all. `drop count list`: the elements after them.
     ensures own { result.0.now ≡ take count list.now }
     ensures later { result.1.now ≡ drop count list.now }
 {
@@ -236,8 +237,8 @@ pub fn cut<T>(list: &[T], count: u64) -> (&[T], &[T])
 }
 
 /// Returns the rows of batches with their seals, in turn, in a stock whose numbers have `scale` decimals. `entries` are the entries of all
-/// batches, in turn: for each batch as many as its draft says, or the rest. `extras` are the dates and the notes of the same movements; it
-/// is empty if no movement has one.
+/// batches, in turn: each batch has as many as its draft says, or all that are left if there are fewer. `extras` are the dates and the notes of
+/// the same movements; the list is empty if no movement has one.
 ///
 /// # Errors
 ///
@@ -249,7 +250,11 @@ pub fn sealed_rows(
     entries: &[Entry<String>],
     extras: &[Extra],
 ) -> Result<Vec<Batch>, AllocError>
+    // Each batch has the next entries, as many as its draft says, and their dates and notes. Its row has the fields of the draft, how many movements
+    // and refusals these are, and the seal of all this.
     ensures rows { IfOk result (λ rows. AreRowsOf scale drafts.now entries.now extras.now rows.items) }
+
+    // So each seal is right for its row and the next entries, as many as the row says, and their dates and notes: `wrong_seal` finds none.
     ensures sealed { IfOk result (λ rows. AreSealed scale rows.items entries.now extras.now) }
 {
     let mut rows = Vec::new(alloc);
@@ -279,6 +284,7 @@ pub fn wrong_seal(
     entries: &[Entry<String>],
     extras: &[Extra],
 ) -> Result<Option<i64>, AllocError>
+    // `AreSealed`: the seal of each batch is right for its row and the next entries, as many as its row says, and their dates and notes.
     ensures { IfOk result (λ wrong. IsNone wrong ↔ AreSealed scale batches.now entries.now extras.now) }
 {
     let (mut rest, mut left, mut left_extras) = (batches, entries, extras);

@@ -2,11 +2,11 @@
 ghost use Rattle.std.specs.Prelude.{◌≡◌, ◌+◌, ◌<◌, ◌^◌, ◌-◌, ◌↔◌, ◌++◌, [], String, IfOk, OnOk, string_cmp};
 ghost use Rattle.std.specs.Global.{Global};
 ghost use Rattle.std.specs.String.{string_eq};
-ghost use Rattle.hashbag_csv.specs.Quantities.{numbers};
+ghost use Rattle.hashbag_csv.specs.Quantities.{number_sum};
 ghost use Rattle.hashbag_ledger_lib.specs.Changes.{Rises};
 ghost use Rattle.hashbag_ledger_lib.specs.Errors.{IfTooMany};
 ghost use Rattle.hashbag_ledger_lib.specs.Settled.{listed, IsPastWithin};
-ghost use Rattle.hashbag_ledger_lib.specs.Undos.{coming_back, going_back, opposites_of, EntersOrRefuses, IsUndo, IsChangedBy, HasRisingRows, OppositesFit, RestoresWhatWas};
+ghost use Rattle.hashbag_ledger_lib.specs.Undos.{coming_back, going_back, opposites_of, EntersOrRefuses, IsUndo, IsChangedBy, IsChangedIfRising, OppositesFit, RestoresWhatWas};
 
 use crate::entering::LedgerError;
 use crate::filing::copy_of;
@@ -21,9 +21,10 @@ use std::hash::BuildHasher;
 /// The result of an undo.
 #[derive(Drop)]
 pub enum Undo<T> {
-    /// The batch was taken back. The new balance, and the opposite movements, each with what became of it: all were entered.
+    /// The batch was taken back: the new balance, and the opposite movements, each with what became of it. All of these movements were entered.
     Done(Booked<T>),
-    /// Some articles would fall below zero. The refusals of the opposite movements that would remove more than is there.
+    /// Nothing was entered, since some articles would fall below zero: the refusals of the opposite movements that would remove more than is
+    /// there.
     Refused(Vec<Refusal<T>>),
 }
 
@@ -33,6 +34,7 @@ fn turn<T: Drop>(
     coming_in: &mut Vec<Movement<T>>,
     going_out: &mut Vec<Movement<T>>,
 ) -> Result<(), AllocError>
+    // `coming_back m c []` is the opposite of m if the change c is an `Out`, else nothing; `going_back m c []` is the opposite if c is an `In`.
     ensures coming { OnOk result
         (coming_in.new.items ≡ coming_in.old.items ++ coming_back movement movement.change []) }
     ensures going { OnOk result (going_out.new.items ≡ going_out.old.items ++ going_back movement movement.change []) }
@@ -106,8 +108,8 @@ pub fn take_back<S: BuildHasher + Drop>(
     ensures last { IfOk result (λ u. RestoresWhatWas kept.items batch.items u) }
 
     // The entries, or the refusals, are those of the opposite movements.
-    ensures each { IfOk result (EntersOrRefuses string_eq kept.items batch.items) }
-    ensures too_many { (result ≡ Err LedgerError.StartTooMany) ↔ (2 ^ 63 - 1 < numbers kept.items) }
+    ensures entries { IfOk result (EntersOrRefuses string_eq kept.items batch.items) }
+    ensures too_many { (result ≡ Err LedgerError.StartTooMany) ↔ (2 ^ 63 - 1 < number_sum kept.items) }
 
     // On success no total passes [`MOST`]. `TooMany p`: with the opposite of the movement at `p` the total would.
     ensures fit { OnOk result (OppositesFit kept.items batch.items) }
@@ -129,8 +131,7 @@ fn undone_rows(
     kept: &[(String, usize)],
     undo: &Undo<String>,
 ) -> Result<Vec<RowChange>, AllocError>
-    ensures { IfOk result (λ changed.
-        Rises kept.now → HasRisingRows undo.now → IsChangedBy kept.now undo.now changed.items) }
+    ensures { IfOk result (λ changed. IsChangedIfRising kept.now undo.now changed.items) }
 {
     match undo {
         Undo::Done(booked) => {
@@ -156,11 +157,13 @@ pub fn undo_batch<S: BuildHasher + Drop>(
 ) -> Result<(Undo<String>, Vec<RowChange>), LedgerError>
     // Either the batch is taken back, or the undo is `Refused`, because an article would fall below zero.
     ensures undo { IfOk result (λ u. IsUndo string_eq string_cmp (listed string_eq kept.now) batch.items u.0) }
-    ensures each { IfOk result (λ u. EntersOrRefuses string_eq kept.now batch.items u.0) }
+
+    // The entries, or the refusals, are those of the opposite movements.
+    ensures entries { IfOk result (λ u. EntersOrRefuses string_eq kept.now batch.items u.0) }
 
     // If the kept rows are in ascending order, the changes turn them into the rows of the new balance; no changes if the undo is `Refused`.
     ensures changed { IfOk result (λ u. Rises kept.now → IsChangedBy kept.now u.0 u.1.items) }
-    ensures start { (result ≡ Err LedgerError.StartTooMany) → 2 ^ 63 - 1 < numbers kept.now }
+    ensures start { (result ≡ Err LedgerError.StartTooMany) → 2 ^ 63 - 1 < number_sum kept.now }
 
     // `TooMany p`: with the opposite of the movement at `p` the total would pass [`MOST`].
     ensures past { IfTooMany result (λ p. IsPastWithin string_eq (2 ^ 63 - 1) kept.now (opposites_of batch.items) p) }

@@ -1,7 +1,7 @@
 //! The kept balance and refusals, compared with those that are computed from the movements.
 ghost use Rattle.std.specs.Prelude.{◌≡◌, ◌≢◌, ◌≤◌, ◌↔◌, IsTrue, IsNone, IfNone, IfOk, IfSome, map, slice_get};
 ghost use Rattle.std.specs.Option.{option_copied, option_map};
-ghost use Rattle.hashbag_ledger_lib.specs.Rows.{row, rows_of, kept_of, wrong_row, wrong_movement, AgreeBefore, IsFirstDifference, IsFirstWrongRow, article_with_both, first_row, row_there};
+ghost use Rattle.hashbag_ledger_lib.specs.Rows.{row, rows_of, kept_of, wrong_row, wrong_movement, AgreeBefore, IsFirstDifference, IsFirstWrongRow, article_with_both, lower_row_of, row_there};
 
 use crate::extras::Extra;
 use crate::movements::{Movement, Refusal};
@@ -75,8 +75,8 @@ fn first_difference(kept: &[(String, usize)], counted: &[(String, usize)]) -> Op
 }
 
 // Returns the lower article of two rows that differ, with its number in each row; 0 if the row is of the other article.
-fn first_of<'a>(kept: &'a (String, usize), counted: &'a (String, usize)) -> WrongNumber<'a>
-    ensures { article_with_both result ≡ first_row (row kept.now) (row counted.now) }
+fn lower_of<'a>(kept: &'a (String, usize), counted: &'a (String, usize)) -> WrongNumber<'a>
+    ensures { article_with_both result ≡ lower_row_of (row kept.now) (row counted.now) }
 {
     match kept.0.as_str().cmp(&counted.0.as_str()) {
         Ordering::Less => WrongNumber {
@@ -105,7 +105,7 @@ fn wrong_of<'a>(
     ensures { option_map article_with_both result ≡ wrong_row (row_there kept.entry) (row_there counted.entry) }
 {
     match (kept, counted) {
-        (Some(old), Some(new)) => Some(first_of(old, new)),
+        (Some(old), Some(new)) => Some(lower_of(old, new)),
         (Some(old), None) => Some(WrongNumber {
             article: old.0.as_str(),
             kept: old.1,
@@ -125,7 +125,10 @@ pub fn wrong_number<'a>(
     kept: &'a [(String, usize)],
     counted: &'a [(String, usize)],
 ) -> Option<WrongNumber<'a>>
+    // `None` exactly if both balances have the same rows: articles, by their bytes, and numbers.
     ensures agrees { IsNone result ↔ (rows_of kept.now ≡ rows_of counted.now) }
+
+    // At the first place where the rows differ: the lower article of the two rows, with its number in each balance.
     ensures first { IfSome result (IsFirstWrongRow kept.now counted.now) }
 {
     match first_difference(kept, counted) {
@@ -160,7 +163,10 @@ fn first_number(kept: Option<&KeptRefusal>, counted: Option<&Refusal<String>>) -
 /// Returns the number of the first movement that is refused in only one list, or in both with different numbers `there`. Returns `None` if
 /// both lists have the same refusals.
 pub fn wrong_refusal(kept: &[KeptRefusal], counted: &[Refusal<String>]) -> Option<usize>
+    // `None` exactly if both lists have the same refusals. `kept_of`: the refusal as the database keeps it.
     ensures agrees { IsNone result ↔ (kept.now ≡ map kept_of counted.now) }
+
+    // At the first place where the lists differ: the lower movement number of the two refusals.
     ensures first { IfSome result (IsFirstDifference wrong_movement kept.now (map kept_of counted.now)) }
 {
     let longest = longest_of(kept.len(), counted.len());
@@ -205,8 +211,8 @@ fn read_batch(
     read
 }
 
-/// Returns the number of the first batch that has other numbers of movements or refusals than its row says. If all rows are right and a
-/// movement is left over, returns the batch number of that movement, which is of no batch, or out of turn. Else returns `None`.
+/// Returns the number of the first batch that has other numbers of movements or refusals than its row says. If all rows are right, but a
+/// movement is left over (it is of no batch, or out of turn), returns the batch number that this movement names. Else returns `None`.
 ///
 /// Movements and refusals must be in turn.
 pub fn wrong_batch(

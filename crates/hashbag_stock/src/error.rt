@@ -12,7 +12,7 @@ pub enum StockError {
     /// The stock has tables of a later version.
     #[error("a stock of version {0}, which is later than {known}", known = crate::tables::VERSION)]
     Later(i64),
-    /// A row of the tables is none that this program writes.
+    /// A row of the tables is one that this program never writes.
     #[error("{0}")]
     Damaged(&'static str),
     /// Another process has the file open.

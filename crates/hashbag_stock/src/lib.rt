@@ -1,6 +1,6 @@
-//! A stock that is kept in a SQLite database: its tables, what is read of them, and a batch written in one transaction.
+//! A stock that is kept in a SQLite database: its tables, reading them, and writing batches in one transaction.
 //!
-//! All is over any store: the program keeps a stock in a file.
+//! The functions take a connection to any store. The program's store is a file.
 #![tactic(auto)]
 
 pub mod error;

@@ -1,4 +1,4 @@
-//! What is read of a stock.
+//! Reading a stock: its balance, its batches, its movements and its refusals.
 ghost use Rattle.std.specs.Prelude.{IfOk};
 ghost use Rattle.hashbag_ledger_lib.specs.Changes.{Rises};
 
@@ -15,7 +15,7 @@ use sqlite::{Alter, Connection, Row, params};
 use std::alloc::Global;
 
 // Returns a number that may not be below 0.
-fn natural(row: &Row, at: usize) -> Result<u64, StockError> {
+fn nonnegative(row: &Row, at: usize) -> Result<u64, StockError> {
     match row.get(at) {
         Ok(number) => Ok(number),
         Err(sqlite::Error::IntegralValueOutOfRange(_)) => Err(StockError::Damaged(
@@ -25,13 +25,13 @@ fn natural(row: &Row, at: usize) -> Result<u64, StockError> {
     }
 }
 
-// A value that a row of a query has.
+// Types that are read from a row of a query.
 trait FromRow: Sized {
-    // Returns it. The row has the columns that the query names, in turn.
+    // Returns the value of a row. The row has the columns that the query names, in turn.
     fn from_row(row: &Row) -> Result<Self, StockError>;
 }
 
-// Returns the values of the rows of a query, in turn. More rows than the loop reads are an error, and not a shorter list.
+// Returns the values of the rows of a query, in turn. If rows are left after the loop, it fails: it never returns a shorter list.
 fn list_of<S: Alter, R: FromRow + Drop>(
     alloc: Global,
     conn: &mut Connection<S>,
@@ -51,7 +51,7 @@ fn list_of<S: Alter, R: FromRow + Drop>(
 
 impl FromRow for (String, usize) {
     fn from_row(row: &Row) -> Result<(String, usize), StockError> {
-        Ok((row.get(0)?, natural(row, 1)? as usize))
+        Ok((row.get(0)?, nonnegative(row, 1)? as usize))
     }
 }
 
@@ -59,7 +59,8 @@ impl FromRow for (String, usize) {
 ///
 /// # Errors
 ///
-/// `Damaged` if the rows aren't in ascending order, as in a table whose column has another collation, or if a number is below 0. Else what fails.
+/// `Damaged` if the rows aren't in ascending order, as in a table whose column has another collation, or if a number is below 0. Else the error
+/// of the database.
 pub fn balance_of<S: Alter>(
     alloc: Global,
     conn: &mut Connection<S>,
@@ -83,8 +84,8 @@ impl FromRow for Batch {
             kind: row.get(3)?,
             undoes: row.get(4)?,
             time: row.get(5)?,
-            movements: natural(row, 6)?,
-            refused: natural(row, 7)?,
+            movements: nonnegative(row, 6)?,
+            refused: nonnegative(row, 7)?,
             seal: row.get(8)?,
         })
     }
@@ -94,7 +95,7 @@ impl FromRow for Batch {
 ///
 /// # Errors
 ///
-/// `Damaged` if a number is below 0. Else what fails.
+/// `Damaged` if a number is below 0. Else the error of the database.
 pub fn batches_of<S: Alter>(
     alloc: Global,
     conn: &mut Connection<S>,
@@ -108,11 +109,11 @@ pub fn batches_of<S: Alter>(
     list_of(alloc, conn, text, &[])
 }
 
-/// Returns what time it is, in UTC, as the table of batches has it.
+/// Returns the current time, in UTC, in the form that the table of batches has.
 ///
 /// # Errors
 ///
-/// What fails.
+/// The error of the database.
 pub fn time_of<S: Alter>(conn: &mut Connection<S>) -> Result<String, StockError> {
     Ok(conn.query_row("SELECT CURRENT_TIMESTAMP", &[])?.get(0)?)
 }
@@ -120,8 +121,8 @@ pub fn time_of<S: Alter>(conn: &mut Connection<S>) -> Result<String, StockError>
 // Returns the movement of a row: its place, its article and its change.
 fn movement_of(row: &Row) -> Result<Movement<String>, StockError> {
     let place = Place {
-        file: natural(row, 0)? as usize,
-        line: natural(row, 1)?,
+        file: nonnegative(row, 0)? as usize,
+        line: nonnegative(row, 1)?,
     };
     Ok(Movement {
         place,
@@ -156,12 +157,12 @@ impl FromRow for KeptMovement {
         Ok(KeptMovement {
             movement: movement_of(row)?,
             extra: extra_of(row)?,
-            batch: natural(row, 6)?,
+            batch: nonnegative(row, 6)?,
         })
     }
 }
 
-// Returns the columns of dates and notes, which are empty if the stock has none.
+// Returns the columns of dates and notes, as SQL: `NULL` for both if the stock has no such columns.
 fn extra_columns(shape: Shape) -> &'static str {
     if shape.is_dated() {
         "m.date, m.note"
@@ -170,9 +171,9 @@ fn extra_columns(shape: Shape) -> &'static str {
     }
 }
 
-// Returns the movements that `rest` of a query names, in turn, each with its date and its note. `file` is what SQL puts
-// into `place.file`.
-fn carrying_of<S: Alter>(
+// Returns the movements that a query gives, in turn, each with its date and its note. `rest` is what follows `FROM movement m` in the query.
+// `file` is the SQL expression for `place.file`.
+fn movements_with_extras<S: Alter>(
     alloc: Global,
     conn: &mut Connection<S>,
     shape: Shape,
@@ -187,7 +188,7 @@ fn carrying_of<S: Alter>(
     list_of(alloc, conn, text.as_str(), values)
 }
 
-/// Returns the movements of a batch that were entered, in turn, each with its line in file 0, and with its date and its note.
+/// Returns the movements of a batch that were entered, in turn, each with its date and its note. The file of a place is 0.
 ///
 /// # Errors
 ///
@@ -200,7 +201,7 @@ pub fn entered_of<S: Alter>(
 ) -> Result<Vec<(Movement<String>, Extra)>, StockError> {
     let rest =
         "LEFT JOIN refusal r ON r.movement = m.movement WHERE m.batch = ?1 AND r.movement IS NULL";
-    carrying_of(alloc, conn, shape, "0", rest, params![batch])
+    movements_with_extras(alloc, conn, shape, "0", rest, params![batch])
 }
 
 /// Returns all movements, in turn, each with its batch, its date and its note. The file of a place is the number of the movement.
@@ -220,7 +221,8 @@ pub fn movements_of<S: Alter>(
     list_of(alloc, conn, text.as_str(), &[])
 }
 
-/// Returns all movements, in turn, each with its day: its date, or that of its batch's time. The file of a place is the number of the movement.
+/// Returns all movements, in turn, each with its day: its date, else the day on which its batch was entered. The file of a place is the number
+/// of the movement.
 ///
 /// # Errors
 ///
@@ -241,8 +243,8 @@ pub fn dated_movements_of<S: Alter>(
 impl FromRow for KeptRefusal {
     fn from_row(row: &Row) -> Result<KeptRefusal, StockError> {
         Ok(KeptRefusal {
-            movement: natural(row, 0)? as usize,
-            there: natural(row, 1)? as usize,
+            movement: nonnegative(row, 0)? as usize,
+            there: nonnegative(row, 1)? as usize,
         })
     }
 }
@@ -264,8 +266,8 @@ pub fn refusals_of<S: Alter>(
     )
 }
 
-/// Returns the movements of this batch and of those before it, in turn, each with its date and its note. The file of a place is the number of the
-/// batch.
+/// Returns the movements of this batch and of the batches before it, in turn, each with its date and its note. The file of a place is the number
+/// of the batch.
 ///
 /// # Errors
 ///
@@ -277,7 +279,7 @@ pub fn movements_until<S: Alter>(
     batch: i64,
 ) -> Result<Vec<(Movement<String>, Extra)>, StockError> {
     let rest = "WHERE m.batch <= ?1";
-    carrying_of(alloc, conn, shape, "m.batch", rest, params![batch])
+    movements_with_extras(alloc, conn, shape, "m.batch", rest, params![batch])
 }
 
 /// Returns the movements of an article, in turn, each with its date and its note. The file of a place is the number of the batch.
@@ -292,7 +294,7 @@ pub fn movements_of_article<S: Alter>(
     article: &str,
 ) -> Result<Vec<(Movement<String>, Extra)>, StockError> {
     let rest = "WHERE m.article = ?1";
-    carrying_of(alloc, conn, shape, "m.batch", rest, params![article])
+    movements_with_extras(alloc, conn, shape, "m.batch", rest, params![article])
 }
 
 /// All that a stock keeps.

@@ -52,7 +52,7 @@ pub struct Shape {
 
 impl Shape {
     /// Returns whether batches of the stock may be counts.
-    pub fn takes_counts(self) -> bool {
+    pub fn may_have_counts(self) -> bool {
         self.version >= STYLED
     }
 
@@ -180,12 +180,12 @@ fn style_of<S: Alter>(conn: &mut Connection<S>, version: i64) -> Result<Style, S
     })
 }
 
-/// Returns the names of the columns of movements that a stock keeps, with commas between them. Returns `None` up to version 2, whose stocks
-/// keep none.
+/// Returns the names of the columns of movements that a stock keeps, with commas between them. Returns `None` for a stock of version 1 or 2,
+/// which keeps no names.
 ///
 /// # Errors
 ///
-/// `Damaged` if a stock of a later version keeps none. Else the error of the database.
+/// `Damaged` if a stock of version 3 keeps no names. Else the error of the database.
 pub fn columns_of<S: Alter>(
     conn: &mut Connection<S>,
     shape: Shape,

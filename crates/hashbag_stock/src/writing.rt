@@ -1,4 +1,4 @@
-//! The batches of one run, written into the tables of a stock in one transaction. The clauses `same_reference` say that the connection is
+//! The batches of one run, written into the tables of a stock in one transaction. The clauses `same_connection` say that the connection is
 //! the same, and `inside` that nothing is committed yet.
 ghost use Rattle.std.specs.Prelude.{◌≡◌, true, is_ok, OnOk};
 ghost use Rattle.sqlite.specs.Held.{state};
@@ -56,7 +56,7 @@ fn run<S: Alter>(
     text: &str,
     values: &[ValueRef<'_>],
 ) -> Result<(), StockError>
-    ensures same_reference { transaction.new.conn.ghost_name ≡ transaction.old.conn.ghost_name }
+    ensures same_connection { transaction.new.conn.ghost_name ≡ transaction.old.conn.ghost_name }
     ensures inside { IsInside (state S.Store transaction.old.conn.now) (state S.Store transaction.new.conn.now) }
 {
     transaction.execute(text, values)?;
@@ -69,7 +69,7 @@ fn keep<S: Alter>(
     name: &str,
     value: &str,
 ) -> Result<(), StockError>
-    ensures same_reference { transaction.new.conn.ghost_name ≡ transaction.old.conn.ghost_name }
+    ensures same_connection { transaction.new.conn.ghost_name ≡ transaction.old.conn.ghost_name }
     ensures inside { IsInside (state S.Store transaction.old.conn.now) (state S.Store transaction.new.conn.now) }
 {
     run(
@@ -85,7 +85,7 @@ fn keep_if<S: Alter>(
     name: &str,
     column: Option<&str>,
 ) -> Result<(), StockError>
-    ensures same_reference { transaction.new.conn.ghost_name ≡ transaction.old.conn.ghost_name }
+    ensures same_connection { transaction.new.conn.ghost_name ≡ transaction.old.conn.ghost_name }
     ensures inside { IsInside (state S.Store transaction.old.conn.now) (state S.Store transaction.new.conn.now) }
 {
     match column {
@@ -99,7 +99,7 @@ fn keep_style<S: Alter>(
     transaction: &mut Transaction<'_, S>,
     stock: NewStock<'_>,
 ) -> Result<(), StockError>
-    ensures same_reference { transaction.new.conn.ghost_name ≡ transaction.old.conn.ghost_name }
+    ensures same_connection { transaction.new.conn.ghost_name ≡ transaction.old.conn.ghost_name }
     ensures inside { IsInside (state S.Store transaction.old.conn.now) (state S.Store transaction.new.conn.now) }
 {
     keep(transaction, "mark", mark_name(stock.style.mark))?;
@@ -118,7 +118,7 @@ fn create<S: Alter>(
     transaction: &mut Transaction<'_, S>,
     stock: NewStock<'_>,
 ) -> Result<(), StockError>
-    ensures same_reference { transaction.new.conn.ghost_name ≡ transaction.old.conn.ghost_name }
+    ensures same_connection { transaction.new.conn.ghost_name ≡ transaction.old.conn.ghost_name }
     ensures inside { IsInside (state S.Store transaction.old.conn.now) (state S.Store transaction.new.conn.now) }
 {
     for text in &TABLES {
@@ -139,7 +139,7 @@ fn create_new<S: Alter>(
     transaction: &mut Transaction<'_, S>,
     new_stock: Option<NewStock<'_>>,
 ) -> Result<(), StockError>
-    ensures same_reference { transaction.new.conn.ghost_name ≡ transaction.old.conn.ghost_name }
+    ensures same_connection { transaction.new.conn.ghost_name ≡ transaction.old.conn.ghost_name }
     ensures inside { IsInside (state S.Store transaction.old.conn.now) (state S.Store transaction.new.conn.now) }
 {
     match new_stock {
@@ -154,7 +154,7 @@ fn write_batch<S: Alter>(
     row: &Batch,
     is_sealed: bool,
 ) -> Result<(), StockError>
-    ensures same_reference { transaction.new.conn.ghost_name ≡ transaction.old.conn.ghost_name }
+    ensures same_connection { transaction.new.conn.ghost_name ≡ transaction.old.conn.ghost_name }
     ensures inside { IsInside (state S.Store transaction.old.conn.now) (state S.Store transaction.new.conn.now) }
 {
     let movements = value_of(row.movements as usize)?;
@@ -186,7 +186,7 @@ fn write_movement<S: Alter>(
     movement: &Movement<String>,
     extra: Option<&Extra>,
 ) -> Result<(), StockError>
-    ensures same_reference { transaction.new.conn.ghost_name ≡ transaction.old.conn.ghost_name }
+    ensures same_connection { transaction.new.conn.ghost_name ≡ transaction.old.conn.ghost_name }
     ensures inside { IsInside (state S.Store transaction.old.conn.now) (state S.Store transaction.new.conn.now) }
 {
     let line = value_of(movement.place.line as usize)?;
@@ -211,7 +211,7 @@ fn write_refusal<S: Alter>(
     transaction: &mut Transaction<'_, S>,
     there: usize,
 ) -> Result<(), StockError>
-    ensures same_reference { transaction.new.conn.ghost_name ≡ transaction.old.conn.ghost_name }
+    ensures same_connection { transaction.new.conn.ghost_name ≡ transaction.old.conn.ghost_name }
     ensures inside { IsInside (state S.Store transaction.old.conn.now) (state S.Store transaction.new.conn.now) }
 {
     let row = transaction.last_insert_rowid();
@@ -230,7 +230,7 @@ fn write_entry<S: Alter>(
     entry: &Entry<String>,
     extra: Option<&Extra>,
 ) -> Result<(), StockError>
-    ensures same_reference { transaction.new.conn.ghost_name ≡ transaction.old.conn.ghost_name }
+    ensures same_connection { transaction.new.conn.ghost_name ≡ transaction.old.conn.ghost_name }
     ensures inside { IsInside (state S.Store transaction.old.conn.now) (state S.Store transaction.new.conn.now) }
 {
     write_movement(transaction, number, &entry.movement, extra)?;
@@ -247,7 +247,7 @@ fn write_entries<S: Alter>(
     entries: &[Entry<String>],
     extras: &[Extra],
 ) -> Result<(), StockError>
-    ensures same_reference { transaction.new.conn.ghost_name ≡ transaction.old.conn.ghost_name }
+    ensures same_connection { transaction.new.conn.ghost_name ≡ transaction.old.conn.ghost_name }
     ensures inside { IsInside (state S.Store transaction.old.conn.now) (state S.Store transaction.new.conn.now) }
 {
     for i in 0..entries.len() {
@@ -261,7 +261,7 @@ fn write_row<S: Alter>(
     transaction: &mut Transaction<'_, S>,
     change: &RowChange,
 ) -> Result<(), StockError>
-    ensures same_reference { transaction.new.conn.ghost_name ≡ transaction.old.conn.ghost_name }
+    ensures same_connection { transaction.new.conn.ghost_name ≡ transaction.old.conn.ghost_name }
     ensures inside { IsInside (state S.Store transaction.old.conn.now) (state S.Store transaction.new.conn.now) }
 {
     match change {
@@ -286,7 +286,7 @@ fn write_rows<S: Alter>(
     transaction: &mut Transaction<'_, S>,
     changed: &[RowChange],
 ) -> Result<(), StockError>
-    ensures same_reference { transaction.new.conn.ghost_name ≡ transaction.old.conn.ghost_name }
+    ensures same_connection { transaction.new.conn.ghost_name ≡ transaction.old.conn.ghost_name }
     ensures inside { IsInside (state S.Store transaction.old.conn.now) (state S.Store transaction.new.conn.now) }
 {
     for change in changed {
@@ -303,7 +303,7 @@ fn write_one<S: Alter>(
     entries: &[Entry<String>],
     extras: &[Extra],
 ) -> Result<(), StockError>
-    ensures same_reference { transaction.new.conn.ghost_name ≡ transaction.old.conn.ghost_name }
+    ensures same_connection { transaction.new.conn.ghost_name ≡ transaction.old.conn.ghost_name }
     ensures inside { IsInside (state S.Store transaction.old.conn.now) (state S.Store transaction.new.conn.now) }
 {
     write_batch(transaction, row, is_sealed)?;
@@ -315,7 +315,7 @@ fn write_batches<S: Alter>(
     transaction: &mut Transaction<'_, S>,
     new: &NewRows<'_>,
 ) -> Result<(), StockError>
-    ensures same_reference { transaction.new.conn.ghost_name ≡ transaction.old.conn.ghost_name }
+    ensures same_connection { transaction.new.conn.ghost_name ≡ transaction.old.conn.ghost_name }
     ensures inside { IsInside (state S.Store transaction.old.conn.now) (state S.Store transaction.new.conn.now) }
 {
     let (mut left, mut left_extras) = (new.entries, new.extras);
@@ -335,7 +335,7 @@ fn write_all<S: Alter>(
     new_stock: Option<NewStock<'_>>,
     new: &NewRows<'_>,
 ) -> Result<(), StockError>
-    ensures same_reference { transaction.new.conn.ghost_name ≡ transaction.old.conn.ghost_name }
+    ensures same_connection { transaction.new.conn.ghost_name ≡ transaction.old.conn.ghost_name }
     ensures inside { IsInside (state S.Store transaction.old.conn.now) (state S.Store transaction.new.conn.now) }
 {
     create_new(transaction, new_stock)?;
@@ -343,7 +343,7 @@ fn write_all<S: Alter>(
     write_rows(transaction, new.changed)
 }
 
-// Writes the batches of one run, and the changes of the rows of the balance, in one transaction, and first the tables of a new stock.
+// In one transaction: creates the tables if the stock is new, and writes the batches of one run and the changes of the rows of the balance.
 fn put_rows<S: Alter>(
     conn: &mut Connection<S>,
     new_stock: Option<NewStock<'_>>,
@@ -379,9 +379,11 @@ pub fn put_batches<S: Alter>(
     new_stock: Option<NewStock<'_>>,
     new: &NewRows<'_>,
 ) -> Result<(), StockError>
+    // If the disk doesn't fail: after `Ok` one new content is committed; after `Err` nothing is, if the connection is still open. A crash leaves what it
+    // could leave before, or this content.
     ensures commit { IsOneCommit (state S.Store conn.old) (state S.Store conn.new) (is_ok result) }
 
-    // No movement has gotten the date or the note of another one, because one is missing.
+    // There are no dates and notes, or as many as movements. So no movement gets the date or the note of another one.
     ensures extras { OnOk result (HasAllExtras new.now) }
 {
     if !has_all_extras(new) {

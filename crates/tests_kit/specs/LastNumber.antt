@@ -5,6 +5,6 @@ use Rattle.std.specs.Prelude.{ℕ, ◌+◌, ◌*◌, ◌/◌, ◌^◌, List, fol
 abbrev pub with_byte : ℕ → ℕ → ℕ
 with_byte n byte = n / 2 ^ 8 + byte * 2 ^ 56
 
--- what the bytes leave of the number n, taken in one after another
+-- the number after these bytes, taken in one after another, if it was n before
 abbrev pub number_after : ℕ → List ℕ → ℕ
 number_after n bytes = fold with_byte n bytes

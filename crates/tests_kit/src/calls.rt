@@ -1,9 +1,10 @@
 //! Rows of calls on a bag of numbers.
 //!
-//! A row is a line such as `insert_many 2 4 = 3`: a call and what it returns, as `Debug` writes it. Of a call that can fail that is the
-//! value in `Ok`, or else the name of the error. A line such as `[inserts]` names the rows after it, which are on a new bag.
+//! A row is a line such as `insert_many 2 4 = 3`: a call and what it returns, as `Debug` writes it. If the call can fail, the row has
+//! the value in `Ok`, or the name of the error. A line such as `[inserts]` names the rows after it, which are on a new bag.
 //!
-//! Each kind of arguments has a function without a contract of its own. So the proof carries nothing from one call to the next.
+//! The calls with each kind of arguments are made by one function, which has no contract. So the proof carries nothing from one call to the
+//! next.
 use crate::rows::{failure_text, rows_of};
 use crate::states::{IdentityState, OneState, ParityState};
 use crate::texts::{count, counts, debug_of, halves, is_text, number, values};
@@ -91,7 +92,7 @@ fn has_room<S: BuildHasher + Drop>(bag: &HashBag<u64, S>, n: usize) -> bool {
     bag.capacity() >= bag.set_len().saturating_add(n)
 }
 
-// Returns the number of slots of the newer table, of those of the older one that wait, and the room.
+// Returns the number of slots of the newer table, the number of waiting slots of the older table, and the room.
 fn tables<S: BuildHasher + Drop>(bag: &HashBag<u64, S>) -> (usize, usize, usize) {
     (bag.slots(), bag.waiting(), bag.room())
 }
@@ -130,13 +131,13 @@ fn retain_none<S: BuildHasher + Drop>(bag: &mut HashBag<u64, S>) {
     bag.retain(|_value: &u64, _count: usize| 0);
 }
 
-// Keeps the odd values, with all that they occur.
+// Keeps all occurrences of the odd values.
 fn retain_odd<S: BuildHasher + Drop>(bag: &mut HashBag<u64, S>) {
     bag.retain(|value: &u64, _count: usize| if *value % 2 == 0 { 0 } else { usize::MAX });
 }
 
-// Keeps of each value as many as it is, and returns how often the closure was called.
-fn retain_itself<S: BuildHasher + Drop>(bag: &mut HashBag<u64, S>) -> usize {
+// Keeps at most v occurrences of each value v, and returns how often the closure was called.
+fn retain_own_number<S: BuildHasher + Drop>(bag: &mut HashBag<u64, S>) -> usize {
     let mut calls = 0usize;
     bag.retain(|value: &u64, _count: usize| {
         calls = calls.saturating_add(1);
@@ -257,7 +258,7 @@ pub fn clone_of<S: BuildHasher + Clone + Drop>(
     bag.clone()
 }
 
-// Returns whether the bag equals a bag of these values, and whether that equals the bag.
+// Compares the bag with a bag of these values, in both directions.
 fn equals<S: BuildHasher + Default + Drop>(
     alloc: Global,
     bag: &HashBag<u64, S>,
@@ -267,7 +268,7 @@ fn equals<S: BuildHasher + Default + Drop>(
     debug_of(alloc, &(*bag == other, other == *bag))
 }
 
-// Returns the text of what a call with nothing returns.
+// Returns the text of what a call without arguments returns.
 fn with_nothing<S: BuildHasher + Default + Drop>(
     alloc: Global,
     bag: &mut HashBag<u64, S>,
@@ -291,12 +292,12 @@ fn with_nothing<S: BuildHasher + Default + Drop>(
         "shrink_to_fit" => text_of(alloc, bag.shrink_to_fit()),
         "retain_none" => debug_of(alloc, &retain_none(bag)),
         "retain_odd" => debug_of(alloc, &retain_odd(bag)),
-        "retain_itself" => debug_of(alloc, &retain_itself(bag)),
+        "retain_own_number" => debug_of(alloc, &retain_own_number(bag)),
         _ => with_walk(alloc, bag, verb),
     }
 }
 
-// Returns the text of what a walk says of itself.
+// Returns the text of a bag or a walk, or of the size hint of a walk.
 fn with_walk<S: BuildHasher + Default + Drop>(
     alloc: Global,
     bag: &mut HashBag<u64, S>,
@@ -440,7 +441,7 @@ pub fn make_calls<S: BuildHasher + Default + Drop>(
     Ok(())
 }
 
-/// Makes the call of a row that is in no text.
+/// Makes the call of a single row.
 pub fn make_call<S: BuildHasher + Default + Drop>(
     alloc: Global,
     bag: &mut HashBag<u64, S>,

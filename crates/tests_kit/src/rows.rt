@@ -1,4 +1,4 @@
-//! Tests as rows of text. Each row knows its line, and a failure of a row says both.
+//! Tests as rows of text. Each row knows its line. A failure of a row has the line and the row.
 use std::alloc::Global;
 use std::cell::Cell;
 use std::fmt::{Display, InlineText};
@@ -16,8 +16,8 @@ pub struct Row {
     pub text: &'static str,
 }
 
-/// Returns the rows of a text, one a line. There has to be one. Empty lines, those that begin with `#`, and spaces before and after a row
-/// mean nothing.
+/// Returns the rows of a text, one a line, and fails if there is none. Empty lines, and lines that begin with `#`, are skipped. Spaces before
+/// and after a row are removed.
 pub fn rows_of(alloc: Global, text: &'static str) -> Result<Vec<Row>, Fail> {
     let mut list = Vec::new(alloc);
     let mut line = 0usize;
@@ -53,7 +53,7 @@ impl Eprint for Printed {
     }
 }
 
-/// Returns the text of a failure. A `Fail` gives its text only to what a test ends on, so it ends on a text here.
+/// Returns the text of a failure. Only `report` shows the text of a `Fail`, as at the end of a test; so it reports to `Printed` here.
 pub fn failure_text(fail: Fail) -> InlineText<{ TEXT_CAPACITY }> {
     let printed = Printed {
         text: Cell::new(InlineText::new()),

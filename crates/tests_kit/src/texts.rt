@@ -96,7 +96,7 @@ pub fn is_text(got: &str, want: &str) -> Result<(), Fail> {
     Err(Fail::new(format_args!("{got}, not {want}")))
 }
 
-/// Compares two texts. The failure says what they are of.
+/// Compares two texts. A failure begins with `what`.
 pub fn is_text_of(what: &str, got: &str, want: &str) -> Result<(), Fail> {
     if got == want {
         return Ok(());

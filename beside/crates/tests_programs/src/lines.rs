@@ -114,6 +114,7 @@ fn fields_are_trimmed_and_folded(rt: HostRuntime) -> Result<(), Fail> {
             },
             number: LineForm::plain().number,
             allows_short: false,
+            no_header: false,
         };
         let number = Some("number");
         let said = said_of_lines(rt.alloc(), text, &["k"], number, Reading::plain(), form)?;
@@ -142,6 +143,7 @@ fn blank_is_zero(rt: HostRuntime) -> Result<(), Fail> {
                 group: None,
             },
             allows_short: false,
+            no_header: false,
         };
         let reading = Reading {
             delimiter: Delimiter::Comma,
@@ -279,6 +281,7 @@ fn digits_are_in_groups(rt: HostRuntime) -> Result<(), Fail> {
                 group: Some(*group),
             },
             allows_short: false,
+            no_header: false,
         };
         let reading = Reading {
             delimiter: Delimiter::Semicolon,
@@ -332,6 +335,7 @@ fn records_may_be_short(rt: HostRuntime) -> Result<(), Fail> {
                 group: None,
             },
             allows_short: true,
+            no_header: false,
         };
         let number = Some("number");
         let said = said_of_lines(rt.alloc(), text, *keys, number, Reading::plain(), form)?;

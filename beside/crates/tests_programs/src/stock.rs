@@ -11,7 +11,7 @@ use hashbag_ledger_lib::listing::{batches_text, history_text};
 use hashbag_ledger_lib::movements::{Change, Entry, Movement, Outcome, Place, Refusal};
 use hashbag_ledger_lib::numbers::{MOST, change_of, number_of, plain_change, signed, size_of};
 use hashbag_ledger_lib::once::{Batch, Kind, batch_of, entered_before, undone_by};
-use hashbag_ledger_lib::pairs::paired;
+use hashbag_ledger_lib::pairs::zip;
 use hashbag_ledger_lib::rows::{RowChange, changed_rows};
 use hashbag_ledger_lib::sealing::{Draft, digest_of, sealed_rows, wrong_seal};
 use hashbag_ledger_lib::undoing::{Undo, opposites, take_back};
@@ -604,7 +604,7 @@ fn opposites_have_the_same_dates(rt: HostRuntime) -> Result<(), Fail> {
     let alloc = rt.alloc();
     let movements = movements_of(alloc, &[("a", "in", 5), ("b", "out", 1), ("a", "in", 2)])?;
     let extras = extras_of(alloc, &[("2026-01-01", ""), ("2026-01-02", "x"), ("2026-01-03", "")])?;
-    let turned = opposite_extras(alloc, &paired(alloc, movements, extras)?)?;
+    let turned = opposite_extras(alloc, &zip(alloc, movements, extras)?)?;
     let wanted = extras_of(alloc, &[("2026-01-02", "x"), ("2026-01-01", ""), ("2026-01-03", "")])?;
     assert!(rt; turned == wanted);
     Ok(())
@@ -623,7 +623,7 @@ fn a_day_has_a_balance(rt: HostRuntime) -> Result<(), Fail> {
     for day in ["2026-02-01", "2026-01-31", "2026-01-31", "2026-01-01"] {
         days.push(day.to_string(alloc)?)?;
     }
-    let entries = paired(alloc, booked.entries, days)?;
+    let entries = zip(alloc, booked.entries, days)?;
     for (date, b) in [("2026-01-31", Change::Out(2)), ("2026-02-01", Change::In(3))] {
         let Ok(rows) = balance_at(alloc, FixedState::new(), date, &entries) else {
             return Err(Fail::from("no balance"));
@@ -664,7 +664,7 @@ fn batches_and_histories_are_written(rt: HostRuntime) -> Result<(), Fail> {
     if let Some(second) = entries.get_mut(1) {
         second.movement.place = Place { file: 5, line: 7 };
     }
-    let entries = paired(alloc, entries, extras)?;
+    let entries = zip(alloc, entries, extras)?;
     assert_eq!(rt;
         String::from_utf8(history_text(alloc, reading, &batches, &entries)?)?.as_str(),
         "batch;file;line;time;date;change;outcome;number;note\n1;file 1.csv;7;2026-01-02 03:04:05;;2,5;entered;2,5;\n5;file 5.csv;7;2026-01-02 03:04:05;2026-02-28;-3,0;refused;2,5;late\n"

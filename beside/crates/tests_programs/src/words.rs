@@ -66,7 +66,7 @@ const MERGES: [(&[u8], bool, &str); 20] = [
     (
         b"a\t1\n\xff\t1\n",
         false,
-        "2: not UTF-8; if it is Windows-1252, `iconv -f CP1252` converts it",
+        "2: not UTF-8; if it is Windows-1252, `--encoding Windows-1252` reads it",
     ),
     (b"a\t1\n\xff\t1\nb\nc\t4\n", true, "a\t1\nc\t4\n"),
     (b"a\t1\nb\t1", false, "2: no line feed"),

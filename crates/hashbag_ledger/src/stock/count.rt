@@ -11,7 +11,7 @@ use hashbag_shell::output::Output;
 use hashbag_shell::status::DONE;
 use hashbag_shell::trouble::Trouble;
 
-// Returns a file that is named for two things.
+// Returns a file that the arguments name for two uses, if there is one.
 fn conflict<'a>(rt: &HostRuntime, job: &Job<'a>) -> Result<Option<&'a str>, Trouble<'a>> {
     if is_of_database(rt, job.db, job.counted)? {
         return Ok(Some(job.counted));
@@ -24,7 +24,7 @@ fn conflict<'a>(rt: &HostRuntime, job: &Job<'a>) -> Result<Option<&'a str>, Trou
     Ok(None)
 }
 
-// Enters the differences between the stock and what these bytes say.
+// Enters the differences between the stock and what was counted. `bytes` is the content of the file of what was counted.
 fn counted_by<'a>(
     rt: &HostRuntime,
     stages: &HostStages<'_>,
@@ -63,7 +63,7 @@ pub fn count<'a>(rt: &HostRuntime, job: &Job<'a>) -> Result<u8, Trouble<'a>> {
     let output = Output::open(rt, job.output)?;
     match counted(rt, job) {
         Ok(counted) => {
-            say(rt, job.quiet, counted.said.as_str());
+            say(rt, job.quiet, counted.message.as_str());
             output.write(rt, counted.table.as_slice())?;
             Ok(DONE)
         }

@@ -22,7 +22,7 @@ pub type Db = Connection<FileStore<File>>;
 // How many milliseconds pass before a file that is in use is tried again.
 const PAUSE: u64 = 50;
 
-// How often that is in a second.
+// How many pauses a second has.
 const TRIES: usize = 20;
 
 // Returns whether a file has no byte, or doesn't exist.
@@ -33,7 +33,7 @@ fn is_blank(rt: &HostRuntime, name: &str) -> bool {
     }
 }
 
-/// Returns whether there is no database of this name: neither its file nor its log exists with a byte in it.
+/// Returns whether there is no database of this name: both its file and its log are absent or empty.
 ///
 /// # Errors
 ///
@@ -97,7 +97,7 @@ pub fn open_or_make<'a>(
 ///
 /// # Errors
 ///
-/// `NoFile` or `NoStock` if there is none, or why it gives none.
+/// That there is no such file, or no stock in it, or why the file can't be opened.
 pub fn open<'a>(
     rt: &HostRuntime,
     stages: &HostStages<'_>,
@@ -126,11 +126,11 @@ fn abandon(conn: Db) {
     let _ = conn;
 }
 
-/// Closes a database after what was done in it, or leaves it as it is if that failed. Returns what was done.
+/// If `done` is `Ok`, closes the database, else leaves it as it is. Returns `done`.
 ///
 /// # Errors
 ///
-/// That of what was done.
+/// The error in `done`.
 pub fn ended<'a, T>(conn: Db, done: Result<T, Trouble<'a>>) -> Result<T, Trouble<'a>> {
     if done.is_ok() {
         close(conn);
@@ -153,7 +153,7 @@ pub struct HostDatabases<'s> {
 }
 
 impl Databases<Db> for HostDatabases<'_> {
-    // No clause of the system's says what a database has.
+    // No contract of the system says what a database has, so this is true of all contents.
     ghost has = { λ _ _ _. ⊤ };
 
     fn is_new<'a>(&self, db: &'a str) -> Result<bool, Trouble<'a>> {

@@ -8,18 +8,18 @@ use crate::stock::stages::HostStages;
 use hashbag_csv::delimiter::Delimiter;
 use hashbag_ledger_args::job::Job;
 use hashbag_ledger_db::closing::{Closed, begin_in, beginning_of, closed_in};
-use hashbag_ledger_db::entering::Report;
+use hashbag_ledger_db::entering::EnterReport;
 use hashbag_ledger_db::files::enter_named;
 use hashbag_ledger_db::stages::{Stage, Stages};
 use hashbag_ledger_db::troubles;
 use hashbag_ledger_lib::output::typed_text;
 use hashbag_shell::inputs::{HostInputs, Inputs};
 use hashbag_shell::output::Output;
-use hashbag_shell::status::DONE;
+use hashbag_shell::status::{BAD_INPUT, DONE};
 use hashbag_shell::trouble::Trouble;
 use hashbag_stock::tables::Contents;
 
-// Returns a file that is named for two things.
+// Returns a file that the arguments name for two uses, if there is one.
 fn conflict<'a>(rt: &HostRuntime, job: &Job<'a>) -> Result<Option<&'a str>, Trouble<'a>> {
     for name in [job.from, job.refused] {
         if let Some(file) = name
@@ -54,17 +54,23 @@ fn output_of<'a>(rt: &HostRuntime, job: &Job<'a>) -> Result<Output<'a>, Trouble<
     Output::open(rt, job.refused)
 }
 
-// Writes the refusals, says which batches were entered, and returns the status.
+// Says which batches were entered, writes the refusals, and returns the status. If the refusals have a file, the message comes first: so it is
+// shown even if that file can't be written.
 fn write<'a>(
     rt: &HostRuntime,
     job: &Job<'a>,
     output: Output<'a>,
-    entered: Result<Report, Trouble<'a>>,
+    entered: Result<EnterReport, Trouble<'a>>,
 ) -> Result<u8, Trouble<'a>> {
     match entered {
         Ok(report) => {
-            write_refusals(rt, output, report.refusals.as_slice())?;
-            say(rt, job.quiet, report.said.as_str());
+            if job.refused.is_some() {
+                say(rt, job.quiet, report.message.as_str());
+                write_refusals(rt, output, report.refusals.as_slice())?;
+            } else {
+                write_refusals(rt, output, report.refusals.as_slice())?;
+                say(rt, job.quiet, report.message.as_str());
+            }
             Ok(report.status)
         }
         Err(trouble) => {
@@ -91,7 +97,7 @@ pub fn enter<'a>(rt: &HostRuntime, job: &Job<'a>) -> Result<u8, Trouble<'a>> {
     write(rt, job, output, entered)
 }
 
-// A text that is typed in place of each input.
+// The text of a movement that is typed. It is read in place of each input.
 #[derive(Drop)]
 struct Typed {
     text: Vec<u8>,
@@ -105,29 +111,58 @@ impl Inputs for Typed {
     }
 }
 
-/// Enters one movement of the article that is asked for, of the number that is typed, with this sign: its text is entered in place of
+// Returns the trouble of a movement that is typed. The message names no line, and has the number as it was typed.
+fn of_typed<'a>(rt: &HostRuntime, sign: &str, trouble: Trouble<'a>) -> Trouble<'a> {
+    match &trouble {
+        Trouble::BadLine {
+            what,
+            is_total: false,
+            ..
+        } => {
+            let alloc = rt.alloc();
+            let hint = if what.starts_with("no number") {
+                "; decimals are written after the mark of the database, or of `--mark`"
+            } else {
+                ""
+            };
+            match what.split_once(sign) {
+                Some((before, number)) => Trouble::with_status(
+                    format!(in alloc; "{before}{number}{hint}"),
+                    BAD_INPUT,
+                ),
+                None => trouble,
+            }
+        }
+        _ => trouble,
+    }
+}
+
+/// Enters the movement that is typed: the article and the number of the job, with this sign. The text of the movement is read in place of
 /// standard input. `job` is what [`Job::typed`] returned.
 ///
 /// # Errors
 ///
-/// Why it isn't entered: there is no such database, say. [`enter`] alone makes one.
+/// Why the movement isn't entered, such as that there is no database: only [`enter`] makes a database.
 pub fn enter_typed<'a>(rt: &HostRuntime, job: &Job<'a>, sign: &str) -> Result<u8, Trouble<'a>> {
     if is_new(rt, job.db)? {
         return Err(troubles::no_file(rt.alloc(), job.db));
     }
     let article = job.articles.first().copied().unwrap_or("");
-    let text = typed_text(rt.alloc(), Delimiter::Comma, article, sign, job.number)?;
+    let text = typed_text(rt.alloc(), Delimiter::Comma, article, sign, job.quantity)?;
     let state = random_state(rt)?;
     let output = output_of(rt, job)?;
     let inputs = Typed { text };
     let stages = HostStages::new(rt, job.reports, job.db, &[]);
     let databases = HostDatabases { rt };
-    let entered = enter_named(rt.alloc(), state, &inputs, &databases, &stages, job);
+    let entered = match enter_named(rt.alloc(), state, &inputs, &databases, &stages, job) {
+        Ok(report) => Ok(report),
+        Err(trouble) => Err(of_typed(rt, sign, trouble)),
+    };
     stages.end();
     write(rt, job, output, entered)
 }
 
-// Begins a new database with what another one leaves to it.
+// Begins a new database with what the closed one leaves.
 fn begin<'a>(
     rt: &HostRuntime,
     stages: &HostStages<'_>,
@@ -153,7 +188,7 @@ fn begin<'a>(
     ended(conn, begun)
 }
 
-// Returns what the database leaves to the one that follows it.
+// Returns what the database leaves to the new one.
 fn closed<'a>(rt: &HostRuntime, job: &Job<'a>) -> Result<Closed, Trouble<'a>> {
     let stages = HostStages::new(rt, job.reports, job.db, &[]);
     let closed = match open(rt, &stages, job) {
@@ -172,7 +207,7 @@ fn closed<'a>(rt: &HostRuntime, job: &Job<'a>) -> Result<Closed, Trouble<'a>> {
 ///
 /// # Errors
 ///
-/// Why there is no balance, or why the new database takes none.
+/// Why the balance can't be read, or why the new database can't begin with it.
 pub fn close<'a>(rt: &HostRuntime, job: &Job<'a>) -> Result<u8, Trouble<'a>> {
     if is_of_database(rt, job.db, job.into)? {
         return Err(troubles::conflict(rt.alloc(), job.into));

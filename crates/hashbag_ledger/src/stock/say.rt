@@ -1,9 +1,9 @@
-//! What all subcommands take of the system.
+//! What all subcommands use of the system: random keys, and standard error.
 use hashbag_shell::output::write_text;
 use hashbag_shell::trouble::Trouble;
 use std::hash::RandomState;
 
-/// Returns the state that bags of strangers' articles take: its keys are random.
+/// Returns a hash state with random keys, since strangers may choose the articles.
 pub fn random_state<'a>(rt: &HostRuntime) -> Result<RandomState, Trouble<'a>> {
     match RandomState::new(rt) {
         Ok(state) => Ok(state),

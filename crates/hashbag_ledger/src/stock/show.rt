@@ -1,4 +1,4 @@
-//! What is shown of a stock: its balance, the history of an article, the batches, and the movements of one.
+//! What is shown of a stock: its balance, the history of an article, the batches, and the movements of a batch.
 use crate::stock::database::{ended, is_of_database, open};
 use crate::stock::say::{random_state, say};
 use crate::stock::stages::HostStages;
@@ -19,7 +19,7 @@ fn write<'a>(rt: &HostRuntime, job: &Job<'a>, shown: &Shown) -> Result<u8, Troub
     {
         return Err(troubles::conflict(rt.alloc(), name));
     }
-    say(rt, job.quiet, shown.said.as_str());
+    say(rt, job.quiet, shown.message.as_str());
     Output::open(rt, job.output)?.write(rt, shown.table.as_slice())?;
     Ok(DONE)
 }
@@ -27,7 +27,7 @@ fn write<'a>(rt: &HostRuntime, job: &Job<'a>, shown: &Shown) -> Result<u8, Troub
 /// What is shown.
 #[derive(Clone, Copy)]
 pub enum View {
-    /// The balance, or the numbers of some articles; and which of these aren't there.
+    /// The balance, or the numbers of some articles, with a message about the articles that aren't there.
     Balance,
     /// The movements of an article; or that there are none.
     History,
@@ -61,7 +61,7 @@ fn shown<'a>(
 ///
 /// # Errors
 ///
-/// Why there is no such thing, or why it can't be written.
+/// Why it can't be read or written.
 pub fn show<'a>(rt: &HostRuntime, job: &Job<'a>, view: View) -> Result<u8, Trouble<'a>> {
     let stages = HostStages::new(rt, job.reports, job.db, &[]);
     let shown = shown(rt, &stages, job, view);

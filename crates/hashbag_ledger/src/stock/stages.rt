@@ -11,9 +11,10 @@ use std::time::{Duration, Instant};
 // How many characters of the database's name a terminal shows.
 const NAME: usize = 20;
 
-// From how many bytes of a database, or from how many movements on, a stage is shown as soon as it begins, since it takes long.
+// If the database has this many bytes or more, the work takes long: a stage is then shown as soon as it begins.
 const LARGE: u64 = 1 << 25;
 
+// If this many movements or more are booked, the work takes long too.
 const MANY: usize = 200_000;
 
 // Puts the cursor of a terminal at the beginning of its line, and erases the line.
@@ -48,7 +49,7 @@ fn short_name(alloc: Global, name: &str) -> Result<String, AllocError> {
     Ok(short)
 }
 
-// Returns what is said of a stage.
+// Returns the text of a stage.
 fn text_of(alloc: Global, db: &str, stage: Stage) -> Result<String, AllocError> {
     let short = short_name(alloc, db)?;
     let db = Escaped(short.as_str());
@@ -92,7 +93,7 @@ impl<'s> HostStages<'s> {
         }
     }
 
-    // Returns whether a terminal shows what begins now.
+    // Returns whether a terminal shows the stage that begins now.
     fn is_late(&self, start: Instant) -> bool {
         self.is_large.get()
             || Instant::now(self.rt).is_ok_and(|now| now.duration_since(start)

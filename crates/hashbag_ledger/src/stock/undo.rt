@@ -5,7 +5,7 @@ use crate::stock::stages::HostStages;
 use hashbag_ledger_args::command::PROGRAM;
 use hashbag_ledger_args::job::Job;
 use hashbag_ledger_db::troubles;
-use hashbag_ledger_db::undoing::{Report, undo_in};
+use hashbag_ledger_db::undoing::{UndoReport, undo_in};
 use hashbag_shell::output::write_text;
 use hashbag_shell::status::DENIED;
 use hashbag_shell::trouble::Trouble;
@@ -15,7 +15,7 @@ fn undone<'a>(
     rt: &HostRuntime,
     stages: &HostStages<'_>,
     job: &Job<'a>,
-) -> Result<Report, Trouble<'a>> {
+) -> Result<UndoReport, Trouble<'a>> {
     let state = random_state(rt)?;
     let (mut conn, shape) = open(rt, stages, job)?;
     let done = undo_in(rt.alloc(), state, stages, job, shape, &mut conn);
@@ -28,14 +28,15 @@ fn undone<'a>(
 ///
 /// Why the batch can't be taken back.
 pub fn undo<'a>(rt: &HostRuntime, job: &Job<'a>) -> Result<u8, Trouble<'a>> {
-    if job.last == job.batch.is_some() {
+    // Both `--last` and a batch are given, or neither is.
+    if job.last == job.wanted_batch.is_some() {
         return Err(troubles::no_batch_named(rt.alloc()));
     }
     let stages = HostStages::new(rt, job.reports, job.db, &[]);
     let undone = undone(rt, &stages, job);
     stages.end();
     let report = undone?;
-    say(rt, job.quiet, report.said.as_str());
+    say(rt, job.quiet, report.message.as_str());
     write_text(&mut rt.stderr(), report.refusals.as_bytes())?;
     if report.status == DENIED {
         let _ = eprintln!(rt; "{PROGRAM}: {}: nothing was undone", job.db);

@@ -1,8 +1,8 @@
-//! Movements that are entered into a stock and kept, each with what became of it. Clauses hold for any list that the stock began as.
+//! Movements that are entered into a stock and kept, each with what became of it. The clauses hold whatever list the stock had at the beginning.
 ghost use Rattle.std.specs.Prelude.{◌≡◌, ◌≢◌, ◌<◌, ◌≤◌, ◌^◌, ◌-◌, ◌↔◌, ◌++◌, ◌∷◌, [], String, length, IfOk, IfErr, OnOk};
 ghost use Rattle.std.specs.Global.{Global};
 ghost use Rattle.std.specs.String.{string_eq};
-ghost use Rattle.hashbag_csv.specs.Quantities.{numbers};
+ghost use Rattle.hashbag_csv.specs.Quantities.{number_sum};
 ghost use Rattle.hashbag_ledger_lib.specs.Bookings.{BooksFirst, BooksMovement, ContinuesFrom, HasBooked, StockPassesLimitAmong, StockPassesLimitWith};
 ghost use Rattle.hashbag_ledger_lib.specs.Errors.{IfTooMany};
 ghost use Rattle.hashbag_ledger_lib.specs.declared.movements.Movement.{Movement};
@@ -69,7 +69,7 @@ pub fn book_all<S: BuildHasher + Drop>(
     stock: HashBag<String, S>,
     movements: Vec<Movement<String>>,
 ) -> Result<Booked<String>, LedgerError>
-    // If no movement came to the stock before, the balance and the entries are those of `movements`.
+    // If no movement came to the stock before: the balance is what `movements` leave, and the entries say what became of each movement.
     ensures booked { IfOk result (λ b. BooksFirst stock movements.items b) }
 
     // `TooMany p`: with the movement at `p` the total would pass the limit.
@@ -89,8 +89,8 @@ pub fn book_all<S: BuildHasher + Drop>(
 
 /// Enters movements, in turn, into the kept balance, and returns the new balance, and what became of each movement.
 ///
-/// Let earlier movements have left the kept balance. Then the new balance, and the earlier refusals followed by the new ones, are those of
-/// all these movements entered as one batch.
+/// Let earlier movements have left the kept balance. If all movements, earlier and new, were entered as one batch, the balance would be the new
+/// balance, and the refusals would be the earlier refusals followed by the new refusals.
 ///
 /// # Errors
 ///
@@ -106,10 +106,12 @@ pub fn book_batch<S: BuildHasher + Drop>(
     kept: Vec<(String, usize)>,
     batch: Vec<Movement<String>>,
 ) -> Result<Booked<String>, LedgerError>
-    // `in_turn` holds for any stock and movements that left the balance `kept`.
+    // The balance is what `batch` leaves of `kept`, and the entries say what became of each movement.
     ensures booked { IfOk result (λ b. HasBooked (2 ^ 63 - 1) kept.items batch.items b) }
-    ensures in_turn { IfOk result (λ b. ContinuesFrom kept.items batch.items b) }
-    ensures too_many { (result ≡ Err LedgerError.StartTooMany) ↔ (2 ^ 63 - 1 < numbers kept.items) }
+
+    // For any movements that left the balance `kept`: with `batch` after them, as one batch, they leave this balance, and their refusals come before these.
+    ensures continues { IfOk result (λ b. ContinuesFrom kept.items batch.items b) }
+    ensures too_many { (result ≡ Err LedgerError.StartTooMany) ↔ (2 ^ 63 - 1 < number_sum kept.items) }
 
     // `TooMany p`: with the movement at `p` the total would pass [`MOST`].
     ensures past { IfTooMany result (λ p. IsPastWithin string_eq (2 ^ 63 - 1) kept.items batch.items p) }

@@ -1,4 +1,5 @@
-//! Slots along whole runs: how many there are in the end, and how many were built on the way, which the inserted values bound.
+//! Slots along whole runs: how many there are in the end, and how many were built on the way. The number of inserted values bounds how many
+//! slots are built.
 use hashbag::script::{Step, run};
 use hashbag::{FixedState, HashBag};
 use std::alloc::{AllocError, Global};
@@ -7,9 +8,9 @@ use std::test::Fail;
 use tests_kit::texts::{count, halves, number};
 use tests_kit::{IdentityState, OneState, ParityState, rows_of};
 
-// A run and what it leaves. `in 100` inserts 1 to 100; `in_and_out` takes each value out at once; `window` takes out, from the ninth on,
-// the value of eight before; `limited` sets the limit to each number before its insertion. `clear` and `shrink` are the last steps.
-// `built` is the sum of the slots of all tables made.
+// A run and what it leaves. `in 100` inserts 1 to 100. `in_and_out` removes each value at once. `window` removes, after each insertion from the
+// ninth on, the value that was inserted eight insertions before. `limited` sets the limit to each number before it is inserted. `clear` and
+// `shrink` are the last steps. `built` is the sum of the slots of all tables made.
 const ALL_ROWS: &str = "
     in_and_out 1000 = slots 16
     in 100 = slots 256, waiting 64, room 92, built 496
@@ -22,12 +23,12 @@ const ONE_ROWS: &str = "
     in_and_out 1000 = slots 16, built 16
     window 1000 = slots 16, set_len 8, built 16";
 
-// Under one by which none do they aren't, and a table is made for each twelve values that come and go.
+// Under a state by which no values collide, Removed slots aren't used again: a table is made for each twelve values that come and go.
 const IDENTITY_ROWS: &str = "
     in_and_out 1000 = slots 16, built 1344
     window 1000 = slots 32, set_len 8, built 1936";
 
-// Of many values: 16 slots and all powers of two after it up to 16384 were built.
+// With many values: tables of 16, 32, 64 and so on up to 16384 slots were built, 32752 slots in all.
 const MANY_ROWS: &str = "in 10000 = slots 16384, waiting 0, room 2288, built 32752";
 
 // What a run left of a bag's tables, and what was counted on the way.
@@ -65,9 +66,9 @@ impl Left {
 
 // How many values were inserted, and the slots of the tables that were made for them.
 #[derive(Clone, Copy)]
-struct Paid {
+struct Built {
     arrivals: usize,
-    built: usize,
+    slots: usize,
 }
 
 // The steps for one value of a run.
@@ -120,29 +121,29 @@ fn run_all<S: BuildHasher + Drop>(
     Ok(())
 }
 
-// Does one step, and counts what it brings: a value that was inserted without room has a new table made for it.
+// Does one step, and counts a value that it inserts. If there was no room, a new table was made: its slots are counted too.
 fn run_one<S: BuildHasher + Drop>(
     alloc: Global,
     bag: &mut HashBag<u64, S>,
     step: Step<u64>,
-    paid: Paid,
-) -> Result<Paid, Fail> {
+    so_far: Built,
+) -> Result<Built, Fail> {
     let before = Left::of(bag, 0);
     let mut steps = Vec::new(alloc);
     steps.push(step)?;
     run_all(alloc, bag, steps)?;
     if bag.set_len() <= before.set_len {
-        return Ok(paid);
+        return Ok(so_far);
     }
-    let arrivals = paid.arrivals.saturating_add(1);
+    let arrivals = so_far.arrivals.saturating_add(1);
     if before.room == 0 {
-        let built = paid.built.saturating_add(bag.slots());
-        return Ok(Paid { arrivals, built });
+        let slots = so_far.slots.saturating_add(bag.slots());
+        return Ok(Built { arrivals, slots });
     }
     if bag.slots() != before.slots {
-        return Err(Fail::new("other slots where there was room"));
+        return Err(Fail::new("the number of slots changed although there was room"));
     }
-    Ok(Paid { arrivals, ..paid })
+    Ok(Built { arrivals, ..so_far })
 }
 
 // Does the steps one by one, and returns the slots of all tables that were made.
@@ -151,18 +152,18 @@ fn built_by<S: BuildHasher + Drop>(
     bag: &mut HashBag<u64, S>,
     steps: Vec<Step<u64>>,
 ) -> Result<usize, Fail> {
-    let mut paid = Paid {
+    let mut so_far = Built {
         arrivals: 0,
-        built: 0,
+        slots: 0,
     };
     for step in steps {
-        paid = run_one(alloc, bag, step, paid)?;
+        so_far = run_one(alloc, bag, step, so_far)?;
     }
-    let most = paid.arrivals.saturating_mul(16).saturating_add(48);
-    if paid.built.saturating_mul(3) > most {
-        return Err(Fail::new("the values that came don't pay for the tables"));
+    let most = so_far.arrivals.saturating_mul(16).saturating_add(48);
+    if so_far.slots.saturating_mul(3) > most {
+        return Err(Fail::new("more slots were built than the inserted values allow"));
     }
-    Ok(paid.built)
+    Ok(so_far.slots)
 }
 
 fn is_left(left: Left, wanted: &str) -> Result<(), Fail> {
@@ -176,7 +177,7 @@ fn is_left(left: Left, wanted: &str) -> Result<(), Fail> {
     Ok(())
 }
 
-// Returns the most slots that the steps of a course build one by one, and checks what they leave.
+// Returns the slots that the steps of a course build one by one, and checks what they leave.
 fn built_in_steps<S: BuildHasher + Drop>(
     alloc: Global,
     state: S,

@@ -2,7 +2,7 @@
 use std::test::Fail;
 use tests_kit::calls::make_rows_under_each;
 
-// Room changes nothing of what a bag has. It is made for 3 * 2^57 values, which is 432345564227567616, and for no more.
+// Making room doesn't change what a bag has. Room can be made for 3 * 2^57 values, which is 432345564227567616, and for no more.
 const ROWS: &str = "
     [inserts]
     is_empty = true

@@ -2,8 +2,8 @@
 use std::test::Fail;
 use tests_kit::calls::make_rows_under_each;
 
-// `counts` returns how often each of the values occurs. `retain_itself` keeps of each value as many as it is, and returns how
-// often the closure was called.
+// `counts` returns how often each of the values occurs. `retain_own_number` keeps at most v occurrences of each value v, and returns how often the
+// closure was called.
 const ROWS: &str = "
     [adds none]
     insert 100 = 0
@@ -43,7 +43,7 @@ const ROWS: &str = "
     counts [0..=4] = [5, 4, 3, 2, 1]
     len = 15
     set_len = 5
-    retain_itself = 5
+    retain_own_number = 5
     counts [0..=4] = [0, 1, 2, 2, 1]
     len = 6
     set_len = 4

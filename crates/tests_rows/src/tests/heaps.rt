@@ -7,7 +7,8 @@ use std::test::Fail;
 // How many values the bag has. A list of them with their counts is 480,000 bytes.
 const VALUES: usize = 30_000;
 
-// How many kilobytes the process has addressed at most. If that is past all memory, as if each access is checked, `None`.
+// How many kilobytes the process has addressed at most. `None` if that is more than a machine has, as under a tool that
+// checks each access.
 fn peak(rt: &HostRuntime) -> Result<Option<usize>, Fail> {
     let text = fs::read_to_string(rt, "/proc/self/status")?;
     for line in text.lines() {
@@ -34,7 +35,7 @@ fn taken(rt: &HostRuntime, bag: &HashBag<usize>, k: usize) -> Result<Option<usiz
     Ok(Some(after.saturating_sub(before)))
 }
 
-// The few most common allocate a list of themselves; all of them a list of all.
+// A call for few of the most common values allocates a list of few; a call for all values allocates a list of all.
 #[test]
 fn few_take_little_memory(rt: HostRuntime) -> Result<(), Fail> {
     let mut bag: HashBag<usize> = HashBag::with_capacity(rt.alloc(), VALUES)?;

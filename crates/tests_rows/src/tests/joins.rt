@@ -104,7 +104,7 @@ fn rising<T: Ord + Debug + Copy>(alloc: Global, items: Vec<T>) -> Result<String,
     debug_of(alloc, &items)
 }
 
-// Whether the values that a bag has come before all others.
+// Whether all values of the bag stand before all others.
 fn is_first_before<S: BuildHasher + Drop>(bag: &HashBag<u64, S>, values: &[&u64]) -> bool {
     let mut ended = false;
     for value in values {
@@ -173,7 +173,7 @@ fn joins(rt: HostRuntime) -> Result<(), Fail> {
     are_joined::<ParityState, FixedState>(rt.alloc())
 }
 
-// The size hints of a difference before each of its items and after them, and whether there is none twice then.
+// The size hints of a difference before each of its items and after them, and whether two more calls of `next` return `None`.
 fn hints_of<S: BuildHasher + Drop, S2: BuildHasher + Drop>(
     alloc: Global,
     a: &HashBag<u64, S>,

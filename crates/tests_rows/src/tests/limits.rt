@@ -50,7 +50,7 @@ const ROWS: &str = "
     insert_many 2 18446744073709551615 = TooMany
     len = 1";
 
-// What leaves the limit of a bag, and what ends it.
+// Calls that don't change the limit of a bag, and one that gives it the default limit.
 const KEPT: &str = "
     [calls leave the limit]
     with_limit 9 = ()

@@ -25,7 +25,7 @@ fn sizes_of_bags_and_walks(_rt: HostRuntime) -> Result<(), Fail> {
     Ok(())
 }
 
-// How many pages the process may address. If that is past all memory, as if each access is checked, there is no result.
+// How many pages the process may address. `None` if that is more than a machine has, as under a tool that checks each access.
 fn pages(rt: &HostRuntime) -> Result<Option<usize>, Fail> {
     let text = fs::read_to_string(rt, "/proc/self/statm")?;
     let number = text.split_whitespace().next().unwrap_or("");

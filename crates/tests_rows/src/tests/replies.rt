@@ -8,8 +8,8 @@ use std::test::Fail;
 use tests_kit::texts::{count, counts, debug_of, halves, is_text, number};
 use tests_kit::{IdentityState, OneState, ParityState, Row, rows_of};
 
-// The rows of a run, with its replies. Where a run retains, of a value stay as many as the first pair that has it says, and
-// none if no pair has it.
+// The rows of a run, with its replies. `retain` keeps at most the number of the first pair with that value, and none without
+// a pair.
 const RUN_ROWS: &str = "
     insert_many 0:5 = Count(0)
     insert_many 1:4 = Count(0)

@@ -1,5 +1,5 @@
-//! The two tables of slots behind a bag: how many slots there are, how many wait to be carried, and how much room is left, after
-//! each call. Where nothing is said of the hash, these numbers don't depend on it.
+//! The two tables of slots behind a bag: how many slots there are, how many wait to be carried, and how much room is left, after each call.
+//! Unless a comment speaks of the hash, these numbers are the same under each hash state.
 use hashbag::{BagError, HashBag};
 use std::alloc::Global;
 use std::hash::BuildHasher;
@@ -319,8 +319,8 @@ const ROWS: &str = "
     shrink_to_fit = ()
     tables = (64, 16, 23)";
 
-// Which values wait depends on the hash. Where it is 0 for all, the values 17 to 24 wait, and a value that is taken out leaves more
-// room only there.
+// Which values wait depends on the hash. If all hashes are 0, the values 17 to 24 wait, and the removal of a value raises the room only if the
+// value waits.
 const ONE_ROWS: &str = "
     [takes out of both tables]
     insert_each [1..=25] = ()
@@ -362,13 +362,13 @@ const CARRYING: &str = "
     insert_each [1..=25] = ()
     tables = (64, 16, 23)";
 
-// What the calls of a clone return, of a bag in the middle of a carry.
+// What calls on a clone return, if the bag that was cloned is in the middle of a carry.
 const CLONE: &str = "
     tables = (64, 0, 23)
     set_len = 25
     counts [0..=26] = [0, 1, 1, 1, 1, 1, 1, 1, 1, 1, 1, 1, 1, 1, 1, 1, 1, 1, 1, 1, 1, 1, 1, 1, 1, 1, 0]";
 
-// Checks that a clone of a bag in a carry has no table that waits, and is equal.
+// Checks that the clone of a bag in the middle of a carry has no waiting slot, and is equal to the bag.
 fn is_cloned<S: BuildHasher + Default + Copy>(alloc: Global, state: S) -> Result<(), Fail> {
     let mut bag = HashBag::with_hasher(alloc, state);
     make_calls(alloc, &mut bag, CARRYING)?;
@@ -388,7 +388,7 @@ const BEGINNINGS: &str = "
     13 = (32, 24)
     100 = (256, 192)";
 
-// A bag with the state that is there by default.
+// A bag with the default hash state.
 fn with_capacity(alloc: Global, n: usize) -> Result<HashBag<u64>, BagError> {
     HashBag::with_capacity(alloc, n)
 }

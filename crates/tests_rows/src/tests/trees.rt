@@ -7,8 +7,7 @@ use std::test::Fail;
 use tests_kit::texts::{count, debug_of, halves, is_text};
 use tests_kit::{IdentityState, Named, OneState, ParityState, rows_of};
 
-// What the items are, a tree, and why it can't be read, or else the total of its bag, the number of distinct values, and the tree that is
-// written of it.
+// Each row: the type of the items, a tree, and then the error; or the total, the number of distinct values and the new tree.
 const TREES: &str = r#"
     String | null | NotAnArray
     String | true | NotAnArray
@@ -51,7 +50,7 @@ const TREES: &str = r#"
     String | [["Einar",1],["Olaf",2],["Harald",3]] | 6 3 [["Einar",1],["Harald",3],["Olaf",2]]
     Named | [[{"name":"Einar"},1],[{"name":"Olaf"},2],[{"name":"Harald"},3]] | 6 3 [[{"name":"Einar"},1],[{"name":"Harald"},3],[{"name":"Olaf"},2]]"#;
 
-// The same of trees with a limit, and of what is no such tree.
+// Such rows for trees with a limit, and for objects that are no such tree.
 const LIMITED_TREES: &str = r#"
     String | {"limit":5,"pairs":[["b",3],["a",2]]} | 5 2 {"limit":5,"pairs":[["a",2],["b",3]]}
     String | {"pairs":[["b",3],["a",2]],"limit":6} | 5 2 {"limit":6,"pairs":[["a",2],["b",3]]}
@@ -80,8 +79,8 @@ const LIMITED_TREES: &str = r#"
     u64 | {"limit":3,"pairs":[[7,2],[6,1]]} | 3 2 {"limit":3,"pairs":[[6,1],[7,2]]}
     Named | {"limit":2,"pairs":[[{"name":"Olaf"},2]]} | 2 1 {"limit":2,"pairs":[[{"name":"Olaf"},2]]}"#;
 
-// A limit, a tree of texts, and why it can't be read, or else the limit of its bag, the total, the number of distinct values, and the tree
-// that is written of it.
+// Each row: a limit, a tree of texts, and then the error of reading the tree within the limit; or what is read: the limit of the bag, the total,
+// the number of distinct values, and the new tree.
 const WITHIN: &str = r#"
     4 | [["a",2],["b",3]] | TooMany(1)
     5 | [["a",2],["b",3]] | 5 5 2 {"limit":5,"pairs":[["a",2],["b",3]]}

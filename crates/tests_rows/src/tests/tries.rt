@@ -4,7 +4,7 @@ use std::alloc::Global;
 use std::num::ParseIntError;
 use std::test::Fail;
 
-// Extends the bag by the numbers of a text, which commas part, and returns the outcome as text.
+// Extends the bag by the numbers of a text with commas between them, and returns the outcome as text.
 fn extend_by(alloc: Global, bag: &mut HashBag<u64>, text: &str) -> Result<String, Fail> {
     let said = match bag.try_extend(text.split(',').map(|part| part.parse::<u64>())) {
         Ok(()) => "all",

@@ -90,7 +90,7 @@ const CALLS: &str = "
     | from_counts 5:4 6:0 5:1 | 3
     | from_value [[5,4],[6,0],[5,1]] | 3
     5:2 6:1 | to_value | 0
-    5:2 6:1 7:9 | retain_itself | 0
+    5:2 6:1 7:9 | retain_own_number | 0
     5:2 6:1 7:9 | retain_none | 0
     5:2 6:1 7:9 | iter.count | 0
     5:2 6:1 7:9 | set_iter.count | 0
@@ -165,7 +165,7 @@ const CALLS_IN_A_CARRY: &str = "
     extend_refs [20, 26] | 10
     extend_refs_many 20:2 26:1 | 10
     to_value | 0
-    retain_itself | 0
+    retain_own_number | 0
     retain_none | 0
     iter.count | 0
     set_iter.count | 0

@@ -1,5 +1,5 @@
 use Rattle.std.proofs.Common.{◌≡◌, ℕ, List, Bor, true, false, rules}
-use Rattle.hashbag_ledger_lib.specs.Dated.{counts_at, moved, named}
+use Rattle.hashbag_ledger_lib.specs.Dated.{counts_at, moved, with_bytes}
 use Rattle.hashbag_ledger_lib.proofs.DatedLemmas.{pushed_none, pushed_one}
 use Rattle.hashbag_ledger_lib.proofs.dated.push_moved.Goals as goal
 
@@ -14,5 +14,5 @@ pub returns : goal.returns
 returns c =
     let one : counts_at c.args.date.now c.args.dated.now ≡ true = search rules in
     let x : Bor (List ℕ) × ℕ = (c.as_str-2.result, c.amount.result) in
-    let same : named x ≡ moved c.args.part c.args.dated.now.0.movement = search rules in
+    let same : with_bytes x ≡ moved c.args.part c.args.dated.now.0.movement = search rules in
     pushed_one c.args.date.now c.args.dated.now c.args.part c.args.list.now.items c.push.new.self.items x one c.in_ok-push.ensures.items same

@@ -26,8 +26,8 @@ pub returns-then-refused-eq0-clause-last : goal.returns-then-refused-eq0-clause-
 returns-then-refused-eq0-clause-last g c = λ before was.
     as_before string_eq (listed string_eq c.args.kept.items) before c.args.batch.items was string_cmp c.in_ok-booked.booked.balance.items (returns-then-refused-eq0-clause-undo g c)
 
-pub returns-then-refused-eq0-clause-each : goal.returns-then-refused-eq0-clause-each
-returns-then-refused-eq0-clause-each g c =
+pub returns-then-refused-eq0-clause-entries : goal.returns-then-refused-eq0-clause-entries
+returns-then-refused-eq0-clause-entries g c =
     let booked = c.in_ok-booked.ensures.booked c.args.kept.items c.in_ok-stock.ensures.begun in
     booked.each ∙ ap (entries_of string_eq (listed string_eq c.args.kept.items)) c.in_ok-opposite.ensures
 
@@ -54,8 +54,8 @@ returns-clause-last g c = λ before was.
     let found = returns-clause-undo g c in
     none_falls string_eq (listed string_eq c.args.kept.items) before c.args.batch.items was found.0 found.1
 
-pub returns-clause-each : goal.returns-clause-each
-returns-clause-each g c =
+pub returns-clause-entries : goal.returns-clause-entries
+returns-clause-entries g c =
     let start = listed string_eq c.args.kept.items in
     let booked = c.in_ok-booked.ensures.booked c.args.kept.items c.in_ok-stock.ensures.begun in
     c.in_ok-refusals_from.ensures ∙ ap refusals_in booked.each ∙ refusals_are string_eq start c.in_ok-opposite.opposite.items ∙ ap (refused_of string_eq start) c.in_ok-opposite.ensures

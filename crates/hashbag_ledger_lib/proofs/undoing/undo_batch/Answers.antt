@@ -3,15 +3,15 @@ use Rattle.std.proofs.lemmas.Result.{err_from_is_err_and}
 use Rattle.hashbag_ledger_lib.specs.declared.entering.LedgerError.TheVariants.{StartTooMany}
 use Rattle.hashbag_ledger_lib.specs.Settled.{listed}
 use Rattle.hashbag_ledger_lib.specs.Undos.{opposites_of}
-use Rattle.hashbag_ledger_lib.proofs.CopyLemmas.{numbers_same, past_same, undo_same, each_same, undo_rises}
+use Rattle.hashbag_ledger_lib.proofs.CopyLemmas.{numbers_same, past_same, undo_same, entries_same, undo_rises}
 use Rattle.hashbag_ledger_lib.proofs.undoing.undo_batch.Goals as goal
 
 -- the balance that is kept has the rows of its copy
 pub returns-clause-undo : goal.returns-clause-undo
 returns-clause-undo g c = undo_same c.in_ok-copy.copy.items c.args.kept.now c.in_ok-copy.ensures c.args.batch.items c.in_ok-undo.undo c.in_ok-undo.ensures.undo
 
-pub returns-clause-each : goal.returns-clause-each
-returns-clause-each g c = each_same c.in_ok-copy.copy.items c.args.kept.now c.in_ok-copy.ensures c.args.batch.items c.in_ok-undo.undo c.in_ok-undo.ensures.each
+pub returns-clause-entries : goal.returns-clause-entries
+returns-clause-entries g c = entries_same c.in_ok-copy.copy.items c.args.kept.now c.in_ok-copy.ensures c.args.batch.items c.in_ok-undo.undo c.in_ok-undo.ensures.entries
 
 pub returns-clause-changed : goal.returns-clause-changed
 returns-clause-changed g c = λ rises. c.in_ok-changed.ensures rises (undo_rises (listed string_eq c.in_ok-copy.copy.items) c.args.batch.items c.in_ok-undo.undo c.in_ok-undo.ensures.undo)

@@ -6,6 +6,6 @@ use Rattle.hashbag_stock.proofs.writing.create.Given as goal
 -- all steps so far were inside the transaction
 abbrev pub invariant-loop-text : goal.invariant-loop-text
 invariant-loop-text g l = record {
-  same_reference : l.transaction.conn.ghost_name ≡ l.fn.transaction.conn.ghost_name;
+  same_connection : l.transaction.conn.ghost_name ≡ l.fn.transaction.conn.ghost_name;
   inside : IsInside (state g.S.Store l.fn.transaction.conn.now) (state g.S.Store l.transaction.conn.now);
 }

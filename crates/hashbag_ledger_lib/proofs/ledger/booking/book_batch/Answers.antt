@@ -33,8 +33,8 @@ returns-clause-too_many g c =
     (λ is. absurd ((rw is at c.book_all.ensures.not_start) refl), λ over. absurd (omega arith))
 
 -- the balance and the refusals of all movements in one turn
-pub returns-clause-in_turn : goal.returns-clause-in_turn
-returns-clause-in_turn g c =
+pub returns-clause-continues : goal.returns-clause-continues
+returns-clause-continues g c =
     if_ok_then _ _ c.book_all.result c.book_all.ensures.booked
     (λ b booked start before were.
     let is = booked c.args.kept.items c.in_ok-stock.ensures.begun in

@@ -1,14 +1,18 @@
-//! What is said on standard error of what was done, or isn't there.
+//! The messages for standard error: what was done, and what isn't there.
 use hashbag_csv::escaped::Escaped;
 use hashbag_ledger_args::command::PROGRAM;
-use hashbag_ledger_lib::movements::Change;
+use hashbag_ledger_lib::movements::{Change, Entry};
 use hashbag_ledger_lib::once::Batch;
 use hashbag_shell::tips::is_near;
 use std::alloc::{AllocError, Global};
 use std::fmt::Write;
+use strsim::osa_distance;
 
 // From how many movements on a new database is suggested: the open of a file with that many takes about a second.
 const MANY: u64 = 1_000_000;
+
+// If more new articles than this are counted, no message names them.
+const NEW: usize = 10;
 
 // Returns the ending of a noun behind this number.
 fn ending(count: u64) -> &'static str {
@@ -38,8 +42,8 @@ fn push_batch(text: &mut String, batch: &Batch) -> Result<(), AllocError> {
     text.push('\n')
 }
 
-/// Returns a line for each batch that is entered; and one more if the database, which had `before` movements, then has a million: each
-/// subcommand reads all of them.
+/// Returns a line for each batch that is entered. `before` is how many movements the database had. If it then has a million movements or more, a
+/// last line says that each subcommand reads all of them.
 ///
 /// # Errors
 ///
@@ -64,18 +68,23 @@ pub fn entered_text(
     Ok(text)
 }
 
-// Returns the first article of a balance whose name is near to this one, if there is one.
+// Returns the article of a balance whose name is nearest to this one, if a name is near. Of several names with the fewest changes of characters,
+// the first counts.
 fn near_to<'b>(
     alloc: Global,
     balance: &[(&'b str, Change)],
     article: &str,
 ) -> Result<Option<&'b str>, AllocError> {
+    let mut nearest: Option<(&'b str, usize)> = None;
     for entry in balance {
         if is_near(alloc, article, entry.0)? {
-            return Ok(Some(entry.0));
+            let changes = osa_distance(alloc, article, entry.0)?;
+            if nearest.is_none_or(|found| changes < found.1) {
+                nearest = Some((entry.0, changes));
+            }
         }
     }
-    Ok(None)
+    Ok(nearest.map(|found| found.0))
 }
 
 // Appends an article of the balance whose name is near to this one, if there is one, and ends the line.
@@ -91,7 +100,7 @@ fn end_with_near(
     }
 }
 
-/// Returns what is said of an article without movements, with one of the balance whose name is near.
+/// Returns the message that an article has no movement. It names an article of the balance whose name is near, if there is one.
 ///
 /// # Errors
 ///
@@ -112,7 +121,7 @@ pub fn unmoved_text(
     Ok(text)
 }
 
-/// Returns a line for each of these articles that isn't in the balance, with one whose name is near.
+/// Returns a line for each of these articles that isn't in the balance. It names an article of the balance whose name is near, if there is one.
 ///
 /// # Errors
 ///
@@ -138,7 +147,7 @@ fn has(balance: &[(&str, Change)], article: &str) -> bool {
     balance.iter().any(|entry| entry.0 == article)
 }
 
-/// Returns what is said of an article that has its first movement, with one of the balance before whose name is near.
+/// Returns the message that an article has its first movement. It names an article of `balance` whose name is near, if there is one.
 ///
 /// # Errors
 ///
@@ -155,8 +164,51 @@ pub fn new_text(
     Ok(text)
 }
 
-/// Returns the end of the line of a refusal of this article: if the article isn't in the balance, one that is and whose name is
-/// near.
+// Returns the articles of these movements that a balance lacks, or `None` if there are more than ten. The balance is in ascending order.
+fn new_of<'e>(
+    alloc: Global,
+    balance: &[(&str, Change)],
+    entries: &'e [Entry<String>],
+) -> Result<Option<Vec<&'e str>>, AllocError> {
+    let mut articles = Vec::new(alloc);
+    for entry in entries {
+        let article = entry.movement.article.as_str();
+        if balance.binary_search_by(|row| row.0.cmp(article)).is_err() {
+            if articles.len() == NEW {
+                return Ok(None);
+            }
+            articles.push(article)?;
+        }
+    }
+    Ok(Some(articles))
+}
+
+/// Returns a line for each new article of these movements whose name is near the name of an article of the balance. An article is new if the
+/// balance lacks it. Returns no line if more than ten articles are new. The balance is in ascending order.
+///
+/// # Errors
+///
+/// An allocation fails.
+pub fn misspelt_text(
+    alloc: Global,
+    db: &str,
+    balance: &[(&str, Change)],
+    entries: &[Entry<String>],
+) -> Result<String, AllocError> {
+    let mut text = String::new(alloc);
+    let Some(articles) = new_of(alloc, balance, entries)? else {
+        return Ok(text);
+    };
+    for article in articles {
+        if near_to(alloc, balance, article)?.is_some() {
+            text.push_str(new_text(alloc, db, balance, article)?.as_str())?;
+        }
+    }
+    Ok(text)
+}
+
+/// Returns how the line of a refusal of this article ends: with an article of the balance whose name is near, if this one isn't in the
+/// balance; else with the newline alone.
 ///
 /// # Errors
 ///

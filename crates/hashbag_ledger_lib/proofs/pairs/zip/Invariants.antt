@@ -1,7 +1,7 @@
 use Rattle.std.proofs.Common.{◌≡◌, ◌++◌, length}
 use Rattle.std.specs.List.{zip}
 use Rattle.std.specs.Vec.Iter.{into_iter_items, into_iter_len}
-use Rattle.hashbag_ledger_lib.proofs.pairs.paired.Given as goal
+use Rattle.hashbag_ledger_lib.proofs.pairs.zip.Given as goal
 
 -- the pairs so far, and those that are to come
 abbrev pub invariant-loop-first : goal.invariant-loop-first
