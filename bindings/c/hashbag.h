@@ -124,7 +124,7 @@ bool hashbag_equal(hashbag *a, hashbag *b);
 /* ---- two bags of one kind */
 
 /* Adds all occurrences of the bag of `from` to that of `into`, and returns 0: each count is then the sum of both. The
- * bag of `from` stays. They must be two handles, not one twice.
+ * bag of `from` stays. `into` and `from` must be different handles.
  *
  * Errors:
  * `HASHBAG_TOO_MANY` if the total would pass the limit of `into`; `HASHBAG_MEMORY` if an allocation fails;
@@ -132,22 +132,22 @@ bool hashbag_equal(hashbag *a, hashbag *b);
 uint8_t hashbag_merge(hashbag *into, hashbag *from);
 
 /* Keeps of each value as many as both bags have, the lesser of both counts, and returns 0. It changes the bag of
- * `handle`, doesn't allocate, and that of `other` stays. They must be two handles, not one twice.
+ * `handle`, doesn't allocate, and that of `other` stays. `handle` and `other` must be different handles.
  *
  * Errors:
  * `HASHBAG_EMPTY` if a handle is empty; `HASHBAG_KIND` if the bags are of different kinds. Nothing changes then. */
 uint8_t hashbag_keep_common(hashbag *handle, hashbag *other);
 
 /* Removes from the bag of `handle` what that of `other` has, of each value as many as there are there, or all if there
- * are fewer, and returns 0. It doesn't allocate, and the bag of `other` stays. They must be two handles, not one
- * twice.
+ * are fewer, and returns 0. It doesn't allocate, and the bag of `other` stays. `handle` and `other` must be different
+ * handles.
  *
  * Errors:
  * `HASHBAG_EMPTY` if a handle is empty; `HASHBAG_KIND` if the bags are of different kinds. Nothing changes then. */
 uint8_t hashbag_take_away(hashbag *handle, hashbag *other);
 
 /* Raises each count in the bag of `into` to the greater of the counts in both bags, and returns 0. The bag of `from`
- * stays. They must be two handles, not one twice. It copies the bag of `from` while it runs.
+ * stays. `into` and `from` must be different handles. It copies the bag of `from` while it runs.
  *
  * Errors:
  * `HASHBAG_MEMORY` if an allocation fails; `HASHBAG_TOO_MANY` if the total of the greater counts would pass the limit
@@ -234,30 +234,31 @@ size_t hashbag_numbers_outer_join(hashbag *a, hashbag *b, uint64_t *values, size
 /* ---- joins of bags of numbers */
 
 /* Writes each number that the first bag has more often than the second, with how many more: as many as both arrays
- * have places for, in no particular order. Returns how many. With as many places as the first bag has distinct numbers
- * these are all. They must be two handles, not one twice. It returns 0 if one of them has no bag of numbers. It
- * doesn't allocate. */
+ * have places for, in no particular order. Returns how many. All are written if both arrays have as many places as the
+ * first bag has distinct numbers. `a` and `b` must be different handles. It returns 0 if one of them has no bag of
+ * numbers. It doesn't allocate. */
 size_t hashbag_numbers_difference(hashbag *a, hashbag *b, uint64_t *values, size_t values_len, size_t *counts,
                                   size_t counts_len);
 
 /* Writes each number of the first bag that the second lacks, with its count: as many as both arrays have places for,
- * in no particular order. Returns how many. With as many places as the first bag has distinct numbers these are all.
- * They must be two handles, not one twice. It returns 0 if one of them has no bag of numbers. It doesn't allocate. */
+ * in no particular order. Returns how many. All are written if both arrays have as many places as the first bag has
+ * distinct numbers. They must be two handles, not one twice. It returns 0 if one of them has no bag of numbers. It
+ * doesn't allocate. */
 size_t hashbag_numbers_not_in(hashbag *a, hashbag *b, uint64_t *values, size_t values_len, size_t *counts,
                               size_t counts_len);
 
 /* Writes each number of two bags once, with its count in the first less its count in the second: those of the first
  * bag first. A difference above `PTRDIFF_MAX` or below `PTRDIFF_MIN` is written as that bound. It writes as many as
- * both arrays have places for, and returns how many. With as many places as both bags together have distinct numbers
- * these are all. They must be two handles, not one twice. It returns 0 if one of them has no bag of numbers. It
- * doesn't allocate. */
+ * both arrays have places for, and returns how many. All are written if both arrays have as many places as both bags
+ * together have distinct numbers. They must be two handles, not one twice. It returns 0 if one of them has no bag of
+ * numbers. It doesn't allocate. */
 size_t hashbag_numbers_signed_difference(hashbag *a, hashbag *b, uint64_t *values, size_t values_len,
                                          ptrdiff_t *differences, size_t differences_len);
 
 /* ---- bags of numbers, in an order */
 
 /* Writes the distinct numbers in ascending order, and their counts, into two arrays, as many as both have places for.
- * Writes how many into `n`, and returns 0. With `hashbag_set_len` places in each these are all. It makes one
+ * Writes how many into `n`, and returns 0. All are written if each array has `hashbag_set_len` places. It makes one
  * allocation, a list of all distinct numbers, and sorts it.
  *
  * Errors:
@@ -292,21 +293,21 @@ uint8_t hashbag_numbers_to_json(hashbag *handle, uint8_t *bytes, size_t bytes_le
 
 /* Puts into the handle the bag of numbers that a JSON text is, and returns 0. The bag that the handle had is freed.
  * Its limit is that of the text or `most`, whichever is less. The text has one of the forms that
- * `hashbag_numbers_to_json` writes, with spaces too. Equal numbers add up, and a pair with the count 0 is checked and
- * adds nothing.
+ * `hashbag_numbers_to_json` writes; spaces may be between its tokens. Equal numbers add up, and a pair with the count
+ * 0 is checked and adds nothing.
  *
  * Its numbers are hashed under fixed keys, alike in every run. Use `hashbag_numbers_from_json_keyed` if strangers
  * wrote the text.
  *
  * Errors:
  * `HASHBAG_NOT_JSON` if the text isn't JSON or isn't UTF-8: `at` is then how many of its bytes had been read when that
- * was found. The first fault of a JSON text is returned by a number that begins with `HASHBAG_JSON_`; `at` is the pair
- * at fault, counted from 0, if it is one. `HASHBAG_MEMORY` if an allocation fails. Then the handle is unchanged, and
- * `at` too except in the two cases above. */
+ * was found. One of `HASHBAG_JSON_..` for the first fault of a JSON text: if a pair is at fault, `at` is its number,
+ * counted from 0. `HASHBAG_MEMORY` if an allocation fails. Then the handle is unchanged, and `at` too except in the
+ * two cases above. */
 uint8_t hashbag_numbers_from_json(hashbag *handle, size_t most, const uint8_t *text, size_t text_len, size_t *at);
 
-/* Does the same with two keys of the caller, which are best drawn at random: whoever knows them can find numbers that
- * collide.
+/* Puts into the handle the bag that a JSON text is, as `hashbag_numbers_from_json` does, with two keys of the caller.
+ * Draw the keys at random: whoever knows them can find numbers that collide.
  *
  * Errors:
  * Those of `hashbag_numbers_from_json`. */
@@ -325,8 +326,8 @@ uint8_t hashbag_numbers_from_json_keyed(hashbag *handle, size_t most, uint64_t k
  * `HASHBAG_MEMORY` if an allocation fails. Nothing changes then. */
 uint8_t hashbag_texts_new(hashbag *handle, size_t most);
 
-/* Does the same with two keys of SipHash, which the caller draws at random: then nobody can choose byte strings that
- * collide.
+/* Does the same as `hashbag_texts_new`, with two keys of SipHash, which the caller draws at random: then nobody can
+ * choose byte strings that collide.
  *
  * Errors:
  * `HASHBAG_MEMORY` if an allocation fails. Nothing changes then. */
@@ -366,8 +367,9 @@ uint8_t hashbag_texts_set_count(hashbag *handle, const uint8_t *value, size_t va
  * that is all.
  *
  * Errors:
- * Those of `hashbag_texts_insert`; `HASHBAG_ENDS` if an end is below the one before it, or above `bytes_len`. The
- * strings before the one that fails stay in the bag. */
+ * `HASHBAG_TOO_MANY` if the total would pass the limit; `HASHBAG_MEMORY` if an allocation fails; `HASHBAG_EMPTY`;
+ * `HASHBAG_KIND`; `HASHBAG_ENDS` if an end is below the one before it, or above `bytes_len`. The strings before the
+ * one that fails stay in the bag. */
 uint8_t hashbag_texts_insert_all(hashbag *handle, const uint8_t *bytes, size_t bytes_len, const size_t *ends,
                                  size_t ends_len, size_t *done);
 
@@ -375,7 +377,8 @@ uint8_t hashbag_texts_insert_all(hashbag *handle, const uint8_t *bytes, size_t b
  * separators, and some may be empty. Writes how many were inserted, and returns 0 if that is all.
  *
  * Errors:
- * Those of `hashbag_texts_insert`. The pieces before the one that fails stay in the bag. */
+ * `HASHBAG_TOO_MANY` if the total would pass the limit; `HASHBAG_MEMORY` if an allocation fails; `HASHBAG_EMPTY`;
+ * `HASHBAG_KIND`. The pieces before the one that fails stay in the bag. */
 uint8_t hashbag_texts_insert_split(hashbag *handle, const uint8_t *bytes, size_t bytes_len, uint8_t separator,
                                    size_t *done);
 
@@ -394,10 +397,10 @@ uint8_t hashbag_texts_retain(hashbag *handle, const uint8_t *bytes, size_t bytes
  * if the handle has no bag of byte strings. */
 size_t hashbag_texts_bytes(hashbag *handle);
 
-/* Writes distinct byte strings one after another into `bytes`, where each ends into `ends`, and their counts, and
- * returns how many. It stops before the first string for which there is no place. With `hashbag_texts_bytes` and
- * `hashbag_set_len` places these are all, in no particular order. It returns 0 if the handle has no bag of byte
- * strings. */
+/* Writes distinct byte strings into `bytes`, one after another, the place where each ends into `ends`, and its count
+ * into `counts`. Returns how many. It stops before the first string for which there is no place. All are written, in
+ * no particular order, if `ends` and `counts` have `hashbag_set_len` places and `bytes` has `hashbag_texts_bytes`. It
+ * returns 0 if the handle has no bag of byte strings. */
 size_t hashbag_texts_read(hashbag *handle, uint8_t *bytes, size_t bytes_len, size_t *ends, size_t ends_len,
                           size_t *counts, size_t counts_len);
 
@@ -405,40 +408,44 @@ size_t hashbag_texts_read(hashbag *handle, uint8_t *bytes, size_t bytes_len, siz
 
 /* Writes the byte strings of two bags, each once, as `hashbag_texts_read` does, with the count of each in the first
  * and in the second. A bag that lacks it counts 0. The strings of the first bag are first. It writes as many as there
- * are places for, and returns how many. With as many places as both bags have distinct strings, and bytes in all,
- * these are all. They must be two handles, not one twice. It returns 0 if one of them has no bag of byte strings. */
+ * are places for, and returns how many. All are written if `ends`, `firsts` and `seconds` have as many places as both
+ * bags together have distinct strings, and `bytes` as many as these strings have bytes. `a` and `b` must be different
+ * handles. It returns 0 if one of them has no bag of byte strings. */
 size_t hashbag_texts_outer_join(hashbag *a, hashbag *b, uint8_t *bytes, size_t bytes_len, size_t *ends,
                                 size_t ends_len, size_t *firsts, size_t firsts_len, size_t *seconds,
                                 size_t seconds_len);
 
-/* Writes the byte strings that the first bag has more often than the second, each with how many more, as
- * `hashbag_texts_read` does: as many as there are places for, in no particular order. Returns how many. With as many
- * places as the first bag has distinct strings, and bytes in all, these are all. They must be two handles, not one
- * twice. It returns 0 if one of them has no bag of byte strings. It doesn't allocate. */
+/* Writes the byte strings that the first bag has more often than the second, each with how many more. They are written
+ * as by `hashbag_texts_read`, in no particular order, as many as there are places for. Returns how many. All are
+ * written if `ends` and `counts` have as many places as the first bag has distinct strings, and `bytes` as many as
+ * these strings have bytes. `a` and `b` must be different handles. It returns 0 if one of them has no bag of byte
+ * strings. It doesn't allocate. */
 size_t hashbag_texts_difference(hashbag *a, hashbag *b, uint8_t *bytes, size_t bytes_len, size_t *ends,
                                 size_t ends_len, size_t *counts, size_t counts_len);
 
-/* Writes the byte strings of the first bag that the second lacks, each with its count, as `hashbag_texts_read` does:
- * as many as there are places for, in no particular order. Returns how many. With as many places as the first bag has
- * distinct strings, and bytes in all, these are all. They must be two handles, not one twice. It returns 0 if one of
- * them has no bag of byte strings. It doesn't allocate. */
+/* Writes the byte strings of the first bag that the second lacks, each with its count. They are written as by
+ * `hashbag_texts_read`, in no particular order, as many as there are places for. Returns how many. All are written if
+ * `ends` and `counts` have as many places as the first bag has distinct strings, and `bytes` as many as these strings
+ * have bytes. `a` and `b` must be different handles. It returns 0 if one of them has no bag of byte strings. It
+ * doesn't allocate. */
 size_t hashbag_texts_not_in(hashbag *a, hashbag *b, uint8_t *bytes, size_t bytes_len, size_t *ends, size_t ends_len,
                             size_t *counts, size_t counts_len);
 
 /* Writes the byte strings of two bags, each once, as `hashbag_texts_read` does, with its count in the first less its
  * count in the second: those of the first bag first. A difference above `PTRDIFF_MAX` or below `PTRDIFF_MIN` is
- * written as that bound. It writes as many as there are places for, and returns how many. With as many places as both
- * bags together have distinct strings, and bytes in all, these are all. They must be two handles, not one twice. It
- * returns 0 if one of them has no bag of byte strings. It doesn't allocate. */
+ * written as that bound. It writes as many as there are places for, and returns how many. All are written if `ends`
+ * and `differences` have as many places as both bags together have distinct strings, and `bytes` as many as these
+ * strings have bytes. `a` and `b` must be different handles. It returns 0 if one of them has no bag of byte strings.
+ * It doesn't allocate. */
 size_t hashbag_texts_signed_difference(hashbag *a, hashbag *b, uint8_t *bytes, size_t bytes_len, size_t *ends,
                                        size_t ends_len, ptrdiff_t *differences, size_t differences_len);
 
 /* ---- bags of byte strings, in an order */
 
 /* Writes the distinct byte strings in ascending order, by unsigned bytes, and their counts, as `hashbag_texts_read`
- * does. Writes how many into `n`, and returns 0, also if not all have places. With `hashbag_set_len` ends and counts,
- * and `hashbag_texts_bytes` bytes, these are all. It makes one allocation, a list of all distinct strings, and sorts
- * it.
+ * does. Writes how many into `n`, and returns 0, also if not all have places. All are written if `ends` and `counts`
+ * have `hashbag_set_len` places and `bytes` has `hashbag_texts_bytes`. It makes one allocation, a list of all distinct
+ * strings, and sorts it.
  *
  * Errors:
  * `HASHBAG_MEMORY` if the allocation fails; `HASHBAG_EMPTY`; `HASHBAG_KIND`. Nothing is written then. The bag is
@@ -448,8 +455,9 @@ uint8_t hashbag_texts_sorted(hashbag *handle, uint8_t *bytes, size_t bytes_len, 
 
 /* Writes the k most common byte strings and their counts, as `hashbag_texts_read` does: in descending order of counts,
  * and in ascending order, by unsigned bytes, if they occur equally often. k is the lesser of `ends_len` and
- * `counts_len`. Writes how many into `n`, and returns 0. With `hashbag_texts_bytes` bytes all fit. It reads each
- * distinct string once, and makes two allocations at most, each of as many pairs as it may write.
+ * `counts_len`. Writes how many into `n`, and returns 0. All k are written if `bytes` has `hashbag_texts_bytes`
+ * places. It reads each distinct string once, and makes two allocations at most, each of as many pairs as it may
+ * write.
  *
  * Errors:
  * `HASHBAG_MEMORY` if an allocation fails; `HASHBAG_EMPTY`; `HASHBAG_KIND`. Nothing is written then. The bag is
@@ -473,21 +481,21 @@ uint8_t hashbag_texts_to_json(hashbag *handle, uint8_t *bytes, size_t bytes_len,
 
 /* Puts into the handle the bag of byte strings that a JSON text is, and returns 0. The bag that the handle had is
  * freed. Its limit is that of the text or `most`, whichever is less. The text has one of the forms that
- * `hashbag_texts_to_json` writes, with spaces too; an array of bytes may also be UTF-8. Equal strings add up, and a
- * pair with the count 0 is checked and adds nothing.
+ * `hashbag_texts_to_json` writes. Spaces may be between its tokens, and a string may be an array of its bytes even if
+ * they are UTF-8. Equal strings add up, and a pair with the count 0 is checked and adds nothing.
  *
  * Its strings are hashed by SipHash under fixed keys, alike in every run. Use `hashbag_texts_from_json_keyed` if
  * strangers wrote the text.
  *
  * Errors:
  * `HASHBAG_NOT_JSON` if the text isn't JSON or isn't UTF-8: `at` is then how many of its bytes had been read when that
- * was found. The first fault of a JSON text is returned by a number that begins with `HASHBAG_JSON_`; `at` is the pair
- * at fault, counted from 0, if it is one. `HASHBAG_MEMORY` if an allocation fails. Then the handle is unchanged, and
- * `at` too except in the two cases above. */
+ * was found. One of `HASHBAG_JSON_..` for the first fault of a JSON text: if a pair is at fault, `at` is its number,
+ * counted from 0. `HASHBAG_MEMORY` if an allocation fails. Then the handle is unchanged, and `at` too except in the
+ * two cases above. */
 uint8_t hashbag_texts_from_json(hashbag *handle, size_t most, const uint8_t *text, size_t text_len, size_t *at);
 
-/* Does the same with two keys of SipHash, which the caller draws at random: then nobody can choose byte strings that
- * collide.
+/* Puts into the handle the bag that a JSON text is, as `hashbag_texts_from_json` does, with two keys of SipHash. The
+ * caller draws them at random: then nobody can choose byte strings that collide.
  *
  * Errors:
  * Those of `hashbag_texts_from_json`. */

@@ -12,7 +12,7 @@ A wrong body is a file crates/NAME/refused/BODY.edit, in lines:
     names-only: REASON   only if a proof file names what the body removes, and no other goal of the function fails
 
 The wrong bodies of a crate are put into one copy of it, which `rattle check` checks once, from nothing. Two that change one function
-are put into two copies. A check doesn't stop at the first function that isn't proved, and says of each why. A wrong body is rejected by itself if
+are put into two copies. One that changes a text in no function, as a macro, has a copy of its own. A check doesn't stop at the first function that isn't proved, and says of each why. A wrong body is rejected by itself if
 a goal of its own function fails; if its function only calls others that aren't proved, it is tried again in another copy, at last alone.
 
 The crates below are the ones that `rt ci` has built, if these are newer than their sources; otherwise `rt lib` builds what has changed. --built:
@@ -189,6 +189,9 @@ class Body:
                 self.places.append((file, *rows))
             elif not self.functions:
                 raise ValueError("its old text is in no function: name one by a line 'fn:'")
+            else:
+                # A text in no function, as one in a macro, may change others than those named: this body is alone in its copy.
+                self.tries = 2
             texts[file] = text.replace(old, new)
         self.functions = self.functions or sorted(found)
 

@@ -48,7 +48,8 @@ module _ {M : Type 1} {𝓤 : Ura M} {𝓛 : Logic 𝓤} {K : Type 0} {Γ : List
       fpack t (Valss (RawPtr ∷ Z ∷ [])) (within (shape Handle.the_type) (to Handle.the_type (record { at = p; alloc = a; held = x })) (v ∷ [])) (ptr_val p ∷ [], (h ∷ [], tt)) $ fjoin t $ s)
 
 module _ {M : Type 1} {𝓤 : Ura M} (𝓛 : Logic 𝓤) where
-  pub tested : (a : Z.Denot) (p : Ptr) (x : Held.the_row.Denot)
-      → ent 𝓤 (sem 𝓛 (box_owns (ghosts.dealloc_token a) Held.the_row p x)) (guard 𝓤 (Testable p) (sem 𝓛 (box_owns (ghosts.dealloc_token a) Held.the_row p x)))
-  tested a p x = let B = sem 𝓛 (box_owns (ghosts.dealloc_token a) Held.the_row p x) in
-      fact_use 𝓤 (Testable p) (via 𝓤 _ (snd∗ 𝓤 (sem 𝓛 (lies_at Held.the_row base.Fraction.full_share p x)) (sem 𝓛 (ghosts.dealloc_token a (bare (lone Held.the_row.mir)) p))) (dealloc_token-Testable 𝓛 a (bare (lone Held.the_row.mir)) p)) (guard_i 𝓤 (Testable p) B)
+  -- a pointer whose box is owned may be tested
+  pub tested : (Y : RattleType) (a : Z.Denot) (p : Ptr) (x : Y.Denot)
+      → ent 𝓤 (sem 𝓛 (box_owns (ghosts.dealloc_token a) Y p x)) (guard 𝓤 (Testable p) (sem 𝓛 (box_owns (ghosts.dealloc_token a) Y p x)))
+  tested Y a p x = let B = sem 𝓛 (box_owns (ghosts.dealloc_token a) Y p x) in
+      fact_use 𝓤 (Testable p) (via 𝓤 _ (snd∗ 𝓤 (sem 𝓛 (lies_at Y base.Fraction.full_share p x)) (sem 𝓛 (ghosts.dealloc_token a (bare (lone Y.mir)) p))) (dealloc_token-Testable 𝓛 a (bare (lone Y.mir)) p)) (guard_i 𝓤 (Testable p) B)

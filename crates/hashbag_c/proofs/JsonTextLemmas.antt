@@ -1,6 +1,8 @@
 -- The tree of a bag isn't so deep that its text couldn't be read.
-use Rattle.std.proofs.Common.{◌≡◌, ℕ, ◌≤◌, Bool, true, false, cond, List, [], ◌∷◌, map, Ordering, refl, sym, subst, arith}
-use Rattle.std.specs.Str.{is_utf8}
+use Rattle.std.proofs.Common.{◌≡◌, ℕ, ◌≤◌, nat_eq, Bool, true, false, cond, List, [], ◌∷◌, map, Ordering, refl, sym, subst, arith}
+use Rattle.std.specs.Str.{bytes_eq, is_utf8}
+use Rattle.std.proofs.lemmas.Slice.Eq.{bytes_eq-Decides}
+use borrow.Author.Tests.{eqb-true}
 use Rattle.serde_json.specs.Data.{Data, number, string, unsigned, object, member, no_members, depth, items_depth}
 use Rattle.serde_json.specs.Read.{max_depth}
 use Rattle.serde_json.specs.View.{items_of}
@@ -8,6 +10,7 @@ use Rattle.hashbag_core.specs.JsonFaults.{limit_name, pairs_name}
 use Rattle.hashbag_core.specs.JsonTrees.{pair_tree, IsBagTree, IsTreeOfCounts}
 use Rattle.hashbag_core.specs.Occurrences.{IsOneInstanceEach}
 use Rattle.hashbag_c.specs.ByteTrees.{numbers_tree, bytes_tree}
+use Rattle.hashbag_c.specs.Json.{number_tree}
 
 written_depth : (b : Bool) (most : ℕ) (p : Data) → depth p ≤ 3 → depth (cond b p (object (member limit_name (number (unsigned most)) (member pairs_name p no_members)))) ≤ 4
 written_depth true most p h = omega arith
@@ -42,3 +45,14 @@ either_depth false bs = let more = list_depth bs in omega arith
 -- the tree of a byte string
 pub shallow : (bs : List ℕ) → depth (bytes_tree bs) ≤ 1
 shallow bs = either_depth (is_utf8 bs) bs
+
+-- equal byte strings are the same
+pub bytes_same : (x y : List ℕ) → bytes_eq x y ≡ true → x ≡ y
+bytes_same x y = (bytes_eq-Decides x y).0
+
+-- the tree of a number, and equal numbers
+pub number_shallow : (n : ℕ) → depth (number_tree n) ≤ 1
+number_shallow n = omega arith
+
+pub number_same : (m n : ℕ) → nat_eq m n ≡ true → m ≡ n
+number_same m n is = eqb-true m n is

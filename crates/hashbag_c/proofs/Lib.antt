@@ -1,9 +1,7 @@
 pub mod AsBox
-pub mod AsLeftBox
 pub mod ByteTreeLemmas
 pub mod HandleSteps
 pub mod JsonTextLemmas
-pub mod ListedLemmas
 pub mod PieceLemmas
 pub mod QuotaLemmas
 pub mod RawBoxWords

@@ -1,37 +1,24 @@
 -- A walk's handle, taken apart and put together. Assumes `Logic`.
 use Rattle.std.proofs.Common.{◌≡◌, List, [], ◌∷◌, ◌++◌, refl, subst}
 use seplogic.Ra.Ura.{Ura}
-use mir.Raw.{raw as bare}
-use mir.Val.{Val, vstruct, vcons, vnil, of_list}
-use base.Logic.{ent, via, snd∗, guard, guard_i}
-use types.Logic.{Logic, sem}
+use mir.Val.{Val, vstruct, of_list}
+use types.Logic.{Logic}
 use types.Kit.{Item, Goal, Seq, Step, step, ‵, ◌$◌, move, drop, fsplit, fjoin, fpick, fpack, feq_i, feq_l}
-use contract.Monad.{fact_use}
 use denote.RattleType.{RattleType, Valss}
-use denote.Memory.{lone}
-use denote.RawPtr.{Ptr, RawPtr, ptr_val, lies_at, Testable}
+use denote.RawPtr.{Ptr, RawPtr, ptr_val}
 use denote.Steps.{nothing}
 use denote.Struct.Struct.{within}
 use denote.Struct.Owning.{shape, to}
 use Rattle.core.proofs.alloc.Calls.{Fits, handle_tells}
 use Rattle.std.specs.declared.option.Option.{Option}
-use Rattle.std_alloc.specs.Box.Ownership.{box_owns}
-use Rattle.std_heap.specs.contracts.Global as Heap
-use Rattle.std_heap.specs.contracts.GlobalAllocator.TheImpl.{ghosts}
-use Rattle.std.proofs.GlobalToken.{dealloc_token-Testable}
 use Rattle.hashbag_c.specs.Own.{owned_left}
 use Rattle.hashbag_c.specs.contracts.held.Left as Left
 use Rattle.hashbag_c.specs.contracts.walk.Walk as Walk
-use Rattle.hashbag_c.proofs.AsLeftBox.{E}
+use Rattle.hashbag_c.proofs.AsBox.{LeftE as E}
+use Rattle.hashbag_c.proofs.HandleSteps.{Z, both}
 
 abbrev pub Row : RattleType
 Row = Walk.the_row
-
-abbrev pub Z : RattleType
-Z = Heap.the_row
-
-abbrev pub both : Val → Val → Val
-both v w = vstruct (vcons v (vcons w vnil))
 
 module _ {M : Type 1} {𝓤 : Ura M} {𝓛 : Logic 𝓤} {K : Type 0} {Γ : List (Item 𝓤)} {G : Goal 𝓤 𝓛.H} where
   pub walk_out : K → (d : Row.Denot) (vs : List Val)
@@ -46,9 +33,3 @@ module _ {M : Type 1} {𝓤 : Ura M} {𝓛 : Logic 𝓤} {K : Type 0} {Γ : List
   walk_in t p h a x = step (λ s. let v : Val = both (ptr_val p) h in
       nothing t $ move t (2 ∷ 0 ∷ []) $ fjoin t $ feq_i t (List Val) (ptr_val p ∷ []) (ptr_val p ∷ []) refl $ fjoin t $ feq_i t (List Val) (v ∷ []) (v ∷ []) refl $ fjoin t $
       fpack t (Valss (RawPtr ∷ Z ∷ [])) (within (shape Walk.the_type) (to Walk.the_type (record { at = p; alloc = a; left = x })) (v ∷ [])) (ptr_val p ∷ [], (h ∷ [], tt)) $ fjoin t $ s)
-
-module _ {M : Type 1} {𝓤 : Ura M} (𝓛 : Logic 𝓤) where
-  pub tested : (a : Z.Denot) (p : Ptr) (x : Left.the_row.Denot)
-      → ent 𝓤 (sem 𝓛 (box_owns (ghosts.dealloc_token a) Left.the_row p x)) (guard 𝓤 (Testable p) (sem 𝓛 (box_owns (ghosts.dealloc_token a) Left.the_row p x)))
-  tested a p x = let B = sem 𝓛 (box_owns (ghosts.dealloc_token a) Left.the_row p x) in
-      fact_use 𝓤 (Testable p) (via 𝓤 _ (snd∗ 𝓤 (sem 𝓛 (lies_at Left.the_row base.Fraction.full_share p x)) (sem 𝓛 (ghosts.dealloc_token a (bare (lone Left.the_row.mir)) p))) (dealloc_token-Testable 𝓛 a (bare (lone Left.the_row.mir)) p)) (guard_i 𝓤 (Testable p) B)

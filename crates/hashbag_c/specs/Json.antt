@@ -25,8 +25,8 @@ use Rattle.hashbag_c.specs.declared.state.State.{State}
 -- ---- what is written
 
 module _ {T S : Type 0} (eq : T → T → Bool) (cmp : T → T → Ordering) (tree_of : T → Data) (has_item : Data → Bool) (reads : Data → T → Type 0) where
-  -- the text is that of the tree of every bag with these counts and this limit, without spaces. It is read as that tree, which is read
-  -- without a fault as a bag with these counts and this limit
+  -- all bags with these counts and this limit have one tree, and the text is that tree without spaces. Reading the text gives the tree. The tree
+  -- has no fault, and is read as a bag with these counts and this limit
   pub record IsJson (bag : Bag T S) (text : List ℕ) : Type 0 where
     pub tree : Data
     pub is_tree : IsTreeOfCounts eq cmp tree_of bag.items bag.most tree
@@ -36,7 +36,7 @@ module _ {T S : Type 0} (eq : T → T → Bool) (cmp : T → T → Ordering) (tr
     pub counts : ReadsBack eq reads bag.items tree
     pub limit : limit_of tree ≡ bag.most
 
--- a text for which P holds is at the beginning of a buffer, whose other places are as they were before; n is its length
+-- some text for which P holds is at the beginning of `after`, whose other places are as in `before`; n is the text's length
 pub record IsWritten (P : List ℕ → Type 0) (before after : List ℕ) (n : ℕ) : Type 0 where
   pub text : List ℕ
   pub holds : P text
@@ -50,6 +50,15 @@ pub record IsTooLong (P : List ℕ → Type 0) (before : List ℕ) (n : ℕ) : T
   pub holds : P text
   pub long : n ≡ length text
   pub more : length before < length text
+
+module _ {T S : Type 0} (eq : T → T → Bool) (cmp : T → T → Ordering) (tree_of : T → Data) (has_item : Data → Bool) (reads : Data → T → Type 0) where
+  -- the JSON of a bag is written
+  abbrev pub JsonIsWritten : Bag T S → List ℕ → List ℕ → ℕ → Type 0
+  JsonIsWritten bag before after n = IsWritten (IsJson eq cmp tree_of has_item reads bag) before after n
+
+  -- the JSON of a bag is too long
+  abbrev pub JsonIsTooLong : Bag T S → List ℕ → ℕ → Type 0
+  JsonIsTooLong bag before n = IsTooLong (IsJson eq cmp tree_of has_item reads bag) before n
 
 -- ---- what a text is read as
 
@@ -68,13 +77,14 @@ module _ {T S : Type 0} (eq : T → T → Bool) (has_item : Data → Bool) (read
 
 -- ---- why a text isn't read
 
--- the text is that of a tree, of which this is the first fault under the limit `most`
+-- the text is a tree whose first fault, under the limit `most`, is `error`
 pub record HasFault (has_item : Data → Bool) (most : ℕ) (text : List ℕ) (error : JsonError) : Type 0 where
   pub tree : Data
   pub is_tree : read text ≡ Some tree
   pub first : fault most has_item tree ≡ Some error
 
--- why a text isn't read: it is no JSON or no UTF-8, and a place in it says about where that was found; or its tree has a fault
+-- why a text isn't read. `Memory`: an allocation failed. `NotJson place`: it isn't JSON or isn't UTF-8, and `place` is roughly where the error is, at
+-- most the text's length. `Fault error`: this is the first fault of its tree under the limit `most`
 abbrev pub IsCause : (Data → Bool) → ℕ → List ℕ → TextError → Type 0
 IsCause has_item most text Memory = Unit {0}
 IsCause has_item most text (NotJson place) = (place ≤ length text) × (IsUtf8 text → read text ≡ None)
@@ -112,7 +122,7 @@ place_of Memory = None
 place_of (NotJson place) = Some place
 place_of (Fault error) = fault_pair error
 
--- a text isn't read: why is said by a number, and by where, if the error has a place
+-- a text isn't read: `code` is the error's number; `after` is the error's place, or `before` if it has none
 pub record IsReported (has_item : Data → Bool) (most : ℕ) (text : List ℕ) (code before after : ℕ) : Type 0 where
   pub error : TextError
   pub cause : IsCause has_item most text error

@@ -4,7 +4,6 @@ pub mod ByteTrees
 pub mod Calls
 pub mod Differences
 pub mod Json
-pub mod Orders
 pub mod Pieces
 pub mod Quotas
 pub mod Reads

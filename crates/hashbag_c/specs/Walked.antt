@@ -1,6 +1,6 @@
 -- What the clauses of exports say of a walk that C holds: of the pairs that are left, and of the next ones.
-use Rattle.std.specs.Prelude.{◌≡◌, ℕ, ◌+◌, ◌<◌, ◌≤◌, List, [], ◌∷◌, length, take, drop, map, flat_map, min, Option, None, Some}
-use Rattle.hashbag_c.specs.Reads.{ends_from, size_of}
+use Rattle.std.specs.Prelude.{◌≡◌, ℕ, List, [], ◌∷◌, length, drop, Option, None, Some}
+use Rattle.hashbag_c.specs.Reads.{HasWritten, HasWrittenTexts}
 use Rattle.hashbag_c.specs.declared.held.Left.{Left}
 use Rattle.hashbag_c.specs.declared.held.Left.TheVariants.{Numbers, Texts}
 
@@ -28,20 +28,14 @@ IfTextPairs None P = Unit {0}
 IfTextPairs (Some (Numbers pairs)) P = Unit {0}
 IfTextPairs (Some (Texts pairs)) P = P pairs.items
 
--- the first n of the pairs are written, as many as there are or both arrays have places for, and the rest is left
-pub record HasNext (pairs : List (ℕ × ℕ)) (n : ℕ) (values counts : List ℕ) (rest : List (ℕ × ℕ)) : Type 0 where
-  pub places : n ≡ min (length pairs) (min (length values) (length counts))
-  pub values_are : take n values ≡ map (λ e. e.0) (take n pairs)
-  pub counts_are : take n counts ≡ map (λ e. e.1) (take n pairs)
+-- the first n of the pairs are written, and the rest is left
+pub record HasNext (n : ℕ) (values counts : List ℕ) (pairs rest : List (ℕ × ℕ)) : Type 0 where
+  pub written : HasWritten pairs n values counts
   pub left : rest ≡ drop n pairs
 
--- the first n of the pairs are written, strings one after another, and the rest is left. One more has no place
-pub record HasNextTexts (pairs : List (List ℕ × ℕ)) (n : ℕ) (bytes ends counts : List ℕ) (rest : List (List ℕ × ℕ)) : Type 0 where
-  pub few : n ≤ length pairs
-  pub bytes_are : take (size_of (take n pairs)) bytes ≡ flat_map (λ e. e.0) (take n pairs)
-  pub ends_are : take n ends ≡ ends_from 0 (take n pairs)
-  pub counts_are : take n counts ≡ map (λ e. e.1) (take n pairs)
-  pub most : n < length pairs → n < length ends → n < length counts → length bytes < size_of (take (n + 1) pairs)
+-- the first n of these pairs of byte strings are written, and the rest is left
+pub record HasNextTexts (n : ℕ) (bytes ends counts : List ℕ) (pairs rest : List (List ℕ × ℕ)) : Type 0 where
+  pub written : HasWrittenTexts pairs n bytes ends counts
   pub left : rest ≡ drop n pairs
 
 -- how many bytes the next string has, 0 at the end
@@ -49,10 +43,28 @@ abbrev pub next_size : List (List ℕ × ℕ) → ℕ
 next_size [] = 0
 next_size (e ∷ pairs) = length e.0
 
--- for one pair more than the n that are written there is no place, or no bytes for its string
-abbrev pub HasNoPlaceForOneMore : List (List ℕ × ℕ) → ℕ → List ℕ → List ℕ → List ℕ → Type 0
-HasNoPlaceForOneMore pairs n bytes ends counts = n < length pairs → n < length ends → n < length counts → length bytes < size_of (take (n + 1) pairs)
+-- if `left` is a walk over numbers, so is `after`, and P holds of the pairs of both
+abbrev pub NumberPairsTo : Option Left → Option Left → (List (ℕ × ℕ) → List (ℕ × ℕ) → Type 0) → Type 0
+NumberPairsTo left after P = IfNumberPairs left (λ pairs. HasNumberPairs after (P pairs))
 
--- if a walk is over byte strings, the other is so then, and P holds for the pairs that are left of these
+-- if `left` is a walk over byte strings, so is `after`, and P holds of the pairs of both
 abbrev pub TextPairsTo : Option Left → Option Left → (List (List ℕ × ℕ) → List (List ℕ × ℕ) → Type 0) → Type 0
 TextPairsTo left after P = IfTextPairs left (λ pairs. HasTextPairs after (P pairs))
+
+-- if a walk has pairs of either kind, P holds for these
+abbrev pub IfPairs : Option Left → ((T : Type 0) → List (T × ℕ) → Type 0) → Type 0
+IfPairs None P = Unit {0}
+IfPairs (Some (Numbers pairs)) P = P ℕ pairs.items
+IfPairs (Some (Texts pairs)) P = P (List ℕ) pairs.items
+
+-- if `left` is no walk over numbers, P holds
+abbrev pub UnlessNumberPairs : Option Left → Type 0 → Type 0
+UnlessNumberPairs None P = P
+UnlessNumberPairs (Some (Numbers pairs)) P = Unit {0}
+UnlessNumberPairs (Some (Texts pairs)) P = P
+
+-- if `left` is no walk over byte strings, P holds
+abbrev pub UnlessTextPairs : Option Left → Type 0 → Type 0
+UnlessTextPairs None P = P
+UnlessTextPairs (Some (Numbers pairs)) P = P
+UnlessTextPairs (Some (Texts pairs)) P = Unit {0}

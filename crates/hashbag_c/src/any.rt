@@ -1,18 +1,19 @@
-//! Calls on a bag of either kind. In clauses `held` is the bag of a handle, if it has one. `IfNumbers`: if this is a bag of numbers, the
-//! fact holds of it. `HasNumbers`: this is a bag of numbers, and the fact holds of it. `IfTexts` and `HasTexts` say the same of byte
-//! strings. `NumbersTo` and `TextsTo` say what a bag becomes. The results 1, 2 and 9 are the numbers of a `BagError`: `Memory`, `TooMany`
-//! and `BelowTotal`.
-ghost use Rattle.std.specs.Prelude.{◌≡◌, ◌≢◌, ◌+◌, ◌<◌, ◌≤◌, ◌↔◌, ◌⊎◌, false, [], length, nat_eq, None, Some, IfOk, IsTrue};
-ghost use Rattle.std.specs.Str.{bytes_eq};
+//! Calls on a bag of either kind. In clauses `held` is what a handle has: a bag, or nothing. The results 1, 2 and 9 are the numbers of a
+//! `BagError`: `Memory`, `TooMany` and `BelowTotal`.
+//!
+//! - `IfBag held P`: if `held` is a bag, P holds of it. `BagTo held after P`: if `held` is a bag, `after` is one of the same kind, and P holds of both.
+//! - `BothBags a b P`: if `a` and `b` are bags of one kind, P holds of both. `IfOtherKinds a b P`: if they are bags of different kinds, P holds.
+//! - In `λ _ _ eq bag. ..` the arguments are the type of the values, the type of the hash state, the equality of the values, and the bag.
+ghost use Rattle.std.specs.Prelude.{◌≡◌, ◌≢◌, ◌+◌, ◌<◌, ◌≤◌, ◌↔◌, ◌⊎◌, false, [], length, None, Some, IfOk, IsTrue};
 ghost use Rattle.hashbag_table.specs.Tables.{room};
 ghost use Rattle.hashbag_core.specs.Bag.{limited, IsBagOf};
 ghost use Rattle.hashbag_core.specs.Equality.{bag_eq};
 ghost use Rattle.hashbag_core.specs.Occurrences.{distinct_count};
-ghost use Rattle.hashbag_c.specs.Calls.{occurs, BothNumbers, BothTexts, HasNumbers, HasTexts, IfNumbers, IfTexts, NumbersTo, TextsTo};
+ghost use Rattle.hashbag_c.specs.Calls.{BagTo, BothBags, IfBag, IfOtherKinds};
 ghost use Rattle.hashbag_c.specs.Whole.{HasShrunk, IsCleared, IsCopy};
 
 use crate::handle::Handle;
-use crate::held::Held;
+use crate::held::{Held, with_both, with_held};
 use hashbag_core::BagError;
 use std::alloc::Global;
 
@@ -39,100 +40,43 @@ pub extern "C" fn hashbag_free(alloc: Global, handle: &mut Handle)
     drop(handle.take(alloc));
 }
 
-fn len(held: &Held) -> usize
-    ensures numbers { IfNumbers (Some held.now) (λ bag. result ≡ length bag.items) }
-    ensures texts { IfTexts (Some held.now) (λ bag. result ≡ length bag.items) }
-{
-    match held {
-        Held::Numbers(bag) => bag.len(),
-        Held::Texts(bag) => bag.len(),
-    }
-}
-
 /// Returns the number of occurrences: the sum of all counts. Returns 0 for an empty handle.
 #[unsafe(no_mangle)]
 pub extern "C" fn hashbag_len(alloc: Global, handle: &mut Handle) -> usize
-    ensures numbers { IfNumbers handle.old.held (λ bag. result ≡ length bag.items) }
-    ensures texts { IfTexts handle.old.held (λ bag. result ≡ length bag.items) }
+    ensures len { IfBag handle.old.held (λ _ _ _ bag. result ≡ length bag.items) }
     ensures empty { handle.old.held ≡ None → result ≡ 0 }
     ensures unchanged { handle.new.held ≡ handle.old.held }
 {
-    let Some(held) = handle.take(alloc) else {
-        return 0;
-    };
-    let len = len(&held);
-    handle.put(held);
-    len
-}
-
-fn set_len(held: &Held) -> usize
-    ensures numbers { IfNumbers (Some held.now) (λ bag. result ≡ distinct_count nat_eq bag.items) }
-    ensures texts { IfTexts (Some held.now) (λ bag. result ≡ distinct_count bytes_eq bag.items) }
-{
-    match held {
-        Held::Numbers(bag) => bag.set_len(),
-        Held::Texts(bag) => bag.set_len(),
-    }
+    with_held!(alloc, handle, 0, |held| match held {
+        Held::Numbers(bag) => bag.len(),
+        Held::Texts(bag) => bag.len(),
+    })
 }
 
 /// Returns the number of distinct values. Returns 0 for an empty handle.
 #[unsafe(no_mangle)]
 pub extern "C" fn hashbag_set_len(alloc: Global, handle: &mut Handle) -> usize
-    ensures numbers { IfNumbers handle.old.held (λ bag. result ≡ distinct_count nat_eq bag.items) }
-    ensures texts { IfTexts handle.old.held (λ bag. result ≡ distinct_count bytes_eq bag.items) }
+    ensures distinct { IfBag handle.old.held (λ _ _ eq bag. result ≡ distinct_count eq bag.items) }
     ensures empty { handle.old.held ≡ None → result ≡ 0 }
     ensures unchanged { handle.new.held ≡ handle.old.held }
 {
-    let Some(held) = handle.take(alloc) else {
-        return 0;
-    };
-    let set_len = set_len(&held);
-    handle.put(held);
-    set_len
-}
-
-fn limit(held: &Held) -> usize
-    ensures numbers { IfNumbers (Some held.now) (λ bag. result ≡ bag.most) }
-    ensures texts { IfTexts (Some held.now) (λ bag. result ≡ bag.most) }
-{
-    match held {
-        Held::Numbers(bag) => bag.limit(),
-        Held::Texts(bag) => bag.limit(),
-    }
+    with_held!(alloc, handle, 0, |held| match held {
+        Held::Numbers(bag) => bag.set_len(),
+        Held::Texts(bag) => bag.set_len(),
+    })
 }
 
 /// Returns the limit: the greatest total that the bag may have. Returns 0 for an empty handle.
 #[unsafe(no_mangle)]
 pub extern "C" fn hashbag_limit(alloc: Global, handle: &mut Handle) -> usize
-    ensures numbers { IfNumbers handle.old.held (λ bag. result ≡ bag.most) }
-    ensures texts { IfTexts handle.old.held (λ bag. result ≡ bag.most) }
+    ensures limit { IfBag handle.old.held (λ _ _ _ bag. result ≡ bag.most) }
     ensures empty { handle.old.held ≡ None → result ≡ 0 }
     ensures unchanged { handle.new.held ≡ handle.old.held }
 {
-    let Some(held) = handle.take(alloc) else {
-        return 0;
-    };
-    let limit = limit(&held);
-    handle.put(held);
-    limit
-}
-
-fn set_limit(held: &mut Held, most: usize) -> u8
-    ensures numbers { result ≡ 0 → NumbersTo (Some held.old) (Some held.new) (λ bag after. after ≡ limited most bag) }
-    ensures texts { result ≡ 0 → TextsTo (Some held.old) (Some held.new) (λ bag after. after ≡ limited most bag) }
-    ensures below_numbers { IfNumbers (Some held.old) (λ bag. (result ≡ 9) ↔ (most < length bag.items)) }
-    ensures below_texts { IfTexts (Some held.old) (λ bag. (result ≡ 9) ↔ (most < length bag.items)) }
-    ensures only { result ≢ 0 → result ≡ 9 }
-    ensures err { result ≢ 0 → held.new ≡ held.old }
-{
-    let set = match held {
-        Held::Numbers(bag) => bag.set_limit(most),
-        Held::Texts(bag) => bag.set_limit(most),
-    };
-    match set {
-        Ok(()) => 0,
-        Err(error) => error.number(),
-    }
+    with_held!(alloc, handle, 0, |held| match held {
+        Held::Numbers(bag) => bag.limit(),
+        Held::Texts(bag) => bag.limit(),
+    })
 }
 
 /// Sets the limit to `most`, and returns 0. Nothing else changes.
@@ -142,63 +86,36 @@ fn set_limit(held: &mut Held, most: usize) -> u8
 /// `HASHBAG_BELOW_TOTAL` if `most` is below the total; `HASHBAG_EMPTY` if the handle has no bag. Then nothing changes.
 #[unsafe(no_mangle)]
 pub extern "C" fn hashbag_set_limit(alloc: Global, handle: &mut Handle, most: usize) -> u8
-    ensures numbers { result ≡ 0 → NumbersTo handle.old.held handle.new.held (λ bag after. after ≡ limited most bag) }
-    ensures texts { result ≡ 0 → TextsTo handle.old.held handle.new.held (λ bag after. after ≡ limited most bag) }
-    ensures below_numbers { IfNumbers handle.old.held (λ bag. (result ≡ 9) ↔ (most < length bag.items)) }
-    ensures below_texts { IfTexts handle.old.held (λ bag. (result ≡ 9) ↔ (most < length bag.items)) }
+    // If the result is 0, only the limit changed, to `most`.
+    ensures set { result ≡ 0 → BagTo handle.old.held handle.new.held (λ _ _ _ bag after. after ≡ limited most bag) }
+
+    // The result is 9 (`HASHBAG_BELOW_TOTAL`) exactly if `most` is below the total.
+    ensures below_total { IfBag handle.old.held (λ _ _ _ bag. (result ≡ 9) ↔ (most < length bag.items)) }
     ensures empty { handle.old.held ≡ None → result ≡ EMPTY }
     ensures err { result ≢ 0 → handle.new.held ≡ handle.old.held }
 {
-    let Some(mut held) = handle.take(alloc) else {
-        return EMPTY;
-    };
-    let code = set_limit(&mut held, most);
-    handle.put(held);
-    code
-}
-
-fn clear(held: &mut Held)
-    ensures numbers { NumbersTo (Some held.old) (Some held.new) IsCleared }
-    ensures texts { TextsTo (Some held.old) (Some held.new) IsCleared }
-{
-    match held {
-        Held::Numbers(bag) => bag.clear(),
-        Held::Texts(bag) => bag.clear(),
-    }
+    with_held!(alloc, handle, EMPTY, |mut held| {
+        let done = match held {
+            Held::Numbers(bag) => bag.set_limit(most),
+            Held::Texts(bag) => bag.set_limit(most),
+        };
+        match done {
+            Ok(()) => 0,
+            Err(error) => error.number(),
+        }
+    })
 }
 
 /// Removes all occurrences. The bag keeps its limit, its keys and its memory.
 #[unsafe(no_mangle)]
 pub extern "C" fn hashbag_clear(alloc: Global, handle: &mut Handle)
-    ensures numbers { NumbersTo handle.old.held handle.new.held IsCleared }
-    ensures texts { TextsTo handle.old.held handle.new.held IsCleared }
+    ensures cleared { BagTo handle.old.held handle.new.held (λ _ _ _ bag after. IsCleared bag after) }
     ensures empty { handle.old.held ≡ None → handle.new.held ≡ None }
 {
-    let Some(mut held) = handle.take(alloc) else {
-        return;
-    };
-    clear(&mut held);
-    handle.put(held);
-}
-
-fn reserve(held: &mut Held, n: usize) -> u8
-    ensures numbers { NumbersTo (Some held.old) (Some held.new) (λ bag after. IsBagOf nat_eq bag bag.items after) }
-    ensures texts { TextsTo (Some held.old) (Some held.new) (λ bag after. IsBagOf bytes_eq bag bag.items after) }
-    ensures room_numbers { result ≡ 0 → IfNumbers (Some held.new) (λ after. n ≤ room after.tables) }
-    ensures room_texts { result ≡ 0 → IfTexts (Some held.new) (λ after. n ≤ room after.tables) }
-    ensures enough_numbers { IfNumbers (Some held.old) (λ bag. n ≤ room bag.tables → result ≡ 0) }
-    ensures enough_texts { IfTexts (Some held.old) (λ bag. n ≤ room bag.tables → result ≡ 0) }
-    ensures memory { result ≢ 0 → result ≡ 1 }
-    ensures err { result ≢ 0 → held.new ≡ held.old }
-{
-    let reserved = match held {
-        Held::Numbers(bag) => bag.reserve(n),
-        Held::Texts(bag) => bag.reserve(n),
-    };
-    match reserved {
-        Ok(()) => 0,
-        Err(error) => error.number(),
-    }
+    with_held!(alloc, handle, (), |mut held| match held {
+        Held::Numbers(bag) => bag.clear(),
+        Held::Texts(bag) => bag.clear(),
+    })
 }
 
 /// Makes room for `n` absent values, and returns 0. Inserting these values then allocates nothing but the bytes of byte strings.
@@ -208,42 +125,24 @@ fn reserve(held: &mut Held, n: usize) -> u8
 /// `HASHBAG_MEMORY` if an allocation fails; `HASHBAG_EMPTY` if the handle has no bag. Then nothing changes.
 #[unsafe(no_mangle)]
 pub extern "C" fn hashbag_reserve(alloc: Global, handle: &mut Handle, n: usize) -> u8
-    ensures numbers { NumbersTo handle.old.held handle.new.held (λ bag after. IsBagOf nat_eq bag bag.items after) }
-    ensures texts { TextsTo handle.old.held handle.new.held (λ bag after. IsBagOf bytes_eq bag bag.items after) }
-    ensures room_numbers { result ≡ 0 → IfNumbers handle.new.held (λ after. n ≤ room after.tables) }
-    ensures room_texts { result ≡ 0 → IfTexts handle.new.held (λ after. n ≤ room after.tables) }
-    ensures enough_numbers { IfNumbers handle.old.held (λ bag. n ≤ room bag.tables → result ≡ 0) }
-    ensures enough_texts { IfTexts handle.old.held (λ bag. n ≤ room bag.tables → result ≡ 0) }
+    // The bag means the same list as before, and its limit and its hash state are the same.
+    ensures bag { BagTo handle.old.held handle.new.held (λ _ _ eq bag after. IsBagOf eq bag bag.items after) }
+    ensures made_room { result ≡ 0 → IfBag handle.new.held (λ _ _ _ after. n ≤ room after.tables) }
+    ensures enough { IfBag handle.old.held (λ _ _ _ bag. n ≤ room bag.tables → result ≡ 0) }
     ensures memory { result ≢ 0 → (result ≡ 1) ⊎ (handle.old.held ≡ None) }
     ensures empty { handle.old.held ≡ None → result ≡ EMPTY }
     ensures err { result ≢ 0 → handle.new.held ≡ handle.old.held }
 {
-    let Some(mut held) = handle.take(alloc) else {
-        return EMPTY;
-    };
-    let code = reserve(&mut held, n);
-    handle.put(held);
-    code
-}
-
-fn shrink_to_fit(held: &mut Held) -> u8
-    ensures numbers { NumbersTo (Some held.old) (Some held.new) (λ bag after. IsBagOf nat_eq bag bag.items after) }
-    ensures texts { TextsTo (Some held.old) (Some held.new) (λ bag after. IsBagOf bytes_eq bag bag.items after) }
-    ensures slots_numbers { result ≡ 0 → NumbersTo (Some held.old) (Some held.new) (HasShrunk nat_eq) }
-    ensures slots_texts { result ≡ 0 → TextsTo (Some held.old) (Some held.new) (HasShrunk bytes_eq) }
-    ensures none_numbers { IfNumbers (Some held.old) (λ bag. bag.items ≡ [] → result ≡ 0) }
-    ensures none_texts { IfTexts (Some held.old) (λ bag. bag.items ≡ [] → result ≡ 0) }
-    ensures memory { result ≢ 0 → result ≡ 1 }
-    ensures err { result ≢ 0 → held.new ≡ held.old }
-{
-    let shrunk = match held {
-        Held::Numbers(bag) => bag.shrink_to_fit(),
-        Held::Texts(bag) => bag.shrink_to_fit(),
-    };
-    match shrunk {
-        Ok(()) => 0,
-        Err(error) => error.number(),
-    }
+    with_held!(alloc, handle, EMPTY, |mut held| {
+        let done = match held {
+            Held::Numbers(bag) => bag.reserve(n),
+            Held::Texts(bag) => bag.reserve(n),
+        };
+        match done {
+            Ok(()) => 0,
+            Err(error) => error.number(),
+        }
+    })
 }
 
 /// Frees memory that the bag doesn't need, and returns 0. If less memory is enough for the values, they are moved into a new allocation. A
@@ -254,76 +153,50 @@ fn shrink_to_fit(held: &mut Held) -> u8
 /// `HASHBAG_MEMORY` if an allocation fails; `HASHBAG_EMPTY` if the handle has no bag. Then nothing changes.
 #[unsafe(no_mangle)]
 pub extern "C" fn hashbag_shrink_to_fit(alloc: Global, handle: &mut Handle) -> u8
-    ensures numbers { NumbersTo handle.old.held handle.new.held (λ bag after. IsBagOf nat_eq bag bag.items after) }
-    ensures texts { TextsTo handle.old.held handle.new.held (λ bag after. IsBagOf bytes_eq bag bag.items after) }
-    ensures slots_numbers { result ≡ 0 → NumbersTo handle.old.held handle.new.held (HasShrunk nat_eq) }
-    ensures slots_texts { result ≡ 0 → TextsTo handle.old.held handle.new.held (HasShrunk bytes_eq) }
-    ensures none_numbers { IfNumbers handle.old.held (λ bag. bag.items ≡ [] → result ≡ 0) }
-    ensures none_texts { IfTexts handle.old.held (λ bag. bag.items ≡ [] → result ≡ 0) }
+    // The bag means the same list as before, and its limit and its hash state are the same.
+    ensures bag { BagTo handle.old.held handle.new.held (λ _ _ eq bag after. IsBagOf eq bag bag.items after) }
+
+    // If the result is 0: a table with more slots than the values need has now the least number with room for them; any other is unchanged. An empty
+    // bag has no slots.
+    ensures slots { result ≡ 0 → BagTo handle.old.held handle.new.held (λ _ _ eq bag after. HasShrunk eq bag after) }
+
+    // A bag without values can't fail.
+    ensures no_values { IfBag handle.old.held (λ _ _ _ bag. bag.items ≡ [] → result ≡ 0) }
     ensures memory { result ≢ 0 → (result ≡ 1) ⊎ (handle.old.held ≡ None) }
     ensures empty { handle.old.held ≡ None → result ≡ EMPTY }
     ensures err { result ≢ 0 → handle.new.held ≡ handle.old.held }
 {
-    let Some(mut held) = handle.take(alloc) else {
-        return EMPTY;
-    };
-    let code = shrink_to_fit(&mut held);
-    handle.put(held);
-    code
-}
-
-fn capacity(held: &Held) -> usize
-    ensures numbers { IfNumbers (Some held.now) (λ bag. result ≡ distinct_count nat_eq bag.items + room bag.tables) }
-    ensures texts { IfTexts (Some held.now) (λ bag. result ≡ distinct_count bytes_eq bag.items + room bag.tables) }
-{
-    match held {
-        Held::Numbers(bag) => bag.capacity(),
-        Held::Texts(bag) => bag.capacity(),
-    }
+    with_held!(alloc, handle, EMPTY, |mut held| {
+        let done = match held {
+            Held::Numbers(bag) => bag.shrink_to_fit(),
+            Held::Texts(bag) => bag.shrink_to_fit(),
+        };
+        match done {
+            Ok(()) => 0,
+            Err(error) => error.number(),
+        }
+    })
 }
 
 /// Returns how many distinct values the bag can have before it grows. Returns 0 for an empty handle.
 #[unsafe(no_mangle)]
 pub extern "C" fn hashbag_capacity(alloc: Global, handle: &mut Handle) -> usize
-    ensures numbers { IfNumbers handle.old.held (λ bag. result ≡ distinct_count nat_eq bag.items + room bag.tables) }
-    ensures texts { IfTexts handle.old.held (λ bag. result ≡ distinct_count bytes_eq bag.items + room bag.tables) }
+    ensures capacity { IfBag handle.old.held (λ _ _ eq bag. result ≡ distinct_count eq bag.items + room bag.tables) }
     ensures empty { handle.old.held ≡ None → result ≡ 0 }
     ensures unchanged { handle.new.held ≡ handle.old.held }
 {
-    let Some(held) = handle.take(alloc) else {
-        return 0;
-    };
-    let capacity = capacity(&held);
-    handle.put(held);
-    capacity
+    with_held!(alloc, handle, 0, |held| match held {
+        Held::Numbers(bag) => bag.capacity(),
+        Held::Texts(bag) => bag.capacity(),
+    })
 }
 
 fn copied(held: &Held) -> Result<Held, BagError>
-    ensures numbers { IfOk result (λ made. NumbersTo (Some held.now) (Some made) (IsCopy nat_eq)) }
-    ensures texts { IfOk result (λ made. TextsTo (Some held.now) (Some made) (IsCopy bytes_eq)) }
+    ensures { IfOk result (λ made. BagTo (Some held.now) (Some made) (λ _ _ eq bag copy. IsCopy eq bag copy)) }
 {
     match held {
         Held::Numbers(bag) => Ok(Held::Numbers(bag.clone()?)),
         Held::Texts(bag) => Ok(Held::Texts(bag.clone()?)),
-    }
-}
-
-// Puts a copy of a bag into a handle. Returns 0, or 1 if an allocation fails.
-fn put_copy(alloc: Global, held: &Held, copy: &mut Handle) -> u8
-    ensures numbers { result ≡ 0 → NumbersTo (Some held.now) copy.new.held (IsCopy nat_eq) }
-    ensures texts { result ≡ 0 → TextsTo (Some held.now) copy.new.held (IsCopy bytes_eq) }
-    ensures memory { result ≢ 0 → result ≡ 1 }
-    ensures err { result ≢ 0 → copy.new.held ≡ copy.old.held }
-{
-    let Ok(made) = copied(held) else {
-        return 1;
-    };
-    match Box::new(alloc, made) {
-        Ok(held) => {
-            *copy = Handle::of(held);
-            0
-        }
-        Err(_) => 1,
     }
 }
 
@@ -335,65 +208,46 @@ fn put_copy(alloc: Global, held: &Held, copy: &mut Handle) -> u8
 /// `HASHBAG_MEMORY` if an allocation fails; `HASHBAG_EMPTY` if `handle` has no bag. Then nothing changes.
 #[unsafe(no_mangle)]
 pub extern "C" fn hashbag_clone(alloc: Global, handle: &mut Handle, copy: &mut Handle) -> u8
-    ensures numbers { result ≡ 0 → NumbersTo handle.old.held copy.new.held (IsCopy nat_eq) }
-    ensures texts { result ≡ 0 → TextsTo handle.old.held copy.new.held (IsCopy bytes_eq) }
+    // If the result is 0: `copy` has the counts, the total, the limit and the hash state of the bag, in the least number of slots with room.
+    ensures copied { result ≡ 0 → BagTo handle.old.held copy.new.held (λ _ _ eq bag made. IsCopy eq bag made) }
     ensures memory { result ≢ 0 → (result ≡ 1) ⊎ (handle.old.held ≡ None) }
     ensures empty { handle.old.held ≡ None → result ≡ EMPTY }
     ensures unchanged { handle.new.held ≡ handle.old.held }
     ensures err { result ≢ 0 → copy.new.held ≡ copy.old.held }
 {
-    let Some(held) = handle.take(alloc) else {
-        return EMPTY;
-    };
-    let code = put_copy(alloc, &held, copy);
-    handle.put(held);
-    code
+    with_held!(alloc, handle, EMPTY, |held| match copied(held) {
+        Ok(made) => copy.begin(alloc, made),
+        Err(_) => 1,
+    })
 }
 
-fn equal(a: &Held, b: &Held) -> bool
-    ensures numbers { BothNumbers (Some a.now) (Some b.now) (λ x y. result ≡ bag_eq nat_eq x y) }
-    ensures texts { BothTexts (Some a.now) (Some b.now) (λ x y. result ≡ bag_eq bytes_eq x y) }
-    ensures kinds { IfNumbers (Some a.now) (λ _. IfTexts (Some b.now) (λ _. result ≡ false)) }
-    ensures other_kinds { IfTexts (Some a.now) (λ _. IfNumbers (Some b.now) (λ _. result ≡ false)) }
+fn is_empty(alloc: Global, handle: &mut Handle) -> bool
+    ensures empty { IsTrue result ↔ (handle.old.held ≡ None) }
+    ensures unchanged { handle.new.held ≡ handle.old.held }
 {
-    match a {
-        Held::Numbers(bag) => match b {
-            Held::Numbers(other) => bag == other,
-            Held::Texts(_) => false,
-        },
-        Held::Texts(bag) => match b {
-            Held::Numbers(_) => false,
-            Held::Texts(other) => bag == other,
-        },
-    }
+    with_held!(alloc, handle, true, |_held| false)
 }
 
 /// Returns whether two handles have bags of one kind in which each value occurs equally often, or both handles are empty. `a` and `b` must
 /// be different handles.
 #[unsafe(no_mangle)]
 pub extern "C" fn hashbag_equal(alloc: Global, a: &mut Handle, b: &mut Handle) -> bool
-    ensures numbers { BothNumbers a.old.held b.old.held (λ x y. result ≡ bag_eq nat_eq x y) }
-    ensures texts { BothTexts a.old.held b.old.held (λ x y. result ≡ bag_eq bytes_eq x y) }
-    ensures kinds { IfNumbers a.old.held (λ _. IfTexts b.old.held (λ _. result ≡ false)) }
-    ensures other_kinds { IfTexts a.old.held (λ _. IfNumbers b.old.held (λ _. result ≡ false)) }
+    // Of bags of one kind: the result is whether each value occurs equally often in both.
+    ensures equal { BothBags a.old.held b.old.held (λ _ _ eq x y. result ≡ bag_eq eq x y) }
+    ensures kinds { IfOtherKinds a.old.held b.old.held (result ≡ false) }
     ensures empty { a.old.held ≡ None → IsTrue result ↔ (b.old.held ≡ None) }
     ensures other_empty { b.old.held ≡ None → IsTrue result ↔ (a.old.held ≡ None) }
-    ensures first { a.new.held ≡ a.old.held }
-    ensures second { b.new.held ≡ b.old.held }
+    ensures unchanged { (a.new.held ≡ a.old.held) × (b.new.held ≡ b.old.held) }
 {
-    let Some(first) = a.take(alloc) else {
-        let Some(second) = b.take(alloc) else {
-            return true;
-        };
-        b.put(second);
-        return false;
-    };
-    let Some(second) = b.take(alloc) else {
-        a.put(first);
-        return false;
-    };
-    let equal = equal(&first, &second);
-    a.put(first);
-    b.put(second);
-    equal
+    with_both!(
+        alloc,
+        a,
+        b,
+        is_empty(alloc, a) && is_empty(alloc, b),
+        |first, second| match (first, second) {
+            (Held::Numbers(bag), Held::Numbers(other)) => bag == other,
+            (Held::Texts(bag), Held::Texts(other)) => bag == other,
+            _ => false,
+        }
+    )
 }

@@ -1,5 +1,5 @@
 //! What C holds: one word, which is 0 or the address of a box that the library made.
-ghost use Rattle.std.specs.Prelude.{◌≡◌, Option, None, Some};
+ghost use Rattle.std.specs.Prelude.{◌≡◌, ◌≢◌, Option, None, Some};
 ghost use Rattle.std.specs.Option.{MatchOption};
 ghost use Rattle.hashbag_c.specs.declared.held.Held.{Held};
 ghost use Rattle.hashbag_c.specs.Own.{owned};
@@ -65,7 +65,7 @@ impl Handle {
         Handle::of_raw(RawBox::of(held))
     }
 
-    /// Returns the box.
+    /// Returns the box, or `None` if the handle has nothing.
     pub fn into_box(self) -> Option<Box<Held>>
         ensures { MatchOption result (self.held ≡ None) (λ held. self.held ≡ Some held.value) }
     {
@@ -75,7 +75,7 @@ impl Handle {
         }
     }
 
-    /// Takes the box out, and leaves nothing.
+    /// Takes the box out, and leaves nothing. Returns `None` if nothing is there.
     pub fn take(&mut self, alloc: Global) -> Option<Box<Held>>
         ensures taken { MatchOption result (self.old.held ≡ None) (λ held. self.old.held ≡ Some held.value) }
         ensures left_empty { self.new.held ≡ None }
@@ -89,6 +89,21 @@ impl Handle {
         ensures { self.new.held ≡ Some held.value }
     {
         mem::forget(mem::replace(self, Handle::of(held)));
+    }
+
+    /// Puts this in, and returns 0, or 1 if an allocation fails. What was there is freed.
+    pub fn begin(&mut self, alloc: Global, held: Held) -> u8
+        ensures begun { result ≡ 0 → self.new.held ≡ Some held }
+        ensures memory { result ≢ 0 → result ≡ 1 }
+        ensures err { result ≢ 0 → self.new.held ≡ self.old.held }
+    {
+        match Box::new(alloc, held) {
+            Ok(held) => {
+                *self = Handle::of(held);
+                0
+            }
+            Err(_) => 1,
+        }
     }
 }
 

@@ -8,6 +8,7 @@ pub mod any;
 pub mod byte_trees;
 pub mod bytes;
 pub mod combine;
+pub mod entries;
 pub mod handle;
 pub mod held;
 pub mod json;

@@ -1,16 +1,24 @@
-//! Calls on a bag of numbers, each of which is given or returns many of them at once.
-ghost use Rattle.std.specs.Prelude.{◌≡◌, ◌≢◌, ◌+◌, ◌≤◌, ℕ, length, take, map, min, nat_eq, None, Some, IfOk, OnErr, OnOk};
-ghost use Rattle.hashbag_core.specs.Occurrences.{count};
-ghost use Rattle.hashbag_c.specs.Calls.{BothNumbers, IfNumbers, IfTexts, NumbersTo};
+//! Calls on a bag of numbers, each of which is given or returns many of them at once. In clauses `held` is what a handle has: a bag of numbers,
+//! a bag of byte strings, or nothing.
+//!
+//! - `IfNumbers held P`: if `held` is a bag of numbers, P holds of it.
+//! - `NumbersTo held after P`: if `held` is a bag of numbers, `after` is one too, and P holds of both.
+//! - `BothNumbers a b P`: if `a` and `b` are bags of numbers, P holds of both.
+//! - `UnlessNumbers held P`: if `held` is no bag of numbers, P holds of the number that says why: `EMPTY` (no bag) or `KIND` (the other kind).
+//! - `UnlessBothNumbers a b P`: if `a` or `b` is no bag of numbers, P holds.
+ghost use Rattle.std.specs.Prelude.{◌≡◌, ◌≢◌, ◌+◌, ◌≤◌, length, take, map, min, nat_eq, IfOk, OnErr, OnOk};
+ghost use Rattle.hashbag_core.specs.Walks.{IsSetWalkOf};
+ghost use Rattle.hashbag_c.specs.Calls.{BothNumbers, IfNumbers, NumbersTo, UnlessBothNumbers, UnlessNumbers};
 ghost use Rattle.hashbag_c.specs.Quotas.{HasQuotas, Retains};
-ghost use Rattle.hashbag_c.specs.Reads.{HasRead, HasReadJoin};
-ghost use Rattle.hashbag_c.specs.Whole.{Adds};
+ghost use Rattle.hashbag_c.specs.Reads.{least_length, HasReadJoin, ReadsNumbers};
+ghost use Rattle.hashbag_c.specs.Whole.{Adds, GrowsBy};
 
 use crate::any::{EMPTY, KIND};
+use crate::entries::write_numbers;
 use crate::handle::Handle;
-use crate::held::Held;
+use crate::held::{Held, with_both, with_both_bags, with_held};
 use crate::state::State;
-use hashbag_core::{BagError, HashBag, OuterJoin, SetIter};
+use hashbag_core::{BagError, HashBag, OuterJoin};
 use std::alloc::Global;
 
 // Inserts each value once, in order, until an insertion fails. Writes how many were inserted into `done`.
@@ -32,25 +40,6 @@ fn insert_each(
     Ok(())
 }
 
-fn insert_all(held: &mut Held, values: &[u64], done: &mut usize) -> u8
-    ensures counts { NumbersTo (Some held.old) (Some held.new) (Adds nat_eq (take done.new values.now)) }
-    ensures len { NumbersTo (Some held.old) (Some held.new) (λ bag after. length after.items ≡ length bag.items + done.new) }
-    ensures all { result ≡ 0 → done.new ≡ length values.now }
-    ensures within { done.new ≤ length values.now }
-    ensures kind { IfTexts (Some held.old) (λ _. (result ≡ KIND) × (held.new ≡ held.old)) }
-{
-    match held {
-        Held::Numbers(bag) => match insert_each(bag, values, done) {
-            Ok(()) => 0,
-            Err(error) => error.number(),
-        },
-        Held::Texts(_) => {
-            *done = 0;
-            KIND
-        }
-    }
-}
-
 /// Inserts each of `values_len` numbers once, in order, until an insertion fails. Writes how many were inserted, and returns 0 if all were.
 ///
 /// # Errors
@@ -63,20 +52,23 @@ pub extern "C" fn hashbag_numbers_insert_all(
     values: &[u64],
     done: &mut usize,
 ) -> u8
+    // Each count grew by how often the number is among the first `done` of `values`, whatever the result is.
     ensures counts { NumbersTo handle.old.held handle.new.held (Adds nat_eq (take done.new values.now)) }
-    ensures len { NumbersTo handle.old.held handle.new.held (λ bag after. length after.items ≡ length bag.items + done.new) }
+
+    // The total grew by `done`.
+    ensures len { NumbersTo handle.old.held handle.new.held (GrowsBy done.new) }
     ensures all { result ≡ 0 → done.new ≡ length values.now }
     ensures within { done.new ≤ length values.now }
-    ensures kind { IfTexts handle.old.held (λ _. (result ≡ KIND) × (handle.new.held ≡ handle.old.held)) }
-    ensures empty { handle.old.held ≡ None → (result ≡ EMPTY) × (handle.new.held ≡ None) }
+    ensures otherwise { UnlessNumbers handle.old.held (λ code. (result ≡ code) × (handle.new.held ≡ handle.old.held)) }
 {
-    let Some(mut held) = handle.take(alloc) else {
-        *done = 0;
-        return EMPTY;
-    };
-    let code = insert_all(&mut held, values, done);
-    handle.put(held);
-    code
+    *done = 0;
+    with_held!(alloc, handle, EMPTY, |mut held| match held {
+        Held::Numbers(bag) => match insert_each(bag, values, done) {
+            Ok(()) => 0,
+            Err(error) => error.number(),
+        },
+        Held::Texts(_) => KIND,
+    })
 }
 
 // Returns a bag that has each number as often as `bag`, but at most as often as the list says.
@@ -110,21 +102,6 @@ fn keep_listed(
     Ok(())
 }
 
-fn retain(alloc: Global, held: &mut Held, values: &[u64], most: &[usize]) -> u8
-    ensures retained { result ≡ 0 → NumbersTo (Some held.old) (Some held.new) (Retains nat_eq values.now most.now) }
-    ensures only { IfNumbers (Some held.old) (λ _. result ≢ 0 → result ≡ 1) }
-    ensures kind { IfTexts (Some held.old) (λ _. result ≡ KIND) }
-    ensures err { result ≢ 0 → held.new ≡ held.old }
-{
-    match held {
-        Held::Numbers(bag) => match keep_listed(alloc, bag, values, most) {
-            Ok(()) => 0,
-            Err(_) => 1,
-        },
-        Held::Texts(_) => KIND,
-    }
-}
-
 /// Keeps at most `most[i]` occurrences of each number `values[i]`, and returns 0. If a number is listed twice, its first place counts. A
 /// number that isn't listed is removed. If the arrays differ in length, the rest of the longer one is ignored.
 ///
@@ -139,47 +116,20 @@ pub extern "C" fn hashbag_numbers_retain(
     values: &[u64],
     most: &[usize],
 ) -> u8
+    // If the result is 0: each number is there as often as before, or as `most` says at its first place in `values` if that is less; never if it
+    // isn't listed. The limit and the hash state are the same, and there is no less room.
     ensures retained { result ≡ 0 → NumbersTo handle.old.held handle.new.held (Retains nat_eq values.now most.now) }
     ensures only { IfNumbers handle.old.held (λ _. result ≢ 0 → result ≡ 1) }
-    ensures kind { IfTexts handle.old.held (λ _. result ≡ KIND) }
-    ensures empty { handle.old.held ≡ None → result ≡ EMPTY }
+    ensures otherwise { UnlessNumbers handle.old.held (λ code. result ≡ code) }
     ensures err { result ≢ 0 → handle.new.held ≡ handle.old.held }
 {
-    let Some(mut held) = handle.take(alloc) else {
-        return EMPTY;
-    };
-    let code = retain(alloc, &mut held, values, most);
-    handle.put(held);
-    code
-}
-
-// Writes the first pairs of a walk, as many as both slices have places for, and returns how many.
-fn write_pairs(mut walk: SetIter<'_, u64>, values: &mut [u64], counts: &mut [usize]) -> usize
-    ensures written { result ≡ min (length walk.entry) (min (length values.new) (length counts.new)) }
-    ensures values { take result values.new ≡ map (λ e. e.0) (take result walk.entry) }
-    ensures counts { take result counts.new ≡ map (λ e. e.1) (take result walk.entry) }
-{
-    let most = values.len().min(counts.len());
-    for i in 0..most {
-        match walk.next() {
-            Some((value, count)) => {
-                values[i] = *value;
-                counts[i] = count;
-            }
-            None => return i,
-        }
-    }
-    most
-}
-
-fn read(held: &Held, values: &mut [u64], counts: &mut [usize]) -> usize
-    ensures read { IfNumbers (Some held.now) (λ bag. HasRead bag result values.new counts.new) }
-    ensures kind { IfTexts (Some held.now) (λ _. result ≡ 0) }
-{
-    match held {
-        Held::Numbers(bag) => write_pairs(bag.set_iter(), values, counts),
-        Held::Texts(_) => 0,
-    }
+    with_held!(alloc, handle, EMPTY, |mut held| match held {
+        Held::Numbers(bag) => match keep_listed(alloc, bag, values, most) {
+            Ok(()) => 0,
+            Err(_) => 1,
+        },
+        Held::Texts(_) => KIND,
+    })
 }
 
 /// Writes distinct numbers and their counts into two arrays, as many as both have places for, in no particular order. Returns how many were
@@ -191,17 +141,16 @@ pub extern "C" fn hashbag_numbers_read(
     values: &mut [u64],
     counts: &mut [usize],
 ) -> usize
-    ensures read { IfNumbers handle.old.held (λ bag. HasRead bag result values.new counts.new) }
-    ensures kind { IfTexts handle.old.held (λ _. result ≡ 0) }
-    ensures empty { handle.old.held ≡ None → result ≡ 0 }
+    // `result` is how many distinct numbers there are, or how many places both arrays have if that is less. The arrays begin with as many distinct
+    // numbers, each once, and their counts.
+    ensures read { ReadsNumbers (IsSetWalkOf nat_eq) handle.old.held result values.new counts.new }
+    ensures otherwise { UnlessNumbers handle.old.held (λ _. result ≡ 0) }
     ensures unchanged { handle.new.held ≡ handle.old.held }
 {
-    let Some(held) = handle.take(alloc) else {
-        return 0;
-    };
-    let n = read(&held, values, counts);
-    handle.put(held);
-    n
+    with_held!(alloc, handle, 0, |held| match held {
+        Held::Numbers(bag) => write_numbers(bag.set_iter(), values, counts),
+        Held::Texts(_) => 0,
+    })
 }
 
 // Writes the first items of a join, as many as the three slices have places for, and returns how many.
@@ -211,7 +160,7 @@ fn write_joined(
     firsts: &mut [usize],
     seconds: &mut [usize],
 ) -> usize
-    ensures written { result ≡ min (length walk.entry) (min (length values.new) (min (length firsts.new) (length seconds.new))) }
+    ensures written { result ≡ min (length walk.entry) (least_length values.new firsts.new seconds.new) }
     ensures values { take result values.new ≡ map (λ e. e.0) (take result walk.entry) }
     ensures firsts { take result firsts.new ≡ map (λ e. e.1) (take result walk.entry) }
     ensures seconds { take result seconds.new ≡ map (λ e. e.2) (take result walk.entry) }
@@ -231,23 +180,15 @@ fn write_joined(
 }
 
 fn outer_join(
-    a: &Held,
-    b: &Held,
+    x: &HashBag<u64, State>,
+    y: &HashBag<u64, State>,
     values: &mut [u64],
     firsts: &mut [usize],
     seconds: &mut [usize],
 ) -> usize
-    ensures read { BothNumbers (Some a.now) (Some b.now) (λ x y. HasReadJoin x y result values.new firsts.new seconds.new) }
-    ensures kind { IfTexts (Some a.now) (λ _. result ≡ 0) }
-    ensures other_kind { IfTexts (Some b.now) (λ _. result ≡ 0) }
+    ensures { HasReadJoin x.now y.now result values.new firsts.new seconds.new }
 {
-    match a {
-        Held::Numbers(bag) => match b {
-            Held::Numbers(other) => write_joined(bag.outer_join(other), values, firsts, seconds),
-            Held::Texts(_) => 0,
-        },
-        Held::Texts(_) => 0,
-    }
+    write_joined(x.outer_join(y), values, firsts, seconds)
 }
 
 /// Writes each number of two bags once, with its count in the first and in the second bag, 0 in a bag that lacks it. The numbers of the
@@ -262,23 +203,17 @@ pub extern "C" fn hashbag_numbers_outer_join(
     firsts: &mut [usize],
     seconds: &mut [usize],
 ) -> usize
+    // `result` is how many items an outer join of both bags has, or how many places the shortest array has if that is less. The arrays begin with the
+    // first `result` items of it: a number, and its count in each bag.
     ensures read { BothNumbers a.old.held b.old.held (λ x y. HasReadJoin x y result values.new firsts.new seconds.new) }
-    ensures kind { IfTexts a.old.held (λ _. result ≡ 0) }
-    ensures other_kind { IfTexts b.old.held (λ _. result ≡ 0) }
-    ensures empty { a.old.held ≡ None → result ≡ 0 }
-    ensures other_empty { b.old.held ≡ None → result ≡ 0 }
-    ensures first { a.new.held ≡ a.old.held }
-    ensures second { b.new.held ≡ b.old.held }
+    ensures otherwise { UnlessBothNumbers a.old.held b.old.held (result ≡ 0) }
+    ensures unchanged { (a.new.held ≡ a.old.held) × (b.new.held ≡ b.old.held) }
 {
-    let Some(first) = a.take(alloc) else {
-        return 0;
-    };
-    let Some(second) = b.take(alloc) else {
-        a.put(first);
-        return 0;
-    };
-    let n = outer_join(&first, &second, values, firsts, seconds);
-    a.put(first);
-    b.put(second);
-    n
+    with_both_bags!(
+        alloc,
+        a,
+        b,
+        Numbers,
+        |x, y| outer_join(x, y, values, firsts, seconds)
+    )
 }

@@ -1,53 +1,22 @@
-//! Bags of numbers as JSON texts.
-ghost use Rattle.std.specs.Prelude.{◌≡◌, ◌≢◌, ◌⊎◌, string_bytes, None, Some, IfOk, IfErr};
-ghost use Rattle.hashbag_c.specs.Calls.{HasNumbers, IfNumbers, IfTexts};
+//! Bags of numbers as JSON texts. In clauses `held` is what a handle has: a bag of numbers, a bag of byte strings, or nothing.
+//! The result 1 is `HASHBAG_MEMORY`.
+//!
+//! - `IfNumbers held P`: if `held` is a bag of numbers, P holds of it.
+//! - `HasNumbers held P`: `held` is a bag of numbers, and P holds of it.
+//! - `OnNumbers result held P`: if `held` is a bag of numbers and `result` is 0, P holds of the bag.
+//! - `UnlessNumbers held P`: if `held` is no bag of numbers, P holds of the number that says why: `EMPTY` (no bag) or `KIND` (the other kind).
+ghost use Rattle.std.specs.Prelude.{◌≡◌, ◌≢◌, ◌⊎◌};
+ghost use Rattle.hashbag_c.specs.Calls.{HasNumbers, IfNumbers, OnNumbers, UnlessNumbers};
 ghost use Rattle.hashbag_c.specs.Json.{has_number, AreNumbersReadFrom, IsNumbersJson, IsReported, IsTooLong, IsWritten};
 
 use crate::any::{EMPTY, KIND, SHORT};
 use crate::handle::Handle;
-use crate::held::Held;
-use crate::json::{TextError, read_bag, write_text};
+use crate::held::{Held, with_held};
+use crate::json::{TextError, read_bag, read_json, write_json};
 use crate::state::State;
-use hashbag_core::{BagError, HashBag};
 use std::alloc::Global;
 
-// Returns the JSON of a bag.
-fn text_of(alloc: Global, bag: &HashBag<u64, State>) -> Result<String, BagError>
-    ensures json { IfOk result (λ text. IsNumbersJson bag.now (string_bytes text)) }
-    ensures memory { IfErr result (λ e. e ≡ BagError.Memory) }
-{
-    let tree = bag.to_value(alloc)?;
-    Ok(tree.to_string(alloc)?)
-}
-
-// Writes the JSON of a bag at the beginning of a buffer, if it has places for all of it, and its length.
-fn write_json(alloc: Global, bag: &HashBag<u64, State>, bytes: &mut [u8], len: &mut usize) -> u8
-    ensures json { result ≡ 0 → IsWritten (IsNumbersJson bag.now) bytes.old bytes.new len.new }
-    ensures too_long { result ≡ SHORT → IsTooLong (IsNumbersJson bag.now) bytes.old len.new }
-    ensures only { result ≢ 0 → (result ≡ 1) ⊎ (result ≡ SHORT) }
-    ensures buffer { result ≢ 0 → bytes.new ≡ bytes.old }
-    ensures failed { result ≡ 1 → len.new ≡ len.old }
-{
-    match text_of(alloc, bag) {
-        Ok(text) => write_text(text.as_str(), bytes, len),
-        Err(error) => error.number(),
-    }
-}
-
-fn to_json(alloc: Global, held: &Held, bytes: &mut [u8], len: &mut usize) -> u8
-    ensures json { IfNumbers (Some held.now) (λ bag. result ≡ 0 → IsWritten (IsNumbersJson bag) bytes.old bytes.new len.new) }
-    ensures too_long { IfNumbers (Some held.now) (λ bag. result ≡ SHORT → IsTooLong (IsNumbersJson bag) bytes.old len.new) }
-    ensures only { IfNumbers (Some held.now) (λ _. result ≢ 0 → (result ≡ 1) ⊎ (result ≡ SHORT)) }
-    ensures kind { IfTexts (Some held.now) (λ _. result ≡ KIND) }
-    ensures buffer { result ≢ 0 → bytes.new ≡ bytes.old }
-    ensures failed { result ≢ 0 → result ≢ SHORT → len.new ≡ len.old }
-{
-    match held {
-        Held::Numbers(bag) => write_json(alloc, bag, bytes, len),
-        Held::Texts(_) => KIND,
-    }
-}
-
+#[tactic(auto, using(crate::proofs::JsonTextLemmas::number_shallow, crate::proofs::JsonTextLemmas::number_same))]
 /// Writes a bag of numbers as a JSON text at the beginning of `bytes`, writes the length of the text into `len`, and returns 0. No NUL
 /// follows. The text is `[[5,2],[7,1]]`: each distinct number with its count, numbers in ascending order, without spaces. A bag with a
 /// limit below `SIZE_MAX` is `{"limit":9,"pairs":[[5,2],[7,1]]}`. Bags with the same counts and the same limit have the same text. It makes
@@ -64,61 +33,34 @@ pub extern "C" fn hashbag_numbers_to_json(
     bytes: &mut [u8],
     len: &mut usize,
 ) -> u8
-    ensures json { IfNumbers handle.old.held (λ bag. result ≡ 0 → IsWritten (IsNumbersJson bag) bytes.old bytes.new len.new) }
+    // If the result is 0: the JSON of the bag is at the beginning of `bytes`, the other bytes are unchanged, and `len` is its length.
+    ensures json { OnNumbers result handle.old.held (λ bag. IsWritten (IsNumbersJson bag) bytes.old bytes.new len.new) }
+
+    // If the result is `SHORT`: `len` is the length of the JSON of the bag, and `bytes` has fewer places.
     ensures too_long { IfNumbers handle.old.held (λ bag. result ≡ SHORT → IsTooLong (IsNumbersJson bag) bytes.old len.new) }
     ensures only { IfNumbers handle.old.held (λ _. result ≢ 0 → (result ≡ 1) ⊎ (result ≡ SHORT)) }
-    ensures kind { IfTexts handle.old.held (λ _. result ≡ KIND) }
-    ensures empty { handle.old.held ≡ None → result ≡ EMPTY }
+    ensures otherwise { UnlessNumbers handle.old.held (λ code. result ≡ code) }
     ensures unchanged { handle.new.held ≡ handle.old.held }
     ensures buffer { result ≢ 0 → bytes.new ≡ bytes.old }
     ensures failed { result ≢ 0 → result ≢ SHORT → len.new ≡ len.old }
 {
-    let Some(held) = handle.take(alloc) else {
-        return EMPTY;
-    };
-    let code = to_json(alloc, &held, bytes, len);
-    handle.put(held);
-    code
-}
-
-// Puts into the handle the bag of a text.
-fn read_json(
-    alloc: Global,
-    handle: &mut Handle,
-    state: State,
-    most: usize,
-    text: &[u8],
-    at: &mut usize,
-) -> u8
-    ensures read { result ≡ 0 → HasNumbers handle.new.held (AreNumbersReadFrom most text.now) }
-    ensures hasher { result ≡ 0 → HasNumbers handle.new.held (λ bag. bag.hasher ≡ state) }
-    ensures cause { result ≢ 0 → IsReported has_number most text.now result at.old at.new }
-    ensures err { result ≢ 0 → handle.new.held ≡ handle.old.held }
-    ensures place { result ≡ 0 → at.new ≡ at.old }
-{
-    match read_bag(alloc, state, most, text) {
-        Ok(bag) => match Box::new(alloc, Held::Numbers(bag)) {
-            Ok(held) => {
-                *handle = Handle::of(held);
-                0
-            }
-            Err(_) => TextError::Memory.report(at),
-        },
-        Err(error) => error.report(at),
-    }
+    with_held!(alloc, handle, EMPTY, |held| match held {
+        Held::Numbers(bag) => write_json(alloc, bag, bytes, len),
+        Held::Texts(_) => KIND,
+    })
 }
 
 /// Puts into the handle the bag of numbers that a JSON text is, and returns 0. The bag that the handle had is freed. Its limit is that of
-/// the text or `most`, whichever is less. The text has one of the forms that `hashbag_numbers_to_json` writes, with spaces too. Equal
-/// numbers add up, and a pair with the count 0 is checked and adds nothing.
+/// the text or `most`, whichever is less. The text has one of the forms that `hashbag_numbers_to_json` writes; spaces may be between its
+/// tokens. Equal numbers add up, and a pair with the count 0 is checked and adds nothing.
 ///
 /// Its numbers are hashed under fixed keys, alike in every run. Use `hashbag_numbers_from_json_keyed` if strangers wrote the text.
 ///
 /// # Errors
 ///
-/// `HASHBAG_NOT_JSON` if the text isn't JSON or isn't UTF-8: `at` is then how many of its bytes had been read when that was found. The
-/// first fault of a JSON text is returned by a number that begins with `HASHBAG_JSON_`; `at` is the pair at fault, counted from 0, if it is
-/// one. `HASHBAG_MEMORY` if an allocation fails. Then the handle is unchanged, and `at` too except in the two cases above.
+/// `HASHBAG_NOT_JSON` if the text isn't JSON or isn't UTF-8: `at` is then how many of its bytes had been read when that was found. One of
+/// `HASHBAG_JSON_..` for the first fault of a JSON text: if a pair is at fault, `at` is its number, counted from 0. `HASHBAG_MEMORY` if an
+/// allocation fails. Then the handle is unchanged, and `at` too except in the two cases above.
 #[unsafe(no_mangle)]
 pub extern "C" fn hashbag_numbers_from_json(
     alloc: Global,
@@ -127,15 +69,21 @@ pub extern "C" fn hashbag_numbers_from_json(
     text: &[u8],
     at: &mut usize,
 ) -> u8
+    // If the result is 0: the text is JSON without any of the faults `HASHBAG_JSON_..`. Its pairs were inserted in turn into an empty bag; the limit
+    // is the text's, or `most` if less.
     ensures read { result ≡ 0 → HasNumbers handle.new.held (AreNumbersReadFrom most text.now) }
+
+    // Else the result is the number of the error: no memory, no JSON (or no UTF-8), or the first fault under the limit `most`. `at` is the place of
+    // the error, or unchanged if it has none.
     ensures cause { result ≢ 0 → IsReported has_number most text.now result at.old at.new }
     ensures err { result ≢ 0 → handle.new.held ≡ handle.old.held }
     ensures place { result ≡ 0 → at.new ≡ at.old }
 {
-    read_json(alloc, handle, State::fixed(), most, text, at)
+    read_json!(alloc, handle, Numbers, State::fixed(), most, text, at)
 }
 
-/// Does the same with two keys of the caller, which are best drawn at random: whoever knows them can find numbers that collide.
+/// Puts into the handle the bag that a JSON text is, as `hashbag_numbers_from_json` does, with two keys of the caller. Draw the keys at
+/// random: whoever knows them can find numbers that collide.
 ///
 /// # Errors
 ///
@@ -150,10 +98,16 @@ pub extern "C" fn hashbag_numbers_from_json_keyed(
     text: &[u8],
     at: &mut usize,
 ) -> u8
+    // If the result is 0: the text is JSON without any of the faults `HASHBAG_JSON_..`. Its pairs were inserted in turn into an empty bag; the limit
+    // is the text's, or `most` if less.
     ensures read { result ≡ 0 → HasNumbers handle.new.held (AreNumbersReadFrom most text.now) }
+
+    // Else the result is the number of the error: no memory, no JSON (or no UTF-8), or the first fault under the limit `most`. `at` is the place of
+    // the error, or unchanged if it has none.
     ensures cause { result ≢ 0 → IsReported has_number most text.now result at.old at.new }
     ensures err { result ≢ 0 → handle.new.held ≡ handle.old.held }
     ensures place { result ≡ 0 → at.new ≡ at.old }
 {
-    read_json(alloc, handle, State::keyed(key0, key1), most, text, at)
+    let state = State::keyed(key0, key1);
+    read_json!(alloc, handle, Numbers, state, most, text, at)
 }

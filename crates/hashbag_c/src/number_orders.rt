@@ -1,30 +1,20 @@
-//! The numbers of a bag with their counts, in an order.
-ghost use Rattle.std.specs.Prelude.{◌≡◌, ◌≢◌, length, take, map, min, None, Some, IfErr, IfOk, OnErr};
-ghost use Rattle.hashbag_core.specs.Walks.{seen};
-ghost use Rattle.hashbag_c.specs.Calls.{IfNumbers, IfTexts};
-ghost use Rattle.hashbag_c.specs.Orders.{HasReadMostCommon, HasReadSorted};
+//! The numbers of a bag with their counts, in an order. In clauses `held` is what a handle has: a bag of numbers, a bag of byte strings, or nothing.
+//! The result 1 is `HASHBAG_MEMORY`.
+//!
+//! - `IfNumbers held P`: if `held` is a bag of numbers, P holds of it.
+//! - `OnNumbers result held P`: if `held` is a bag of numbers and `result` is 0, P holds of the bag.
+//! - `UnlessNumbers held P`: if `held` is no bag of numbers, P holds of the number that says why: `EMPTY` (no bag) or `KIND` (the other kind).
+ghost use Rattle.std.specs.Prelude.{◌≡◌, ◌≢◌, IfErr, IfOk, OnErr};
+ghost use Rattle.hashbag_c.specs.Calls.{IfNumbers, OnNumbers, UnlessNumbers};
+ghost use Rattle.hashbag_c.specs.Reads.{HasMostCommonNumbers, HasSortedNumbers};
 
 use crate::any::{EMPTY, KIND};
+use crate::entries::write_numbers;
 use crate::handle::Handle;
-use crate::held::Held;
+use crate::held::{Held, store, with_held};
 use crate::state::State;
 use hashbag_core::{BagError, HashBag};
 use std::alloc::Global;
-
-// Writes the first pairs of a list, as many as there is room for, and returns how many.
-fn write_listed(pairs: &[(&u64, usize)], values: &mut [u64], counts: &mut [usize]) -> usize
-    ensures written { result ≡ min (length (map seen pairs.now)) (min (length values.new) (length counts.new)) }
-    ensures values { take result values.new ≡ map (λ e. e.0) (take result (map seen pairs.now)) }
-    ensures counts { take result counts.new ≡ map (λ e. e.1) (take result (map seen pairs.now)) }
-{
-    let most = pairs.len().min(values.len().min(counts.len()));
-    for i in 0..most {
-        let (value, count) = pairs[i];
-        values[i] = *value;
-        counts[i] = count;
-    }
-    most
-}
 
 // Reads the numbers, in ascending order, and returns how many.
 fn read_sorted(
@@ -33,35 +23,17 @@ fn read_sorted(
     values: &mut [u64],
     counts: &mut [usize],
 ) -> Result<usize, BagError>
-    ensures read { IfOk result (λ n. HasReadSorted bag.now n values.new counts.new) }
+    ensures read { IfOk result (λ n. HasSortedNumbers bag.now n values.new counts.new) }
     ensures memory { IfErr result (λ e. e ≡ BagError.Memory) }
     ensures err { OnErr result ((values.new ≡ values.old) × (counts.new ≡ counts.old)) }
 {
     let pairs = hashbag_ops::sorted(alloc, bag)?;
-    Ok(write_listed(&pairs, values, counts))
-}
-
-fn sorted(alloc: Global, held: &Held, values: &mut [u64], counts: &mut [usize], n: &mut usize) -> u8
-    ensures read { IfNumbers (Some held.now) (λ bag. result ≡ 0 → HasReadSorted bag n.new values.new counts.new) }
-    ensures only { IfNumbers (Some held.now) (λ _. result ≢ 0 → result ≡ 1) }
-    ensures kind { IfTexts (Some held.now) (λ _. result ≡ KIND) }
-    ensures err { result ≢ 0 → (n.new ≡ n.old) × (values.new ≡ values.old) × (counts.new ≡ counts.old) }
-{
-    match held {
-        Held::Numbers(bag) => match read_sorted(alloc, bag, values, counts) {
-            Ok(read) => {
-                *n = read;
-                0
-            }
-            Err(error) => error.number(),
-        },
-        Held::Texts(_) => KIND,
-    }
+    Ok(write_numbers(pairs.iter(), values, counts))
 }
 
 /// Writes the distinct numbers in ascending order, and their counts, into two arrays, as many as both have places for. Writes how many into
-/// `n`, and returns 0. With `hashbag_set_len` places in each these are all. It makes one allocation, a list of all distinct numbers, and
-/// sorts it.
+/// `n`, and returns 0. All are written if each array has `hashbag_set_len` places. It makes one allocation, a list of all distinct numbers,
+/// and sorts it.
 ///
 /// # Errors
 ///
@@ -74,19 +46,19 @@ pub extern "C" fn hashbag_numbers_sorted(
     counts: &mut [usize],
     n: &mut usize,
 ) -> u8
-    ensures read { IfNumbers handle.old.held (λ bag. result ≡ 0 → HasReadSorted bag n.new values.new counts.new) }
+    // If the result is 0: `n` is how many distinct numbers there are, or how many places both arrays have if that is less. The arrays begin with the
+    // first `n` numbers, in ascending order, and their counts.
+    ensures read { OnNumbers result handle.old.held (λ bag. HasSortedNumbers bag n.new values.new counts.new) }
     ensures only { IfNumbers handle.old.held (λ _. result ≢ 0 → result ≡ 1) }
-    ensures kind { IfTexts handle.old.held (λ _. result ≡ KIND) }
-    ensures empty { handle.old.held ≡ None → result ≡ EMPTY }
+    ensures otherwise { UnlessNumbers handle.old.held (λ code. result ≡ code) }
     ensures unchanged { handle.new.held ≡ handle.old.held }
-    ensures err { result ≢ 0 → (n.new ≡ n.old) × (values.new ≡ values.old) × (counts.new ≡ counts.old) }
+    ensures failed { result ≢ 0 → n.new ≡ n.old }
+    ensures err { result ≢ 0 → (values.new ≡ values.old) × (counts.new ≡ counts.old) }
 {
-    let Some(held) = handle.take(alloc) else {
-        return EMPTY;
-    };
-    let code = sorted(alloc, &held, values, counts, n);
-    handle.put(held);
-    code
+    with_held!(alloc, handle, EMPTY, |held| match held {
+        Held::Numbers(bag) => store!(read_sorted(alloc, bag, values, counts), n),
+        Held::Texts(_) => KIND,
+    })
 }
 
 // Reads the most common numbers, and returns how many.
@@ -96,37 +68,13 @@ fn read_most_common(
     values: &mut [u64],
     counts: &mut [usize],
 ) -> Result<usize, BagError>
-    ensures read { IfOk result (λ n. HasReadMostCommon bag.now n values.new counts.new) }
+    ensures read { IfOk result (λ n. HasMostCommonNumbers bag.now n values.new counts.new) }
     ensures memory { IfErr result (λ e. e ≡ BagError.Memory) }
     ensures err { OnErr result ((values.new ≡ values.old) × (counts.new ≡ counts.old)) }
 {
     let most = values.len().min(counts.len());
     let pairs = hashbag_ops::most_common(alloc, bag, most)?;
-    Ok(write_listed(&pairs, values, counts))
-}
-
-fn most_common(
-    alloc: Global,
-    held: &Held,
-    values: &mut [u64],
-    counts: &mut [usize],
-    n: &mut usize,
-) -> u8
-    ensures read { IfNumbers (Some held.now) (λ bag. result ≡ 0 → HasReadMostCommon bag n.new values.new counts.new) }
-    ensures only { IfNumbers (Some held.now) (λ _. result ≢ 0 → result ≡ 1) }
-    ensures kind { IfTexts (Some held.now) (λ _. result ≡ KIND) }
-    ensures err { result ≢ 0 → (n.new ≡ n.old) × (values.new ≡ values.old) × (counts.new ≡ counts.old) }
-{
-    match held {
-        Held::Numbers(bag) => match read_most_common(alloc, bag, values, counts) {
-            Ok(read) => {
-                *n = read;
-                0
-            }
-            Err(error) => error.number(),
-        },
-        Held::Texts(_) => KIND,
-    }
+    Ok(write_numbers(pairs.iter(), values, counts))
 }
 
 /// Writes the k most common numbers and their counts into two arrays: k is the lesser of their lengths. They are in descending order of
@@ -144,17 +92,17 @@ pub extern "C" fn hashbag_numbers_most_common(
     counts: &mut [usize],
     n: &mut usize,
 ) -> u8
-    ensures read { IfNumbers handle.old.held (λ bag. result ≡ 0 → HasReadMostCommon bag n.new values.new counts.new) }
+    // If the result is 0: `n` is how many distinct numbers there are, or how many places both arrays have if that is less. The arrays begin with the
+    // `n` most common numbers and their counts.
+    ensures read { OnNumbers result handle.old.held (λ bag. HasMostCommonNumbers bag n.new values.new counts.new) }
     ensures only { IfNumbers handle.old.held (λ _. result ≢ 0 → result ≡ 1) }
-    ensures kind { IfTexts handle.old.held (λ _. result ≡ KIND) }
-    ensures empty { handle.old.held ≡ None → result ≡ EMPTY }
+    ensures otherwise { UnlessNumbers handle.old.held (λ code. result ≡ code) }
     ensures unchanged { handle.new.held ≡ handle.old.held }
-    ensures err { result ≢ 0 → (n.new ≡ n.old) × (values.new ≡ values.old) × (counts.new ≡ counts.old) }
+    ensures failed { result ≢ 0 → n.new ≡ n.old }
+    ensures err { result ≢ 0 → (values.new ≡ values.old) × (counts.new ≡ counts.old) }
 {
-    let Some(held) = handle.take(alloc) else {
-        return EMPTY;
-    };
-    let code = most_common(alloc, &held, values, counts, n);
-    handle.put(held);
-    code
+    with_held!(alloc, handle, EMPTY, |held| match held {
+        Held::Numbers(bag) => store!(read_most_common(alloc, bag, values, counts), n),
+        Held::Texts(_) => KIND,
+    })
 }

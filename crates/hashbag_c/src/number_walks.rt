@@ -1,14 +1,26 @@
-//! A walk over a bag of numbers that C holds.
-ghost use Rattle.std.specs.Prelude.{◌≡◌, ◌≢◌, length, take, drop, map, min, nat_eq, None, Some, IfErr, IfOk};
+//! A walk over a bag of numbers that C holds. In clauses `held` is what a handle has: a bag of numbers, a bag of byte strings, or nothing.
+//! `left` is what a walk has: pairs of a number and its count that are left, pairs of byte strings, or nothing.
+//! The result 1 is `HASHBAG_MEMORY`.
+//!
+//! - `IfNumbers held P`: if `held` is a bag of numbers, P holds of it.
+//! - `OnNumbers result held P`: if `held` is a bag of numbers and `result` is 0, P holds of the bag.
+//! - `UnlessNumbers held P`: if `held` is no bag of numbers, P holds of the number that says why: `EMPTY` (no bag) or `KIND` (the other kind).
+//! - `HasNumberPairs left P`: the walk is over numbers, and P holds of the pairs that are left.
+//! - `NumberPairsTo left after P`: if the walk is over numbers, it is so afterwards too, and P holds of the pairs before and of the pairs after.
+//! - `UnlessNumberPairs left P`: if the walk isn't over numbers, P holds.
+ghost use Rattle.std.specs.Prelude.{◌≡◌, ◌≢◌, nat_eq, drop, IfErr, IfOk};
 ghost use Rattle.hashbag_core.specs.Walks.{IsSetWalkOf};
-ghost use Rattle.hashbag_c.specs.Calls.{IfNumbers, IfTexts};
-ghost use Rattle.hashbag_c.specs.Walked.{HasNext, HasNumberPairs, IfNumberPairs, IfTextPairs};
+ghost use Rattle.hashbag_c.specs.Calls.{IfNumbers, OnNumbers, UnlessNumbers};
+ghost use Rattle.hashbag_c.specs.Reads.{HasWritten};
+ghost use Rattle.hashbag_c.specs.Walked.{HasNext, HasNumberPairs, NumberPairsTo, UnlessNumberPairs};
 
 use crate::any::{EMPTY, KIND};
+use crate::entries::write_numbers;
 use crate::handle::Handle;
-use crate::held::{Held, Left};
+use crate::held::{Held, Left, with_held};
 use crate::state::State;
 use crate::walk::Walk;
+use crate::walks::drop_front;
 use hashbag_core::{BagError, HashBag};
 use std::alloc::Global;
 use std::collections::VecDeque;
@@ -27,21 +39,6 @@ fn pairs_of(alloc: Global, bag: &HashBag<u64, State>) -> Result<VecDeque<(u64, u
     Ok(pairs)
 }
 
-fn begin(alloc: Global, held: &Held, walk: &mut Walk) -> u8
-    ensures begun { IfNumbers (Some held.now) (λ bag. result ≡ 0 → HasNumberPairs walk.new.left (IsSetWalkOf nat_eq bag)) }
-    ensures only { IfNumbers (Some held.now) (λ _. result ≢ 0 → result ≡ 1) }
-    ensures kind { IfTexts (Some held.now) (λ _. result ≡ KIND) }
-    ensures err { result ≢ 0 → walk.new.left ≡ walk.old.left }
-{
-    match held {
-        Held::Numbers(bag) => match pairs_of(alloc, bag) {
-            Ok(pairs) => walk.begin(alloc, Left::Numbers(pairs)),
-            Err(_) => 1,
-        },
-        Held::Texts(_) => KIND,
-    }
-}
-
 /// Begins a walk over a bag of numbers, and returns 0. The walk has a copy of all distinct numbers with their counts, in no particular order,
 /// so the bag may change or be freed meanwhile. A walk that was there is freed. It makes two allocations at most, one of all pairs.
 ///
@@ -50,49 +47,29 @@ fn begin(alloc: Global, held: &Held, walk: &mut Walk) -> u8
 /// `HASHBAG_MEMORY` if an allocation fails; `HASHBAG_EMPTY`; `HASHBAG_KIND`. Nothing changes then.
 #[unsafe(no_mangle)]
 pub extern "C" fn hashbag_numbers_walk(alloc: Global, handle: &mut Handle, walk: &mut Walk) -> u8
-    ensures begun { IfNumbers handle.old.held (λ bag. result ≡ 0 → HasNumberPairs walk.new.left (IsSetWalkOf nat_eq bag)) }
+    // If the result is 0, the walk has each distinct number of the bag once, with its count.
+    ensures begun { OnNumbers result handle.old.held (λ bag. HasNumberPairs walk.new.left (IsSetWalkOf nat_eq bag)) }
     ensures only { IfNumbers handle.old.held (λ _. result ≢ 0 → result ≡ 1) }
-    ensures kind { IfTexts handle.old.held (λ _. result ≡ KIND) }
-    ensures empty { handle.old.held ≡ None → result ≡ EMPTY }
+    ensures otherwise { UnlessNumbers handle.old.held (λ code. result ≡ code) }
     ensures unchanged { handle.new.held ≡ handle.old.held }
     ensures err { result ≢ 0 → walk.new.left ≡ walk.old.left }
 {
-    let Some(held) = handle.take(alloc) else {
-        return EMPTY;
-    };
-    let code = begin(alloc, &held, walk);
-    handle.put(held);
-    code
+    with_held!(alloc, handle, EMPTY, |held| match held {
+        Held::Numbers(bag) => match pairs_of(alloc, bag) {
+            Ok(pairs) => walk.begin(alloc, Left::Numbers(pairs)),
+            Err(_) => 1,
+        },
+        Held::Texts(_) => KIND,
+    })
 }
 
 // Writes the first pairs, as many as there is room for, removes them, and returns how many.
 fn write_next(pairs: &mut VecDeque<(u64, usize)>, values: &mut [u64], counts: &mut [usize]) -> usize
-    ensures written { result ≡ min (length pairs.old.items) (min (length values.new) (length counts.new)) }
-    ensures values { take result values.new ≡ map (λ e. e.0) (take result pairs.old.items) }
-    ensures counts { take result counts.new ≡ map (λ e. e.1) (take result pairs.old.items) }
-    ensures left { pairs.new.items ≡ drop result pairs.old.items }
+    ensures { HasNext result values.new counts.new pairs.old.items pairs.new.items }
 {
-    let most = values.len().min(counts.len());
-    for i in 0..most {
-        match pairs.pop_front() {
-            Some((value, count)) => {
-                values[i] = value;
-                counts[i] = count;
-            }
-            None => return i,
-        }
-    }
-    most
-}
-
-fn next(left: &mut Left, values: &mut [u64], counts: &mut [usize]) -> usize
-    ensures next { IfNumberPairs (Some left.old) (λ pairs. HasNumberPairs (Some left.new) (HasNext pairs result values.new counts.new)) }
-    ensures kind { IfTextPairs (Some left.old) (λ _. (result ≡ 0) × (left.new ≡ left.old)) }
-{
-    match left {
-        Left::Numbers(pairs) => write_next(pairs, values, counts),
-        Left::Texts(_) => 0,
-    }
+    let n = write_numbers(pairs.iter(), values, counts);
+    drop_front(pairs, n);
+    n
 }
 
 /// Writes the next numbers of a walk and their counts into two arrays, as many as both have places for, and returns how many. The next call
@@ -105,14 +82,13 @@ pub extern "C" fn hashbag_numbers_next(
     values: &mut [u64],
     counts: &mut [usize],
 ) -> usize
-    ensures next { IfNumberPairs walk.old.left (λ pairs. HasNumberPairs walk.new.left (HasNext pairs result values.new counts.new)) }
-    ensures kind { IfTextPairs walk.old.left (λ _. (result ≡ 0) × (walk.new.left ≡ walk.old.left)) }
-    ensures empty { walk.old.left ≡ None → (result ≡ 0) × (walk.new.left ≡ None) }
+    // `result` is how many pairs were left, or how many places both arrays have if that is less. The arrays begin with the first `result` pairs;
+    // the pairs after these are left.
+    ensures next { NumberPairsTo walk.old.left walk.new.left (HasNext result values.new counts.new) }
+    ensures otherwise { UnlessNumberPairs walk.old.left ((result ≡ 0) × (walk.new.left ≡ walk.old.left)) }
 {
-    let Some(mut left) = walk.take(alloc) else {
-        return 0;
-    };
-    let n = next(&mut left, values, counts);
-    walk.put(left);
-    n
+    with_held!(alloc, walk, 0, |mut left| match left {
+        Left::Numbers(pairs) => write_next(pairs, values, counts),
+        Left::Texts(_) => 0,
+    })
 }

@@ -1,17 +1,23 @@
-//! Calls on a bag of byte strings that take or give many at once.
-ghost use Rattle.std.specs.Prelude.{◌≡◌, ◌≢◌, ◌+◌, ◌≤◌, ◌++◌, ◌⊎◌, ℕ, List, [], ◌∷◌, length, get_or, slice_range, take, drop, map, min, None, Some, IfOk, OnErr, OnOk};
+//! Calls on a bag of byte strings that take or give many at once. In clauses `held` is what a handle has: a bag of numbers,
+//! a bag of byte strings, or nothing.
+//!
+//! - `IfTexts held P`: if `held` is a bag of byte strings, P holds of it.
+//! - `TextsTo held after P`: if `held` is a bag of byte strings, `after` is one too, and P holds of both.
+//! - `UnlessTexts held P`: if `held` is no bag of byte strings, P holds of the number that says why: `EMPTY` (no bag) or `KIND` (the other kind).
+ghost use Rattle.std.specs.Prelude.{◌≡◌, ◌≢◌, ◌+◌, ◌≤◌, ◌∷◌, length, get_or, min, IfOk, OnErr, OnOk};
 ghost use Rattle.std.specs.Str.{bytes_eq};
-ghost use Rattle.hashbag_core.specs.Occurrences.{count};
-ghost use Rattle.hashbag_c.specs.Calls.{IfNumbers, IfTexts, TextsTo};
-ghost use Rattle.hashbag_c.specs.Pieces.{pieces_from, split_from};
-ghost use Rattle.hashbag_c.specs.Quotas.{HasQuotas, Retains};
-ghost use Rattle.hashbag_c.specs.Reads.{ends_from, size_of, HasReadTexts, HasSize, BeginWithStrings, WritesAllIfTheyFit};
-ghost use Rattle.hashbag_c.specs.Whole.{Adds};
+ghost use Rattle.hashbag_core.specs.Walks.{IsSetWalkOf};
+ghost use Rattle.hashbag_c.specs.Calls.{IfTexts, TextsTo, UnlessTexts};
+ghost use Rattle.hashbag_c.specs.Pieces.{pieces_from, AddsPieces, AddsSplit, IsPiece, RetainsPieces};
+ghost use Rattle.hashbag_c.specs.Quotas.{HasQuotas};
+ghost use Rattle.hashbag_c.specs.Reads.{size_of, HasSize, ReadsTexts};
+ghost use Rattle.hashbag_c.specs.Whole.{GrowsBy};
 
 use crate::any::{EMPTY, ENDS, KIND};
 use crate::bytes::{Bytes, Name};
+use crate::entries::write_texts;
 use crate::handle::Handle;
-use crate::held::Held;
+use crate::held::{Held, with_held};
 use crate::state::Keys;
 use crate::texts::recount;
 use hashbag_core::{BagError, HashBag, SetIter};
@@ -43,7 +49,7 @@ impl From<BagError> for PieceError {
 
 // The bytes from one place to another.
 fn piece(bytes: &[u8], from: usize, end: usize) -> Result<Name<'_>, PieceError>
-    ensures { IfOk result (λ name. (name.bytes.now ≡ slice_range bytes.now from end) × (from ≤ end) × (end ≤ length bytes.now)) }
+    ensures { IfOk result (λ name. IsPiece bytes.now from end name.bytes.now) }
 {
     if end < from || end > bytes.len() {
         return Err(PieceError::Ends);
@@ -60,7 +66,7 @@ fn insert_each(
     ends: &[usize],
     done: &mut usize,
 ) -> Result<(), PieceError>
-    ensures counts { OnOk result (Adds bytes_eq (pieces_from 0 bytes.now ends.now) bag.old bag.new) }
+    ensures counts { OnOk result (AddsPieces bytes.now ends.now bag.old bag.new) }
     ensures len { length bag.new.items ≡ length bag.old.items + done.new }
     ensures all { OnOk result (done.new ≡ length ends.now) }
     ensures within { done.new ≤ length ends.now }
@@ -75,32 +81,13 @@ fn insert_each(
     Ok(())
 }
 
-fn insert_all(held: &mut Held, bytes: &[u8], ends: &[usize], done: &mut usize) -> u8
-    ensures counts { result ≡ 0 → TextsTo (Some held.old) (Some held.new) (Adds bytes_eq (pieces_from 0 bytes.now ends.now)) }
-    ensures len { TextsTo (Some held.old) (Some held.new) (λ bag after. length after.items ≡ length bag.items + done.new) }
-    ensures all { result ≡ 0 → done.new ≡ length ends.now }
-    ensures within { done.new ≤ length ends.now }
-    ensures kind { IfNumbers (Some held.old) (λ _. (result ≡ KIND) × (held.new ≡ held.old)) }
-{
-    match held {
-        Held::Numbers(_) => {
-            *done = 0;
-            KIND
-        }
-        Held::Texts(bag) => match insert_each(bag, bytes, ends, done) {
-            Ok(()) => 0,
-            Err(error) => error.number(),
-        },
-    }
-}
-
 /// Inserts byte strings that lie one after another in `bytes`, each once, in turn, until one fails. The first is `bytes[0..ends[0]]`, and
 /// that of i is `bytes[ends[i - 1]..ends[i]]`. Writes how many were inserted, and returns 0 if that is all.
 ///
 /// # Errors
 ///
-/// Those of `hashbag_texts_insert`; `HASHBAG_ENDS` if an end is below the one before it, or above `bytes_len`. The strings before the one
-/// that fails stay in the bag.
+/// `HASHBAG_TOO_MANY` if the total would pass the limit; `HASHBAG_MEMORY` if an allocation fails; `HASHBAG_EMPTY`; `HASHBAG_KIND`;
+/// `HASHBAG_ENDS` if an end is below the one before it, or above `bytes_len`. The strings before the one that fails stay in the bag.
 #[unsafe(no_mangle)]
 pub extern "C" fn hashbag_texts_insert_all(
     alloc: Global,
@@ -109,20 +96,23 @@ pub extern "C" fn hashbag_texts_insert_all(
     ends: &[usize],
     done: &mut usize,
 ) -> u8
-    ensures counts { result ≡ 0 → TextsTo handle.old.held handle.new.held (Adds bytes_eq (pieces_from 0 bytes.now ends.now)) }
-    ensures len { TextsTo handle.old.held handle.new.held (λ bag after. length after.items ≡ length bag.items + done.new) }
+    // If the result is 0, each count grew by how often the byte string is among the strings that `ends` cuts from `bytes`, from its beginning on.
+    ensures counts { result ≡ 0 → TextsTo handle.old.held handle.new.held (AddsPieces bytes.now ends.now) }
+
+    // The total grew by `done`, whatever the result is.
+    ensures len { TextsTo handle.old.held handle.new.held (GrowsBy done.new) }
     ensures all { result ≡ 0 → done.new ≡ length ends.now }
     ensures within { done.new ≤ length ends.now }
-    ensures kind { IfNumbers handle.old.held (λ _. (result ≡ KIND) × (handle.new.held ≡ handle.old.held)) }
-    ensures empty { handle.old.held ≡ None → (result ≡ EMPTY) × (handle.new.held ≡ None) }
+    ensures otherwise { UnlessTexts handle.old.held (λ code. (result ≡ code) × (handle.new.held ≡ handle.old.held)) }
 {
-    let Some(mut held) = handle.take(alloc) else {
-        *done = 0;
-        return EMPTY;
-    };
-    let code = insert_all(&mut held, bytes, ends, done);
-    handle.put(held);
-    code
+    *done = 0;
+    with_held!(alloc, handle, EMPTY, |mut held| match held {
+        Held::Numbers(_) => KIND,
+        Held::Texts(bag) => match insert_each(bag, bytes, ends, done) {
+            Ok(()) => 0,
+            Err(error) => error.number(),
+        },
+    })
 }
 
 // Inserts each piece between separators once, in turn, until one fails, and counts how many were inserted.
@@ -132,7 +122,7 @@ fn insert_pieces(
     separator: u8,
     done: &mut usize,
 ) -> Result<(), BagError>
-    ensures counts { OnOk result (Adds bytes_eq (split_from separator [] bytes.now) bag.old bag.new) }
+    ensures counts { OnOk result (AddsSplit separator bytes.now bag.old bag.new) }
     ensures len { length bag.new.items ≡ length bag.old.items + done.new }
 {
     let mut from = 0;
@@ -154,29 +144,13 @@ fn insert_pieces(
     Ok(())
 }
 
-fn insert_split(held: &mut Held, bytes: &[u8], separator: u8, done: &mut usize) -> u8
-    ensures counts { result ≡ 0 → TextsTo (Some held.old) (Some held.new) (Adds bytes_eq (split_from separator [] bytes.now)) }
-    ensures len { TextsTo (Some held.old) (Some held.new) (λ bag after. length after.items ≡ length bag.items + done.new) }
-    ensures kind { IfNumbers (Some held.old) (λ _. (result ≡ KIND) × (held.new ≡ held.old)) }
-{
-    match held {
-        Held::Numbers(_) => {
-            *done = 0;
-            KIND
-        }
-        Held::Texts(bag) => match insert_pieces(bag, bytes, separator, done) {
-            Ok(()) => 0,
-            Err(error) => error.number(),
-        },
-    }
-}
-
 /// Inserts the pieces of `bytes` between separators, each once, in turn, until one fails. There is one piece more than separators, and
 /// some may be empty. Writes how many were inserted, and returns 0 if that is all.
 ///
 /// # Errors
 ///
-/// Those of `hashbag_texts_insert`. The pieces before the one that fails stay in the bag.
+/// `HASHBAG_TOO_MANY` if the total would pass the limit; `HASHBAG_MEMORY` if an allocation fails; `HASHBAG_EMPTY`; `HASHBAG_KIND`. The
+/// pieces before the one that fails stay in the bag.
 #[unsafe(no_mangle)]
 pub extern "C" fn hashbag_texts_insert_split(
     alloc: Global,
@@ -185,18 +159,21 @@ pub extern "C" fn hashbag_texts_insert_split(
     separator: u8,
     done: &mut usize,
 ) -> u8
-    ensures counts { result ≡ 0 → TextsTo handle.old.held handle.new.held (Adds bytes_eq (split_from separator [] bytes.now)) }
-    ensures len { TextsTo handle.old.held handle.new.held (λ bag after. length after.items ≡ length bag.items + done.new) }
-    ensures kind { IfNumbers handle.old.held (λ _. (result ≡ KIND) × (handle.new.held ≡ handle.old.held)) }
-    ensures empty { handle.old.held ≡ None → (result ≡ EMPTY) × (handle.new.held ≡ None) }
+    // If the result is 0, each count grew by how often the byte string is among the pieces of `bytes` between separators.
+    ensures counts { result ≡ 0 → TextsTo handle.old.held handle.new.held (AddsSplit separator bytes.now) }
+
+    // The total grew by `done`, whatever the result is.
+    ensures len { TextsTo handle.old.held handle.new.held (GrowsBy done.new) }
+    ensures otherwise { UnlessTexts handle.old.held (λ code. (result ≡ code) × (handle.new.held ≡ handle.old.held)) }
 {
-    let Some(mut held) = handle.take(alloc) else {
-        *done = 0;
-        return EMPTY;
-    };
-    let code = insert_split(&mut held, bytes, separator, done);
-    handle.put(held);
-    code
+    *done = 0;
+    with_held!(alloc, handle, EMPTY, |mut held| match held {
+        Held::Numbers(_) => KIND,
+        Held::Texts(bag) => match insert_pieces(bag, bytes, separator, done) {
+            Ok(()) => 0,
+            Err(error) => error.number(),
+        },
+    })
 }
 
 // Returns where a piece begins.
@@ -235,26 +212,12 @@ fn keep_listed(
     ends: &[usize],
     most: &[usize],
 ) -> Result<(), PieceError>
-    ensures retained { OnOk result (Retains bytes_eq (pieces_from 0 bytes.now ends.now) most.now bag.old bag.new) }
+    ensures retained { OnOk result (RetainsPieces bytes.now ends.now most.now bag.old bag.new) }
     ensures err { OnErr result (bag.new ≡ bag.old) }
 {
     let allowed = allowed(alloc, bag, bytes, ends, most)?;
     hashbag_ops::keep_common(bag, &allowed);
     Ok(())
-}
-
-fn retain(alloc: Global, held: &mut Held, bytes: &[u8], ends: &[usize], most: &[usize]) -> u8
-    ensures retained { result ≡ 0 → TextsTo (Some held.old) (Some held.new) (Retains bytes_eq (pieces_from 0 bytes.now ends.now) most.now) }
-    ensures kind { IfNumbers (Some held.old) (λ _. result ≡ KIND) }
-    ensures err { result ≢ 0 → held.new ≡ held.old }
-{
-    match held {
-        Held::Numbers(_) => KIND,
-        Held::Texts(bag) => match keep_listed(alloc, bag, bytes, ends, most) {
-            Ok(()) => 0,
-            Err(error) => error.number(),
-        },
-    }
 }
 
 /// Keeps of each byte string at most as many as a list says, and returns 0. The strings lie one after another in `bytes`, as
@@ -274,17 +237,19 @@ pub extern "C" fn hashbag_texts_retain(
     ends: &[usize],
     most: &[usize],
 ) -> u8
-    ensures retained { result ≡ 0 → TextsTo handle.old.held handle.new.held (Retains bytes_eq (pieces_from 0 bytes.now ends.now) most.now) }
-    ensures kind { IfNumbers handle.old.held (λ _. result ≡ KIND) }
-    ensures empty { handle.old.held ≡ None → result ≡ EMPTY }
+    // If the result is 0: each string is there as often as before, or as `most` says at its first place in the list if that is less; never if it
+    // isn't listed. The limit and the keys are the same, and there is no less room.
+    ensures retained { result ≡ 0 → TextsTo handle.old.held handle.new.held (RetainsPieces bytes.now ends.now most.now) }
+    ensures otherwise { UnlessTexts handle.old.held (λ code. result ≡ code) }
     ensures err { result ≢ 0 → handle.new.held ≡ handle.old.held }
 {
-    let Some(mut held) = handle.take(alloc) else {
-        return EMPTY;
-    };
-    let code = retain(alloc, &mut held, bytes, ends, most);
-    handle.put(held);
-    code
+    with_held!(alloc, handle, EMPTY, |mut held| match held {
+        Held::Numbers(_) => KIND,
+        Held::Texts(bag) => match keep_listed(alloc, bag, bytes, ends, most) {
+            Ok(()) => 0,
+            Err(error) => error.number(),
+        },
+    })
 }
 
 // The number of bytes of all strings of a walk, or the greatest `usize`.
@@ -298,87 +263,24 @@ fn sizes(walk: SetIter<'_, Bytes>) -> usize
     sum
 }
 
-fn size(held: &Held) -> usize
-    ensures size { IfTexts (Some held.now) (λ bag. HasSize bag result) }
-    ensures kind { IfNumbers (Some held.now) (λ _. result ≡ 0) }
-{
-    match held {
-        Held::Numbers(_) => 0,
-        Held::Texts(bag) => sizes(bag.set_iter()),
-    }
-}
-
 /// Returns how many bytes the distinct byte strings have in all, which `hashbag_texts_read` needs places for. It is 0 if the handle has no
 /// bag of byte strings.
 #[unsafe(no_mangle)]
 pub extern "C" fn hashbag_texts_bytes(alloc: Global, handle: &mut Handle) -> usize
+    // `result` is the number of bytes of all distinct strings, or 2^64-1 if there are more.
     ensures size { IfTexts handle.old.held (λ bag. HasSize bag result) }
+    ensures otherwise { UnlessTexts handle.old.held (λ _. result ≡ 0) }
     ensures unchanged { handle.new.held ≡ handle.old.held }
-    ensures kind { IfNumbers handle.old.held (λ _. result ≡ 0) }
-    ensures empty { handle.old.held ≡ None → result ≡ 0 }
 {
-    let Some(held) = handle.take(alloc) else {
-        return 0;
-    };
-    let n = size(&held);
-    handle.put(held);
-    n
-}
-
-// Writes a byte string at a place.
-pub(crate) fn put(bytes: &mut [u8], from: usize, piece: &[u8])
-    requires { from + length piece.now ≤ length bytes.old }
-    ensures { bytes.new ≡ take from bytes.old ++ (piece.now ++ drop (from + length piece.now) bytes.old) }
-{
-    bytes[from..from + piece.len()].copy_from_slice(piece);
-}
-
-// Writes the first strings of a walk, as many as there are places for, and returns how many.
-fn write_texts(
-    mut walk: SetIter<'_, Bytes>,
-    bytes: &mut [u8],
-    ends: &mut [usize],
-    counts: &mut [usize],
-) -> usize
-    ensures few { result ≤ length walk.entry }
-    ensures bytes { BeginWithStrings bytes.new (take result walk.entry) }
-    ensures ends { take result ends.new ≡ ends_from 0 (take result walk.entry) }
-    ensures counts { take result counts.new ≡ map (λ e. e.1) (take result walk.entry) }
-    ensures all { WritesAllIfTheyFit walk.entry bytes.old ends.old counts.old result }
-{
-    let most = ends.len().min(counts.len());
-    let mut from: usize = 0;
-    for i in 0..most {
-        match walk.next() {
-            Some((value, count)) => {
-                let value = value.as_slice();
-                if value.len() > bytes.len() - from {
-                    return i;
-                }
-                put(bytes, from, value);
-                from += value.len();
-                ends[i] = from;
-                counts[i] = count;
-            }
-            None => return i,
-        }
-    }
-    most
-}
-
-fn read(held: &Held, bytes: &mut [u8], ends: &mut [usize], counts: &mut [usize]) -> usize
-    ensures read { IfTexts (Some held.now) (λ bag. HasReadTexts bag result bytes.new ends.new counts.new) }
-    ensures kind { IfNumbers (Some held.now) (λ _. result ≡ 0) }
-{
-    match held {
+    with_held!(alloc, handle, 0, |held| match held {
         Held::Numbers(_) => 0,
-        Held::Texts(bag) => write_texts(bag.set_iter(), bytes, ends, counts),
-    }
+        Held::Texts(bag) => sizes(bag.set_iter()),
+    })
 }
 
-/// Writes distinct byte strings one after another into `bytes`, where each ends into `ends`, and their counts, and returns how many. It
-/// stops before the first string for which there is no place. With `hashbag_texts_bytes` and `hashbag_set_len` places these are all, in no
-/// particular order. It returns 0 if the handle has no bag of byte strings.
+/// Writes distinct byte strings into `bytes`, one after another, the place where each ends into `ends`, and its count into `counts`. Returns
+/// how many. It stops before the first string for which there is no place. All are written, in no particular order, if `ends` and `counts`
+/// have `hashbag_set_len` places and `bytes` has `hashbag_texts_bytes`. It returns 0 if the handle has no bag of byte strings.
 #[unsafe(no_mangle)]
 pub extern "C" fn hashbag_texts_read(
     alloc: Global,
@@ -387,15 +289,14 @@ pub extern "C" fn hashbag_texts_read(
     ends: &mut [usize],
     counts: &mut [usize],
 ) -> usize
-    ensures read { IfTexts handle.old.held (λ bag. HasReadTexts bag result bytes.new ends.new counts.new) }
+    // The first `result` of all distinct strings, in some order, are written; if that isn't all, the next one has no place. `bytes` begins with the
+    // strings one after another, `ends` with where each ends, `counts` with their counts.
+    ensures read { ReadsTexts (IsSetWalkOf bytes_eq) handle.old.held result bytes.new ends.new counts.new }
+    ensures otherwise { UnlessTexts handle.old.held (λ _. result ≡ 0) }
     ensures unchanged { handle.new.held ≡ handle.old.held }
-    ensures kind { IfNumbers handle.old.held (λ _. result ≡ 0) }
-    ensures empty { handle.old.held ≡ None → result ≡ 0 }
 {
-    let Some(held) = handle.take(alloc) else {
-        return 0;
-    };
-    let n = read(&held, bytes, ends, counts);
-    handle.put(held);
-    n
+    with_held!(alloc, handle, 0, |held| match held {
+        Held::Numbers(_) => 0,
+        Held::Texts(bag) => write_texts(bag.set_iter(), bytes, ends, counts),
+    })
 }

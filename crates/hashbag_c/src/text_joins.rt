@@ -1,15 +1,23 @@
-//! Joins of two bags of byte strings.
-ghost use Rattle.std.specs.Prelude.{◌≡◌, ◌≤◌, length, take, map, None, Some};
-ghost use Rattle.hashbag_c.specs.Calls.{BothTexts, IfNumbers};
-ghost use Rattle.hashbag_c.specs.Differences.{with_none, HasReadTextDifference, HasReadTextNotIn, HasReadTextSignedDifference, WritesAllSignedIfTheyFit};
-ghost use Rattle.hashbag_c.specs.Reads.{ends_from, with_firsts, HasReadTextJoin, BeginWithStrings, WritesAllIfTheyFit, WritesAllJoinedIfTheyFit};
+//! Joins of two bags of byte strings. In clauses `held` is what a handle has: a bag of numbers, a bag of byte strings, or nothing.
+//!
+//! - `ReadsBothTexts IsJoin a b n bytes ends counts`: if `a` and `b` are bags of byte strings, there is a list of strings, each with its number in
+//!   the join, for which `IsJoin` holds. Its first n entries are written: `bytes` begins with the strings one after another, `ends` with where each
+//!   ends, `counts` with the numbers. If n isn't all, the next entry has no place.
+//! - `ReadsTextJoin a b n bytes ends firsts seconds`: the same of an outer join, with the count in the first bag in `firsts`, in the second in `seconds`;
+//!   all entries are written if all have places.
+//! - `UnlessBothTexts a b P`: if `a` or `b` is no bag of byte strings, P holds.
+ghost use Rattle.std.specs.Prelude.{◌≡◌, ◌≤◌, length, take, map};
+ghost use Rattle.std.specs.Str.{bytes_eq};
+ghost use Rattle.hashbag_c.specs.Calls.{UnlessBothTexts};
+ghost use Rattle.hashbag_c.specs.Differences.{IsDifferenceOf, IsNotInOf, IsSignedDifferenceOf};
+ghost use Rattle.hashbag_c.specs.Reads.{ends_from, with_firsts, HasReadTexts, BeginWithStrings, ReadsBothTexts, ReadsTextJoin, WritesAllJoinedIfTheyFit};
 
 use crate::bytes::Bytes;
+use crate::entries::{put, write_texts};
 use crate::handle::Handle;
-use crate::held::Held;
+use crate::held::{Held, with_both, with_both_bags};
 use crate::state::Keys;
-use crate::text_batches::put;
-use hashbag_core::{Difference, NotIn, OuterJoin, SignedDifference};
+use hashbag_core::{HashBag, OuterJoin};
 use std::alloc::Global;
 
 // Writes the first items of a join, as many as there are places for, and returns how many.
@@ -48,31 +56,10 @@ fn write_joined(
     most
 }
 
-fn outer_join(
-    a: &Held,
-    b: &Held,
-    bytes: &mut [u8],
-    ends: &mut [usize],
-    firsts: &mut [usize],
-    seconds: &mut [usize],
-) -> usize
-    ensures read { BothTexts (Some a.now) (Some b.now) (λ x y. HasReadTextJoin x y result bytes.new ends.new firsts.new seconds.new) }
-    ensures kind { IfNumbers (Some a.now) (λ _. result ≡ 0) }
-    ensures other_kind { IfNumbers (Some b.now) (λ _. result ≡ 0) }
-{
-    match a {
-        Held::Numbers(_) => 0,
-        Held::Texts(bag) => match b {
-            Held::Numbers(_) => 0,
-            Held::Texts(other) => write_joined(bag.outer_join(other), bytes, ends, firsts, seconds),
-        },
-    }
-}
-
-/// Writes the byte strings of two bags, each once, as `hashbag_texts_read` does, with the count of each in the first and in the second. A bag
-/// that lacks it counts 0. The strings of the first bag are first. It writes as many as there are places for, and returns how many. With as
-/// many places as both bags have distinct strings, and bytes in all, these are all. They must be two handles, not one twice. It returns 0 if
-/// one of them has no bag of byte strings.
+/// Writes the byte strings of two bags, each once, as `hashbag_texts_read` does, with the count of each in the first and in the second. A
+/// bag that lacks it counts 0. The strings of the first bag are first. It writes as many as there are places for, and returns how many. All
+/// are written if `ends`, `firsts` and `seconds` have as many places as both bags together have distinct strings, and `bytes` as many as
+/// these strings have bytes. `a` and `b` must be different handles. It returns 0 if one of them has no bag of byte strings.
 #[unsafe(no_mangle)]
 pub extern "C" fn hashbag_texts_outer_join(
     alloc: Global,
@@ -83,83 +70,31 @@ pub extern "C" fn hashbag_texts_outer_join(
     firsts: &mut [usize],
     seconds: &mut [usize],
 ) -> usize
-    ensures read { BothTexts a.old.held b.old.held (λ x y. HasReadTextJoin x y result bytes.new ends.new firsts.new seconds.new) }
-    ensures kind { IfNumbers a.old.held (λ _. result ≡ 0) }
-    ensures other_kind { IfNumbers b.old.held (λ _. result ≡ 0) }
-    ensures empty { a.old.held ≡ None → result ≡ 0 }
-    ensures other_empty { b.old.held ≡ None → result ≡ 0 }
-    ensures first { a.new.held ≡ a.old.held }
-    ensures second { b.new.held ≡ b.old.held }
+    ensures read { ReadsTextJoin a.old.held b.old.held result bytes.new ends.new firsts.new seconds.new }
+    ensures otherwise { UnlessBothTexts a.old.held b.old.held (result ≡ 0) }
+    ensures unchanged { (a.new.held ≡ a.old.held) × (b.new.held ≡ b.old.held) }
 {
-    let Some(first) = a.take(alloc) else {
-        return 0;
-    };
-    let Some(second) = b.take(alloc) else {
-        a.put(first);
-        return 0;
-    };
-    let n = outer_join(&first, &second, bytes, ends, firsts, seconds);
-    a.put(first);
-    b.put(second);
-    n
+    with_both_bags!(alloc, a, b, Texts, |x, y| {
+        write_joined(x.outer_join(y), bytes, ends, firsts, seconds)
+    })
 }
 
-// Writes the first strings of a difference, as many as there are places for, and returns how many.
-fn write_difference(
-    mut walk: Difference<'_, Bytes, Keys, Keys>,
+fn difference(
+    x: &HashBag<Bytes, Keys>,
+    y: &HashBag<Bytes, Keys>,
     bytes: &mut [u8],
     ends: &mut [usize],
     counts: &mut [usize],
 ) -> usize
-    ensures few { result ≤ length walk.entry }
-    ensures bytes { BeginWithStrings bytes.new (take result walk.entry) }
-    ensures ends { take result ends.new ≡ ends_from 0 (take result walk.entry) }
-    ensures counts { take result counts.new ≡ map (λ e. e.1) (take result walk.entry) }
-    ensures all { WritesAllIfTheyFit walk.entry bytes.old ends.old counts.old result }
+    ensures { HasReadTexts (IsDifferenceOf bytes_eq x.now y.now) result bytes.new ends.new counts.new }
 {
-    let most = ends.len().min(counts.len());
-    let mut from: usize = 0;
-    for i in 0..most {
-        match walk.next() {
-            Some((value, count)) => {
-                let value = value.as_slice();
-                if value.len() > bytes.len() - from {
-                    return i;
-                }
-                put(bytes, from, value);
-                from += value.len();
-                ends[i] = from;
-                counts[i] = count;
-            }
-            None => return i,
-        }
-    }
-    most
+    write_texts(x.difference(y), bytes, ends, counts)
 }
 
-fn read_difference(
-    a: &Held,
-    b: &Held,
-    bytes: &mut [u8],
-    ends: &mut [usize],
-    counts: &mut [usize],
-) -> usize
-    ensures read { BothTexts (Some a.now) (Some b.now) (λ x y. HasReadTextDifference x y result bytes.new ends.new counts.new) }
-    ensures kind { IfNumbers (Some a.now) (λ _. result ≡ 0) }
-    ensures other_kind { IfNumbers (Some b.now) (λ _. result ≡ 0) }
-{
-    match a {
-        Held::Numbers(_) => 0,
-        Held::Texts(bag) => match b {
-            Held::Numbers(_) => 0,
-            Held::Texts(other) => write_difference(bag.difference(other), bytes, ends, counts),
-        },
-    }
-}
-
-/// Writes the byte strings that the first bag has more often than the second, each with how many more, as `hashbag_texts_read` does: as many
-/// as there are places for, in no particular order. Returns how many. With as many places as the first bag has distinct strings, and bytes in
-/// all, these are all. They must be two handles, not one twice. It returns 0 if one of them has no bag of byte strings. It doesn't allocate.
+/// Writes the byte strings that the first bag has more often than the second, each with how many more. They are written as by
+/// `hashbag_texts_read`, in no particular order, as many as there are places for. Returns how many. All are written if `ends` and `counts`
+/// have as many places as the first bag has distinct strings, and `bytes` as many as these strings have bytes. `a` and `b` must be different
+/// handles. It returns 0 if one of them has no bag of byte strings. It doesn't allocate.
 #[unsafe(no_mangle)]
 pub extern "C" fn hashbag_texts_difference(
     alloc: Global,
@@ -169,83 +104,35 @@ pub extern "C" fn hashbag_texts_difference(
     ends: &mut [usize],
     counts: &mut [usize],
 ) -> usize
-    ensures read { BothTexts a.old.held b.old.held (λ x y. HasReadTextDifference x y result bytes.new ends.new counts.new) }
-    ensures kind { IfNumbers a.old.held (λ _. result ≡ 0) }
-    ensures other_kind { IfNumbers b.old.held (λ _. result ≡ 0) }
-    ensures empty { a.old.held ≡ None → result ≡ 0 }
-    ensures other_empty { b.old.held ≡ None → result ≡ 0 }
-    ensures first { a.new.held ≡ a.old.held }
-    ensures second { b.new.held ≡ b.old.held }
+    ensures read { ReadsBothTexts IsDifferenceOf a.old.held b.old.held result bytes.new ends.new counts.new }
+    ensures otherwise { UnlessBothTexts a.old.held b.old.held (result ≡ 0) }
+    ensures unchanged { (a.new.held ≡ a.old.held) × (b.new.held ≡ b.old.held) }
 {
-    let Some(first) = a.take(alloc) else {
-        return 0;
-    };
-    let Some(second) = b.take(alloc) else {
-        a.put(first);
-        return 0;
-    };
-    let n = read_difference(&first, &second, bytes, ends, counts);
-    a.put(first);
-    b.put(second);
-    n
+    with_both_bags!(
+        alloc,
+        a,
+        b,
+        Texts,
+        |x, y| difference(x, y, bytes, ends, counts)
+    )
 }
 
-// Writes the first strings that another bag lacks, as many as there are places for, and returns how many.
-fn write_not_in(
-    mut walk: NotIn<'_, Bytes, Keys, Keys>,
+fn not_in(
+    x: &HashBag<Bytes, Keys>,
+    y: &HashBag<Bytes, Keys>,
     bytes: &mut [u8],
     ends: &mut [usize],
     counts: &mut [usize],
 ) -> usize
-    ensures few { result ≤ length walk.entry }
-    ensures bytes { BeginWithStrings bytes.new (take result walk.entry) }
-    ensures ends { take result ends.new ≡ ends_from 0 (take result walk.entry) }
-    ensures counts { take result counts.new ≡ map (λ e. e.1) (take result walk.entry) }
-    ensures all { WritesAllIfTheyFit walk.entry bytes.old ends.old counts.old result }
+    ensures { HasReadTexts (IsNotInOf bytes_eq x.now y.now) result bytes.new ends.new counts.new }
 {
-    let most = ends.len().min(counts.len());
-    let mut from: usize = 0;
-    for i in 0..most {
-        match walk.next() {
-            Some((value, count)) => {
-                let value = value.as_slice();
-                if value.len() > bytes.len() - from {
-                    return i;
-                }
-                put(bytes, from, value);
-                from += value.len();
-                ends[i] = from;
-                counts[i] = count;
-            }
-            None => return i,
-        }
-    }
-    most
+    write_texts(x.not_in(y), bytes, ends, counts)
 }
 
-fn read_not_in(
-    a: &Held,
-    b: &Held,
-    bytes: &mut [u8],
-    ends: &mut [usize],
-    counts: &mut [usize],
-) -> usize
-    ensures read { BothTexts (Some a.now) (Some b.now) (λ x y. HasReadTextNotIn x y result bytes.new ends.new counts.new) }
-    ensures kind { IfNumbers (Some a.now) (λ _. result ≡ 0) }
-    ensures other_kind { IfNumbers (Some b.now) (λ _. result ≡ 0) }
-{
-    match a {
-        Held::Numbers(_) => 0,
-        Held::Texts(bag) => match b {
-            Held::Numbers(_) => 0,
-            Held::Texts(other) => write_not_in(bag.not_in(other), bytes, ends, counts),
-        },
-    }
-}
-
-/// Writes the byte strings of the first bag that the second lacks, each with its count, as `hashbag_texts_read` does: as many as there are
-/// places for, in no particular order. Returns how many. With as many places as the first bag has distinct strings, and bytes in all, these
-/// are all. They must be two handles, not one twice. It returns 0 if one of them has no bag of byte strings. It doesn't allocate.
+/// Writes the byte strings of the first bag that the second lacks, each with its count. They are written as by `hashbag_texts_read`, in no
+/// particular order, as many as there are places for. Returns how many. All are written if `ends` and `counts` have as many places as the
+/// first bag has distinct strings, and `bytes` as many as these strings have bytes. `a` and `b` must be different handles. It returns 0 if
+/// one of them has no bag of byte strings. It doesn't allocate.
 #[unsafe(no_mangle)]
 pub extern "C" fn hashbag_texts_not_in(
     alloc: Global,
@@ -255,87 +142,30 @@ pub extern "C" fn hashbag_texts_not_in(
     ends: &mut [usize],
     counts: &mut [usize],
 ) -> usize
-    ensures read { BothTexts a.old.held b.old.held (λ x y. HasReadTextNotIn x y result bytes.new ends.new counts.new) }
-    ensures kind { IfNumbers a.old.held (λ _. result ≡ 0) }
-    ensures other_kind { IfNumbers b.old.held (λ _. result ≡ 0) }
-    ensures empty { a.old.held ≡ None → result ≡ 0 }
-    ensures other_empty { b.old.held ≡ None → result ≡ 0 }
-    ensures first { a.new.held ≡ a.old.held }
-    ensures second { b.new.held ≡ b.old.held }
+    ensures read { ReadsBothTexts IsNotInOf a.old.held b.old.held result bytes.new ends.new counts.new }
+    ensures otherwise { UnlessBothTexts a.old.held b.old.held (result ≡ 0) }
+    ensures unchanged { (a.new.held ≡ a.old.held) × (b.new.held ≡ b.old.held) }
 {
-    let Some(first) = a.take(alloc) else {
-        return 0;
-    };
-    let Some(second) = b.take(alloc) else {
-        a.put(first);
-        return 0;
-    };
-    let n = read_not_in(&first, &second, bytes, ends, counts);
-    a.put(first);
-    b.put(second);
-    n
+    with_both_bags!(alloc, a, b, Texts, |x, y| not_in(x, y, bytes, ends, counts))
 }
 
-// Writes the first strings of two bags with the differences of their counts, as many as there are places for, and returns how many.
-fn write_signed_difference(
-    mut walk: SignedDifference<'_, Bytes, Keys, Keys>,
+fn signed_difference(
+    x: &HashBag<Bytes, Keys>,
+    y: &HashBag<Bytes, Keys>,
     bytes: &mut [u8],
     ends: &mut [usize],
     differences: &mut [isize],
 ) -> usize
-    ensures few { result ≤ length walk.entry }
-    ensures bytes { BeginWithStrings bytes.new (take result (with_none walk.entry)) }
-    ensures ends { take result ends.new ≡ ends_from 0 (take result (with_none walk.entry)) }
-    ensures differences { take result differences.new ≡ map (λ e. e.1) (take result walk.entry) }
-    ensures all { WritesAllSignedIfTheyFit walk.entry bytes.old ends.old differences.old result }
+    ensures { HasReadTexts (IsSignedDifferenceOf bytes_eq x.now y.now) result bytes.new ends.new differences.new }
 {
-    let most = ends.len().min(differences.len());
-    let mut from: usize = 0;
-    for i in 0..most {
-        match walk.next() {
-            Some((value, difference)) => {
-                let value = value.as_slice();
-                if value.len() > bytes.len() - from {
-                    return i;
-                }
-                put(bytes, from, value);
-                from += value.len();
-                ends[i] = from;
-                differences[i] = difference;
-            }
-            None => return i,
-        }
-    }
-    most
-}
-
-fn read_signed_difference(
-    a: &Held,
-    b: &Held,
-    bytes: &mut [u8],
-    ends: &mut [usize],
-    differences: &mut [isize],
-) -> usize
-    ensures read { BothTexts (Some a.now) (Some b.now) (λ x y. HasReadTextSignedDifference x y result bytes.new ends.new differences.new) }
-    ensures kind { IfNumbers (Some a.now) (λ _. result ≡ 0) }
-    ensures other_kind { IfNumbers (Some b.now) (λ _. result ≡ 0) }
-{
-    match a {
-        Held::Numbers(_) => 0,
-        Held::Texts(bag) => match b {
-            Held::Numbers(_) => 0,
-            Held::Texts(other) => {
-                let join = bag.signed_difference(other);
-                write_signed_difference(join, bytes, ends, differences)
-            }
-        },
-    }
+    write_texts(x.signed_difference(y), bytes, ends, differences)
 }
 
 /// Writes the byte strings of two bags, each once, as `hashbag_texts_read` does, with its count in the first less its count in the second:
-/// those of the first bag first. A difference above `PTRDIFF_MAX` or below `PTRDIFF_MIN` is written as that bound. It writes as many as there
-/// are places for, and returns how many. With as many places as both bags together have distinct strings, and bytes in all, these are all. They must
-/// be two handles, not one twice. It returns 0 if one of them has no bag of byte strings. It doesn't allocate.
+/// those of the first bag first. A difference above `PTRDIFF_MAX` or below `PTRDIFF_MIN` is written as that bound. It writes as many as
+/// there are places for, and returns how many. All are written if `ends` and `differences` have as many places as both bags together have
+/// distinct strings, and `bytes` as many as these strings have bytes. `a` and `b` must be different handles. It returns 0 if one of them has
+/// no bag of byte strings. It doesn't allocate.
 #[unsafe(no_mangle)]
 pub extern "C" fn hashbag_texts_signed_difference(
     alloc: Global,
@@ -345,23 +175,15 @@ pub extern "C" fn hashbag_texts_signed_difference(
     ends: &mut [usize],
     differences: &mut [isize],
 ) -> usize
-    ensures read { BothTexts a.old.held b.old.held (λ x y. HasReadTextSignedDifference x y result bytes.new ends.new differences.new) }
-    ensures kind { IfNumbers a.old.held (λ _. result ≡ 0) }
-    ensures other_kind { IfNumbers b.old.held (λ _. result ≡ 0) }
-    ensures empty { a.old.held ≡ None → result ≡ 0 }
-    ensures other_empty { b.old.held ≡ None → result ≡ 0 }
-    ensures first { a.new.held ≡ a.old.held }
-    ensures second { b.new.held ≡ b.old.held }
+    ensures read { ReadsBothTexts IsSignedDifferenceOf a.old.held b.old.held result bytes.new ends.new differences.new }
+    ensures otherwise { UnlessBothTexts a.old.held b.old.held (result ≡ 0) }
+    ensures unchanged { (a.new.held ≡ a.old.held) × (b.new.held ≡ b.old.held) }
 {
-    let Some(first) = a.take(alloc) else {
-        return 0;
-    };
-    let Some(second) = b.take(alloc) else {
-        a.put(first);
-        return 0;
-    };
-    let n = read_signed_difference(&first, &second, bytes, ends, differences);
-    a.put(first);
-    b.put(second);
-    n
+    with_both_bags!(
+        alloc,
+        a,
+        b,
+        Texts,
+        |x, y| signed_difference(x, y, bytes, ends, differences)
+    )
 }

@@ -1,53 +1,20 @@
-//! Bags of byte strings as JSON texts.
-ghost use Rattle.std.specs.Prelude.{◌≡◌, ◌≢◌, ◌⊎◌, string_bytes, None, Some, IfOk, IfErr};
-ghost use Rattle.hashbag_c.specs.Calls.{HasTexts, IfNumbers, IfTexts};
+//! Bags of byte strings as JSON texts. In clauses `held` is what a handle has: a bag of numbers, a bag of byte strings, or nothing.
+//! The result 1 is `HASHBAG_MEMORY`.
+//!
+//! - `IfTexts held P`: if `held` is a bag of byte strings, P holds of it.
+//! - `HasTexts held P`: `held` is a bag of byte strings, and P holds of it.
+//! - `OnTexts result held P`: if `held` is a bag of byte strings and `result` is 0, P holds of the bag.
+//! - `UnlessTexts held P`: if `held` is no bag of byte strings, P holds of the number that says why: `EMPTY` (no bag) or `KIND` (the other kind).
+ghost use Rattle.std.specs.Prelude.{◌≡◌, ◌≢◌, ◌⊎◌};
+ghost use Rattle.hashbag_c.specs.Calls.{HasTexts, IfTexts, OnTexts, UnlessTexts};
 ghost use Rattle.hashbag_c.specs.Json.{has_bytes, AreTextsReadFrom, IsReported, IsTextsJson, IsTooLong, IsWritten};
 
 use crate::any::{EMPTY, KIND, SHORT};
-use crate::bytes::Bytes;
 use crate::handle::Handle;
-use crate::held::Held;
-use crate::json::{TextError, read_bag, write_text};
+use crate::held::{Held, with_held};
+use crate::json::{TextError, read_bag, read_json, write_json};
 use crate::state::Keys;
-use hashbag_core::{BagError, HashBag};
 use std::alloc::Global;
-
-// Returns the JSON of a bag.
-fn text_of(alloc: Global, bag: &HashBag<Bytes, Keys>) -> Result<String, BagError>
-    ensures json { IfOk result (λ text. IsTextsJson bag.now (string_bytes text)) }
-    ensures memory { IfErr result (λ e. e ≡ BagError.Memory) }
-{
-    let tree = bag.to_value(alloc)?;
-    Ok(tree.to_string(alloc)?)
-}
-
-// Writes the JSON of a bag at the beginning of a buffer, if it has places for all of it, and its length.
-fn write_json(alloc: Global, bag: &HashBag<Bytes, Keys>, bytes: &mut [u8], len: &mut usize) -> u8
-    ensures json { result ≡ 0 → IsWritten (IsTextsJson bag.now) bytes.old bytes.new len.new }
-    ensures too_long { result ≡ SHORT → IsTooLong (IsTextsJson bag.now) bytes.old len.new }
-    ensures only { result ≢ 0 → (result ≡ 1) ⊎ (result ≡ SHORT) }
-    ensures buffer { result ≢ 0 → bytes.new ≡ bytes.old }
-    ensures failed { result ≡ 1 → len.new ≡ len.old }
-{
-    match text_of(alloc, bag) {
-        Ok(text) => write_text(text.as_str(), bytes, len),
-        Err(error) => error.number(),
-    }
-}
-
-fn to_json(alloc: Global, held: &Held, bytes: &mut [u8], len: &mut usize) -> u8
-    ensures json { IfTexts (Some held.now) (λ bag. result ≡ 0 → IsWritten (IsTextsJson bag) bytes.old bytes.new len.new) }
-    ensures too_long { IfTexts (Some held.now) (λ bag. result ≡ SHORT → IsTooLong (IsTextsJson bag) bytes.old len.new) }
-    ensures only { IfTexts (Some held.now) (λ _. result ≢ 0 → (result ≡ 1) ⊎ (result ≡ SHORT)) }
-    ensures kind { IfNumbers (Some held.now) (λ _. result ≡ KIND) }
-    ensures buffer { result ≢ 0 → bytes.new ≡ bytes.old }
-    ensures failed { result ≢ 0 → result ≢ SHORT → len.new ≡ len.old }
-{
-    match held {
-        Held::Numbers(_) => KIND,
-        Held::Texts(bag) => write_json(alloc, bag, bytes, len),
-    }
-}
 
 /// Writes a bag of byte strings as a JSON text at the beginning of `bytes`, writes the length of the text into `len`, and returns 0. No NUL
 /// follows. The text is `[["cat",2],["dog",1]]`: each distinct string with its count, strings in ascending order by their bytes, without
@@ -66,61 +33,35 @@ pub extern "C" fn hashbag_texts_to_json(
     bytes: &mut [u8],
     len: &mut usize,
 ) -> u8
-    ensures json { IfTexts handle.old.held (λ bag. result ≡ 0 → IsWritten (IsTextsJson bag) bytes.old bytes.new len.new) }
+    // If the result is 0: the JSON of the bag is at the beginning of `bytes`, the other bytes are unchanged, and `len` is its length.
+    ensures json { OnTexts result handle.old.held (λ bag. IsWritten (IsTextsJson bag) bytes.old bytes.new len.new) }
+
+    // If the result is `SHORT`: `len` is the length of the JSON of the bag, and `bytes` has fewer places.
     ensures too_long { IfTexts handle.old.held (λ bag. result ≡ SHORT → IsTooLong (IsTextsJson bag) bytes.old len.new) }
     ensures only { IfTexts handle.old.held (λ _. result ≢ 0 → (result ≡ 1) ⊎ (result ≡ SHORT)) }
-    ensures kind { IfNumbers handle.old.held (λ _. result ≡ KIND) }
-    ensures empty { handle.old.held ≡ None → result ≡ EMPTY }
+    ensures otherwise { UnlessTexts handle.old.held (λ code. result ≡ code) }
     ensures unchanged { handle.new.held ≡ handle.old.held }
     ensures buffer { result ≢ 0 → bytes.new ≡ bytes.old }
     ensures failed { result ≢ 0 → result ≢ SHORT → len.new ≡ len.old }
 {
-    let Some(held) = handle.take(alloc) else {
-        return EMPTY;
-    };
-    let code = to_json(alloc, &held, bytes, len);
-    handle.put(held);
-    code
-}
-
-// Puts into the handle the bag of a text.
-fn read_json(
-    alloc: Global,
-    handle: &mut Handle,
-    state: Keys,
-    most: usize,
-    text: &[u8],
-    at: &mut usize,
-) -> u8
-    ensures read { result ≡ 0 → HasTexts handle.new.held (AreTextsReadFrom most text.now) }
-    ensures hasher { result ≡ 0 → HasTexts handle.new.held (λ bag. bag.hasher ≡ state) }
-    ensures cause { result ≢ 0 → IsReported has_bytes most text.now result at.old at.new }
-    ensures err { result ≢ 0 → handle.new.held ≡ handle.old.held }
-    ensures place { result ≡ 0 → at.new ≡ at.old }
-{
-    match read_bag(alloc, state, most, text) {
-        Ok(bag) => match Box::new(alloc, Held::Texts(bag)) {
-            Ok(held) => {
-                *handle = Handle::of(held);
-                0
-            }
-            Err(_) => TextError::Memory.report(at),
-        },
-        Err(error) => error.report(at),
-    }
+    with_held!(alloc, handle, EMPTY, |held| match held {
+        Held::Numbers(_) => KIND,
+        Held::Texts(bag) => write_json(alloc, bag, bytes, len),
+    })
 }
 
 /// Puts into the handle the bag of byte strings that a JSON text is, and returns 0. The bag that the handle had is freed. Its limit is that
-/// of the text or `most`, whichever is less. The text has one of the forms that `hashbag_texts_to_json` writes, with spaces too; an array
-/// of bytes may also be UTF-8. Equal strings add up, and a pair with the count 0 is checked and adds nothing.
+/// of the text or `most`, whichever is less. The text has one of the forms that `hashbag_texts_to_json` writes. Spaces may be between its
+/// tokens, and a string may be an array of its bytes even if they are UTF-8. Equal strings add up, and a pair with the count 0 is checked
+/// and adds nothing.
 ///
 /// Its strings are hashed by SipHash under fixed keys, alike in every run. Use `hashbag_texts_from_json_keyed` if strangers wrote the text.
 ///
 /// # Errors
 ///
-/// `HASHBAG_NOT_JSON` if the text isn't JSON or isn't UTF-8: `at` is then how many of its bytes had been read when that was found. The
-/// first fault of a JSON text is returned by a number that begins with `HASHBAG_JSON_`; `at` is the pair at fault, counted from 0, if it is
-/// one. `HASHBAG_MEMORY` if an allocation fails. Then the handle is unchanged, and `at` too except in the two cases above.
+/// `HASHBAG_NOT_JSON` if the text isn't JSON or isn't UTF-8: `at` is then how many of its bytes had been read when that was found. One of
+/// `HASHBAG_JSON_..` for the first fault of a JSON text: if a pair is at fault, `at` is its number, counted from 0. `HASHBAG_MEMORY` if an
+/// allocation fails. Then the handle is unchanged, and `at` too except in the two cases above.
 #[unsafe(no_mangle)]
 pub extern "C" fn hashbag_texts_from_json(
     alloc: Global,
@@ -129,15 +70,22 @@ pub extern "C" fn hashbag_texts_from_json(
     text: &[u8],
     at: &mut usize,
 ) -> u8
+    // If the result is 0: the text is JSON without any of the faults `HASHBAG_JSON_..`. Its pairs were inserted in turn into an empty bag; the limit
+    // is the text's, or `most` if less.
     ensures read { result ≡ 0 → HasTexts handle.new.held (AreTextsReadFrom most text.now) }
+
+    // Else the result is the number of the error: no memory, no JSON (or no UTF-8), or the first fault under the limit `most`. `at` is the place of
+    // the error, or unchanged if it has none.
     ensures cause { result ≢ 0 → IsReported has_bytes most text.now result at.old at.new }
     ensures err { result ≢ 0 → handle.new.held ≡ handle.old.held }
     ensures place { result ≡ 0 → at.new ≡ at.old }
 {
-    read_json(alloc, handle, Keys { key0: 0, key1: 0 }, most, text, at)
+    let keys = Keys { key0: 0, key1: 0 };
+    read_json!(alloc, handle, Texts, keys, most, text, at)
 }
 
-/// Does the same with two keys of SipHash, which the caller draws at random: then nobody can choose byte strings that collide.
+/// Puts into the handle the bag that a JSON text is, as `hashbag_texts_from_json` does, with two keys of SipHash. The caller draws them at
+/// random: then nobody can choose byte strings that collide.
 ///
 /// # Errors
 ///
@@ -152,11 +100,16 @@ pub extern "C" fn hashbag_texts_from_json_keyed(
     text: &[u8],
     at: &mut usize,
 ) -> u8
+    // If the result is 0: the text is JSON without any of the faults `HASHBAG_JSON_..`. Its pairs were inserted in turn into an empty bag; the limit
+    // is the text's, or `most` if less.
     ensures read { result ≡ 0 → HasTexts handle.new.held (AreTextsReadFrom most text.now) }
     ensures keys { result ≡ 0 → HasTexts handle.new.held (λ bag. (bag.hasher.key0 ≡ key0) × (bag.hasher.key1 ≡ key1)) }
+
+    // Else the result is the number of the error: no memory, no JSON (or no UTF-8), or the first fault under the limit `most`. `at` is the place of
+    // the error, or unchanged if it has none.
     ensures cause { result ≢ 0 → IsReported has_bytes most text.now result at.old at.new }
     ensures err { result ≢ 0 → handle.new.held ≡ handle.old.held }
     ensures place { result ≡ 0 → at.new ≡ at.old }
 {
-    read_json(alloc, handle, Keys { key0, key1 }, most, text, at)
+    read_json!(alloc, handle, Texts, Keys { key0, key1 }, most, text, at)
 }

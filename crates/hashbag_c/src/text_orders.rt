@@ -1,47 +1,21 @@
-//! The byte strings of a bag with their counts, in ascending order or the most common first.
-ghost use Rattle.std.specs.Prelude.{◌≡◌, ◌≢◌, ◌≤◌, length, take, map, None, Some, IfErr, IfOk, OnErr};
-ghost use Rattle.hashbag_core.specs.Walks.{seen};
-ghost use Rattle.hashbag_c.specs.Calls.{IfNumbers, IfTexts};
-ghost use Rattle.hashbag_c.specs.Orders.{HasReadMostCommonTexts, HasReadSortedTexts};
-ghost use Rattle.hashbag_c.specs.Reads.{ends_from, BeginWithStrings, WritesAllIfTheyFit};
+//! The byte strings of a bag with their counts, in ascending order or the most common first. In clauses `held` is what a handle has:
+//! a bag of numbers, a bag of byte strings, or nothing. The result 1 is `HASHBAG_MEMORY`.
+//!
+//! - `IfTexts held P`: if `held` is a bag of byte strings, P holds of it.
+//! - `OnTexts result held P`: if `held` is a bag of byte strings and `result` is 0, P holds of the bag.
+//! - `UnlessTexts held P`: if `held` is no bag of byte strings, P holds of the number that says why: `EMPTY` (no bag) or `KIND` (the other kind).
+ghost use Rattle.std.specs.Prelude.{◌≡◌, ◌≢◌, IfErr, IfOk, OnErr};
+ghost use Rattle.hashbag_c.specs.Calls.{IfTexts, OnTexts, UnlessTexts};
+ghost use Rattle.hashbag_c.specs.Reads.{HasMostCommonTexts, HasSortedTexts};
 
 use crate::any::{EMPTY, KIND};
 use crate::bytes::Bytes;
+use crate::entries::write_texts;
 use crate::handle::Handle;
-use crate::held::Held;
+use crate::held::{Held, store, with_held};
 use crate::state::Keys;
-use crate::text_batches::put;
 use hashbag_core::{BagError, HashBag};
 use std::alloc::Global;
-
-// Writes the first strings of a list, as many as there are places for, and returns how many.
-fn write_listed(
-    pairs: &[(&Bytes, usize)],
-    bytes: &mut [u8],
-    ends: &mut [usize],
-    counts: &mut [usize],
-) -> usize
-    ensures few { result ≤ length (map seen pairs.now) }
-    ensures bytes { BeginWithStrings bytes.new (take result (map seen pairs.now)) }
-    ensures ends { take result ends.new ≡ ends_from 0 (take result (map seen pairs.now)) }
-    ensures counts { take result counts.new ≡ map (λ e. e.1) (take result (map seen pairs.now)) }
-    ensures all { WritesAllIfTheyFit (map seen pairs.now) bytes.old ends.old counts.old result }
-{
-    let most = pairs.len().min(ends.len().min(counts.len()));
-    let mut from: usize = 0;
-    for i in 0..most {
-        let (value, count) = pairs[i];
-        let value = value.as_slice();
-        if value.len() > bytes.len() - from {
-            return i;
-        }
-        put(bytes, from, value);
-        from += value.len();
-        ends[i] = from;
-        counts[i] = count;
-    }
-    most
-}
 
 // Reads the strings, in ascending order, and returns how many.
 fn read_sorted(
@@ -51,42 +25,17 @@ fn read_sorted(
     ends: &mut [usize],
     counts: &mut [usize],
 ) -> Result<usize, BagError>
-    ensures read { IfOk result (λ n. HasReadSortedTexts bag.now n bytes.new ends.new counts.new) }
+    ensures read { IfOk result (λ n. HasSortedTexts bag.now n bytes.new ends.new counts.new) }
     ensures memory { IfErr result (λ e. e ≡ BagError.Memory) }
     ensures err { OnErr result ((bytes.new ≡ bytes.old) × (ends.new ≡ ends.old) × (counts.new ≡ counts.old)) }
 {
     let pairs = hashbag_ops::sorted(alloc, bag)?;
-    Ok(write_listed(&pairs, bytes, ends, counts))
-}
-
-fn sorted(
-    alloc: Global,
-    held: &Held,
-    bytes: &mut [u8],
-    ends: &mut [usize],
-    counts: &mut [usize],
-    n: &mut usize,
-) -> u8
-    ensures read { IfTexts (Some held.now) (λ bag. result ≡ 0 → HasReadSortedTexts bag n.new bytes.new ends.new counts.new) }
-    ensures only { IfTexts (Some held.now) (λ _. result ≢ 0 → result ≡ 1) }
-    ensures kind { IfNumbers (Some held.now) (λ _. result ≡ KIND) }
-    ensures err { result ≢ 0 → (n.new ≡ n.old) × (bytes.new ≡ bytes.old) × (ends.new ≡ ends.old) × (counts.new ≡ counts.old) }
-{
-    match held {
-        Held::Numbers(_) => KIND,
-        Held::Texts(bag) => match read_sorted(alloc, bag, bytes, ends, counts) {
-            Ok(read) => {
-                *n = read;
-                0
-            }
-            Err(error) => error.number(),
-        },
-    }
+    Ok(write_texts(pairs.iter(), bytes, ends, counts))
 }
 
 /// Writes the distinct byte strings in ascending order, by unsigned bytes, and their counts, as `hashbag_texts_read` does. Writes how many
-/// into `n`, and returns 0, also if not all have places. With `hashbag_set_len` ends and counts, and `hashbag_texts_bytes` bytes, these are
-/// all. It makes one allocation, a list of all distinct strings, and sorts it.
+/// into `n`, and returns 0, also if not all have places. All are written if `ends` and `counts` have `hashbag_set_len` places and `bytes` has
+/// `hashbag_texts_bytes`. It makes one allocation, a list of all distinct strings, and sorts it.
 ///
 /// # Errors
 ///
@@ -100,19 +49,19 @@ pub extern "C" fn hashbag_texts_sorted(
     counts: &mut [usize],
     n: &mut usize,
 ) -> u8
-    ensures read { IfTexts handle.old.held (λ bag. result ≡ 0 → HasReadSortedTexts bag n.new bytes.new ends.new counts.new) }
+    // If the result is 0: the first `n` of all distinct strings, in ascending order, are written; if that isn't all, the next one has no place.
+    // `bytes` begins with the strings one after another, `ends` with where each ends, `counts` with their counts.
+    ensures read { OnTexts result handle.old.held (λ bag. HasSortedTexts bag n.new bytes.new ends.new counts.new) }
     ensures only { IfTexts handle.old.held (λ _. result ≢ 0 → result ≡ 1) }
-    ensures kind { IfNumbers handle.old.held (λ _. result ≡ KIND) }
-    ensures empty { handle.old.held ≡ None → result ≡ EMPTY }
+    ensures otherwise { UnlessTexts handle.old.held (λ code. result ≡ code) }
     ensures unchanged { handle.new.held ≡ handle.old.held }
-    ensures err { result ≢ 0 → (n.new ≡ n.old) × (bytes.new ≡ bytes.old) × (ends.new ≡ ends.old) × (counts.new ≡ counts.old) }
+    ensures failed { result ≢ 0 → n.new ≡ n.old }
+    ensures err { result ≢ 0 → (bytes.new ≡ bytes.old) × (ends.new ≡ ends.old) × (counts.new ≡ counts.old) }
 {
-    let Some(held) = handle.take(alloc) else {
-        return EMPTY;
-    };
-    let code = sorted(alloc, &held, bytes, ends, counts, n);
-    handle.put(held);
-    code
+    with_held!(alloc, handle, EMPTY, |held| match held {
+        Held::Numbers(_) => KIND,
+        Held::Texts(bag) => store!(read_sorted(alloc, bag, bytes, ends, counts), n),
+    })
 }
 
 // Reads the most common strings, and returns how many.
@@ -123,44 +72,19 @@ fn read_most_common(
     ends: &mut [usize],
     counts: &mut [usize],
 ) -> Result<usize, BagError>
-    ensures read { IfOk result (λ n. HasReadMostCommonTexts bag.now n bytes.new ends.new counts.new) }
+    ensures read { IfOk result (λ n. HasMostCommonTexts bag.now n bytes.new ends.new counts.new) }
     ensures memory { IfErr result (λ e. e ≡ BagError.Memory) }
     ensures err { OnErr result ((bytes.new ≡ bytes.old) × (ends.new ≡ ends.old) × (counts.new ≡ counts.old)) }
 {
     let most = ends.len().min(counts.len());
     let pairs = hashbag_ops::most_common(alloc, bag, most)?;
-    Ok(write_listed(&pairs, bytes, ends, counts))
-}
-
-fn most_common(
-    alloc: Global,
-    held: &Held,
-    bytes: &mut [u8],
-    ends: &mut [usize],
-    counts: &mut [usize],
-    n: &mut usize,
-) -> u8
-    ensures read { IfTexts (Some held.now) (λ bag. result ≡ 0 → HasReadMostCommonTexts bag n.new bytes.new ends.new counts.new) }
-    ensures only { IfTexts (Some held.now) (λ _. result ≢ 0 → result ≡ 1) }
-    ensures kind { IfNumbers (Some held.now) (λ _. result ≡ KIND) }
-    ensures err { result ≢ 0 → (n.new ≡ n.old) × (bytes.new ≡ bytes.old) × (ends.new ≡ ends.old) × (counts.new ≡ counts.old) }
-{
-    match held {
-        Held::Numbers(_) => KIND,
-        Held::Texts(bag) => match read_most_common(alloc, bag, bytes, ends, counts) {
-            Ok(read) => {
-                *n = read;
-                0
-            }
-            Err(error) => error.number(),
-        },
-    }
+    Ok(write_texts(pairs.iter(), bytes, ends, counts))
 }
 
 /// Writes the k most common byte strings and their counts, as `hashbag_texts_read` does: in descending order of counts, and in ascending
 /// order, by unsigned bytes, if they occur equally often. k is the lesser of `ends_len` and `counts_len`. Writes how many into `n`, and
-/// returns 0. With `hashbag_texts_bytes` bytes all fit. It reads each distinct string once, and makes two allocations at most, each of as
-/// many pairs as it may write.
+/// returns 0. All k are written if `bytes` has `hashbag_texts_bytes` places. It reads each distinct string once, and makes two allocations at
+/// most, each of as many pairs as it may write.
 ///
 /// # Errors
 ///
@@ -174,17 +98,16 @@ pub extern "C" fn hashbag_texts_most_common(
     counts: &mut [usize],
     n: &mut usize,
 ) -> u8
-    ensures read { IfTexts handle.old.held (λ bag. result ≡ 0 → HasReadMostCommonTexts bag n.new bytes.new ends.new counts.new) }
+    // If the result is 0: the first `n` of the k most common strings are written, in the same way; if that isn't all k, the next one has no place.
+    ensures read { OnTexts result handle.old.held (λ bag. HasMostCommonTexts bag n.new bytes.new ends.new counts.new) }
     ensures only { IfTexts handle.old.held (λ _. result ≢ 0 → result ≡ 1) }
-    ensures kind { IfNumbers handle.old.held (λ _. result ≡ KIND) }
-    ensures empty { handle.old.held ≡ None → result ≡ EMPTY }
+    ensures otherwise { UnlessTexts handle.old.held (λ code. result ≡ code) }
     ensures unchanged { handle.new.held ≡ handle.old.held }
-    ensures err { result ≢ 0 → (n.new ≡ n.old) × (bytes.new ≡ bytes.old) × (ends.new ≡ ends.old) × (counts.new ≡ counts.old) }
+    ensures failed { result ≢ 0 → n.new ≡ n.old }
+    ensures err { result ≢ 0 → (bytes.new ≡ bytes.old) × (ends.new ≡ ends.old) × (counts.new ≡ counts.old) }
 {
-    let Some(held) = handle.take(alloc) else {
-        return EMPTY;
-    };
-    let code = most_common(alloc, &held, bytes, ends, counts, n);
-    handle.put(held);
-    code
+    with_held!(alloc, handle, EMPTY, |held| match held {
+        Held::Numbers(_) => KIND,
+        Held::Texts(bag) => store!(read_most_common(alloc, bag, bytes, ends, counts), n),
+    })
 }

@@ -1,18 +1,28 @@
-//! A walk over a bag of byte strings that C holds.
-ghost use Rattle.std.specs.Prelude.{◌≡◌, ◌≢◌, ◌+◌, ◌<◌, ◌≤◌, length, take, drop, map, None, Some, IfErr, IfOk};
+//! A walk over a bag of byte strings that C holds. In clauses `held` is what a handle has: a bag of numbers, a bag of byte strings, or nothing.
+//! `left` is what a walk has: pairs of a byte string and its count that are left, pairs of numbers, or nothing.
+//! The result 1 is `HASHBAG_MEMORY`.
+//!
+//! - `IfTexts held P`: if `held` is a bag of byte strings, P holds of it.
+//! - `OnTexts result held P`: if `held` is a bag of byte strings and `result` is 0, P holds of the bag.
+//! - `UnlessTexts held P`: if `held` is no bag of byte strings, P holds of the number that says why: `EMPTY` (no bag) or `KIND` (the other kind).
+//! - `HasTextPairs left P`: the walk is over byte strings, and P holds of the pairs that are left. `IfTextPairs left P`: if it is, P holds of them.
+//! - `TextPairsTo left after P`: if the walk is over byte strings, it is so afterwards too, and P holds of the pairs before and of the pairs after.
+//! - `UnlessTextPairs left P`: if the walk isn't over byte strings, P holds.
+ghost use Rattle.std.specs.Prelude.{◌≡◌, ◌≢◌, drop, IfErr, IfOk};
 ghost use Rattle.std.specs.Str.{bytes_eq};
 ghost use Rattle.hashbag_core.specs.Walks.{IsSetWalkOf};
-ghost use Rattle.hashbag_c.specs.Calls.{IfNumbers, IfTexts};
-ghost use Rattle.hashbag_c.specs.Reads.{ends_from, BeginWithStrings};
-ghost use Rattle.hashbag_c.specs.Walked.{next_size, HasNextTexts, HasTextPairs, IfNumberPairs, IfTextPairs, HasNoPlaceForOneMore, TextPairsTo};
+ghost use Rattle.hashbag_c.specs.Calls.{IfTexts, OnTexts, UnlessTexts};
+ghost use Rattle.hashbag_c.specs.Reads.{HasWrittenTexts};
+ghost use Rattle.hashbag_c.specs.Walked.{next_size, HasNextTexts, HasTextPairs, IfTextPairs, TextPairsTo, UnlessTextPairs};
 
 use crate::any::{EMPTY, KIND};
 use crate::bytes::Bytes;
+use crate::entries::write_texts;
 use crate::handle::Handle;
-use crate::held::{Held, Left};
+use crate::held::{Held, Left, with_held};
 use crate::state::Keys;
-use crate::text_batches::put;
 use crate::walk::Walk;
+use crate::walks::drop_front;
 use hashbag_core::{BagError, HashBag};
 use std::alloc::Global;
 use std::collections::VecDeque;
@@ -32,21 +42,6 @@ fn pairs_of(alloc: Global, bag: &HashBag<Bytes, Keys>) -> Result<VecDeque<(Bytes
     Ok(pairs)
 }
 
-fn begin(alloc: Global, held: &Held, walk: &mut Walk) -> u8
-    ensures begun { IfTexts (Some held.now) (λ bag. result ≡ 0 → HasTextPairs walk.new.left (IsSetWalkOf bytes_eq bag)) }
-    ensures only { IfTexts (Some held.now) (λ _. result ≢ 0 → result ≡ 1) }
-    ensures kind { IfNumbers (Some held.now) (λ _. result ≡ KIND) }
-    ensures err { result ≢ 0 → walk.new.left ≡ walk.old.left }
-{
-    match held {
-        Held::Numbers(_) => KIND,
-        Held::Texts(bag) => match pairs_of(alloc, bag) {
-            Ok(pairs) => walk.begin(alloc, Left::Texts(pairs)),
-            Err(_) => 1,
-        },
-    }
-}
-
 /// Begins a walk over a bag of byte strings, and returns 0. The walk has a copy of all distinct strings with their counts, in no particular
 /// order, so the bag may change or be freed meanwhile. A walk that was there is freed. It makes an allocation for each string, one for their
 /// list, and one for the walk.
@@ -56,19 +51,20 @@ fn begin(alloc: Global, held: &Held, walk: &mut Walk) -> u8
 /// `HASHBAG_MEMORY` if an allocation fails; `HASHBAG_EMPTY`; `HASHBAG_KIND`. Nothing changes then.
 #[unsafe(no_mangle)]
 pub extern "C" fn hashbag_texts_walk(alloc: Global, handle: &mut Handle, walk: &mut Walk) -> u8
-    ensures begun { IfTexts handle.old.held (λ bag. result ≡ 0 → HasTextPairs walk.new.left (IsSetWalkOf bytes_eq bag)) }
+    // If the result is 0, the walk has each distinct byte string of the bag once, with its count.
+    ensures begun { OnTexts result handle.old.held (λ bag. HasTextPairs walk.new.left (IsSetWalkOf bytes_eq bag)) }
     ensures only { IfTexts handle.old.held (λ _. result ≢ 0 → result ≡ 1) }
-    ensures kind { IfNumbers handle.old.held (λ _. result ≡ KIND) }
-    ensures empty { handle.old.held ≡ None → result ≡ EMPTY }
+    ensures otherwise { UnlessTexts handle.old.held (λ code. result ≡ code) }
     ensures unchanged { handle.new.held ≡ handle.old.held }
     ensures err { result ≢ 0 → walk.new.left ≡ walk.old.left }
 {
-    let Some(held) = handle.take(alloc) else {
-        return EMPTY;
-    };
-    let code = begin(alloc, &held, walk);
-    handle.put(held);
-    code
+    with_held!(alloc, handle, EMPTY, |held| match held {
+        Held::Numbers(_) => KIND,
+        Held::Texts(bag) => match pairs_of(alloc, bag) {
+            Ok(pairs) => walk.begin(alloc, Left::Texts(pairs)),
+            Err(_) => 1,
+        },
+    })
 }
 
 // Writes the first strings, as many as there are places for, removes them, and returns how many.
@@ -78,42 +74,11 @@ fn write_next(
     ends: &mut [usize],
     counts: &mut [usize],
 ) -> usize
-    ensures few { result ≤ length pairs.old.items }
-    ensures bytes { BeginWithStrings bytes.new (take result pairs.old.items) }
-    ensures ends { take result ends.new ≡ ends_from 0 (take result pairs.old.items) }
-    ensures counts { take result counts.new ≡ map (λ e. e.1) (take result pairs.old.items) }
-    ensures most { HasNoPlaceForOneMore pairs.old.items result bytes.new ends.new counts.new }
-    ensures left { pairs.new.items ≡ drop result pairs.old.items }
+    ensures { HasNextTexts result bytes.new ends.new counts.new pairs.old.items pairs.new.items }
 {
-    let most = ends.len().min(counts.len());
-    let mut from: usize = 0;
-    for i in 0..most {
-        match pairs.front() {
-            Some(pair) => {
-                let value = pair.0.as_slice();
-                if value.len() > bytes.len() - from {
-                    return i;
-                }
-                put(bytes, from, value);
-                from += value.len();
-                ends[i] = from;
-                counts[i] = pair.1;
-                drop(pairs.pop_front());
-            }
-            None => return i,
-        }
-    }
-    most
-}
-
-fn next(left: &mut Left, bytes: &mut [u8], ends: &mut [usize], counts: &mut [usize]) -> usize
-    ensures next { TextPairsTo (Some left.old) (Some left.new) (λ pairs. HasNextTexts pairs result bytes.new ends.new counts.new) }
-    ensures kind { IfNumberPairs (Some left.old) (λ _. (result ≡ 0) × (left.new ≡ left.old)) }
-{
-    match left {
-        Left::Numbers(_) => 0,
-        Left::Texts(pairs) => write_next(pairs, bytes, ends, counts),
-    }
+    let n = write_texts(pairs.iter(), bytes, ends, counts);
+    drop_front(pairs, n);
+    n
 }
 
 /// Writes the next byte strings of a walk and their counts, as `hashbag_texts_read` does: as many as there are places for. Returns how many.
@@ -128,16 +93,15 @@ pub extern "C" fn hashbag_texts_next(
     ends: &mut [usize],
     counts: &mut [usize],
 ) -> usize
-    ensures next { TextPairsTo walk.old.left walk.new.left (λ pairs. HasNextTexts pairs result bytes.new ends.new counts.new) }
-    ensures kind { IfNumberPairs walk.old.left (λ _. (result ≡ 0) × (walk.new.left ≡ walk.old.left)) }
-    ensures empty { walk.old.left ≡ None → (result ≡ 0) × (walk.new.left ≡ None) }
+    // The first `result` pairs that were left are written, and the pairs after these are left. If a pair is left, the next one has no place. `bytes`
+    // begins with the strings one after another, `ends` with where each ends, `counts` with their counts.
+    ensures next { TextPairsTo walk.old.left walk.new.left (HasNextTexts result bytes.new ends.new counts.new) }
+    ensures otherwise { UnlessTextPairs walk.old.left ((result ≡ 0) × (walk.new.left ≡ walk.old.left)) }
 {
-    let Some(mut left) = walk.take(alloc) else {
-        return 0;
-    };
-    let n = next(&mut left, bytes, ends, counts);
-    walk.put(left);
-    n
+    with_held!(alloc, walk, 0, |mut left| match left {
+        Left::Numbers(_) => 0,
+        Left::Texts(pairs) => write_next(pairs, bytes, ends, counts),
+    })
 }
 
 // The number of bytes of the first string, 0 if there is none.
@@ -150,29 +114,17 @@ fn front_len(pairs: &VecDeque<(Bytes, usize)>) -> usize
     }
 }
 
-fn next_len(left: &Left) -> usize
-    ensures next { IfTextPairs (Some left.now) (λ pairs. result ≡ next_size pairs) }
-    ensures kind { IfNumberPairs (Some left.now) (λ _. result ≡ 0) }
-{
-    match left {
-        Left::Numbers(_) => 0,
-        Left::Texts(pairs) => front_len(pairs),
-    }
-}
-
 /// Returns how many bytes the next byte string of a walk has, which `hashbag_texts_next` needs places for to write it. It is 0 at the end, or
 /// if the walk isn't one over byte strings.
 #[unsafe(no_mangle)]
 pub extern "C" fn hashbag_texts_next_len(alloc: Global, walk: &mut Walk) -> usize
+    // `next_size` is how many bytes the first string of the pairs has, 0 without pairs.
     ensures next { IfTextPairs walk.old.left (λ pairs. result ≡ next_size pairs) }
-    ensures kind { IfNumberPairs walk.old.left (λ _. result ≡ 0) }
-    ensures empty { walk.old.left ≡ None → result ≡ 0 }
+    ensures otherwise { UnlessTextPairs walk.old.left (result ≡ 0) }
     ensures unchanged { walk.new.left ≡ walk.old.left }
 {
-    let Some(left) = walk.take(alloc) else {
-        return 0;
-    };
-    let n = next_len(&left);
-    walk.put(left);
-    n
+    with_held!(alloc, walk, 0, |left| match left {
+        Left::Numbers(_) => 0,
+        Left::Texts(pairs) => front_len(pairs),
+    })
 }

@@ -1,35 +1,25 @@
-//! Calls on a bag of byte strings. In clauses `held` is the bag of a handle. `IfTexts` says what holds if it is one of byte strings, and
-//! `HasTexts` also that it is.
-ghost use Rattle.std.specs.Prelude.{◌≡◌, ◌≢◌, ◌+◌, ◌-◌, ◌<◌, ◌≤◌, ◌↔◌, ◌⊎◌, [], length, None, Some, IsOk, IfErr, OnOk, OnErr};
+//! Calls on a bag of byte strings. In clauses `held` is what a handle has: a bag of numbers, a bag of byte strings, or nothing.
+//! The results 1 and 2 are `HASHBAG_MEMORY` and `HASHBAG_TOO_MANY`.
+//!
+//! - `IfTexts held P`: if `held` is a bag of byte strings, P holds of it.
+//! - `HasTexts held P`: `held` is a bag of byte strings, and P holds of it.
+//! - `OnTexts result held P`: if `held` is a bag of byte strings and `result` is 0, P holds of the bag.
+//! - `TextsTo held after P`: if `held` is a bag of byte strings, `after` is one too, and P holds of both.
+//! - `UnlessTexts held P`: if `held` is no bag of byte strings, P holds of the number that says why: `EMPTY` (no bag) or `KIND` (the other kind).
+//! - `occurs bytes bag` is the count of the byte string with these bytes, and `named bytes` the test for it.
+ghost use Rattle.std.specs.Prelude.{◌≡◌, ◌≢◌, ◌+◌, ◌-◌, ◌<◌, ◌≤◌, ◌↔◌, ◌⊎◌, [], length, IsOk, IfErr, OnOk, OnErr};
 ghost use Rattle.std.specs.Str.{bytes_eq};
 ghost use Rattle.hashbag_core.specs.Held.{HasFewer};
-ghost use Rattle.hashbag_core.specs.Keys.{InsertsNamed};
-ghost use Rattle.hashbag_core.specs.Occurrences.{count_named};
-ghost use Rattle.hashbag_c.specs.Calls.{named, occurs, HasTexts, IfNumbers, IfTexts, TextsTo};
-ghost use Rattle.hashbag_c.specs.Whole.{LosesAll, Overfills, SetsNamed, CanHold, IsEmptyWithKeys, TotalChangesAs};
+ghost use Rattle.hashbag_c.specs.Calls.{named, occurs, HasTexts, IfTexts, OnTexts, TextsTo, UnlessTexts};
+ghost use Rattle.hashbag_c.specs.Whole.{CanHold, CanSet, InsertsText, IsEmptyWithKeys, LosesAll, Overfills, SetsNamed, ShrinksBy, TotalFollows};
 
 use crate::any::{EMPTY, KIND};
 use crate::bytes::{Bytes, Name};
 use crate::handle::Handle;
-use crate::held::Held;
+use crate::held::{Held, store, with_held};
 use crate::state::Keys;
 use hashbag_core::{BagError, HashBag};
 use std::alloc::Global;
-
-fn fill(alloc: Global, handle: &mut Handle, state: Keys, most: usize) -> u8
-    ensures made { result ≡ 0 → HasTexts handle.new.held (λ bag. (bag.items ≡ []) × (bag.most ≡ most) × (bag.hasher ≡ state)) }
-    ensures memory { result ≢ 0 → result ≡ 1 }
-    ensures err { result ≢ 0 → handle.new.held ≡ handle.old.held }
-{
-    let bag: HashBag<Bytes, Keys> = HashBag::with_limit(alloc, state, most);
-    match Box::new(alloc, Held::Texts(bag)) {
-        Ok(held) => {
-            *handle = Handle::of(held);
-            0
-        }
-        Err(_) => 1,
-    }
-}
 
 /// Puts into the handle an empty bag of byte strings, whose total is at most `most`, and returns 0. The bag that the handle had is freed.
 ///
@@ -44,10 +34,12 @@ pub extern "C" fn hashbag_texts_new(alloc: Global, handle: &mut Handle, most: us
     ensures memory { result ≢ 0 → result ≡ 1 }
     ensures err { result ≢ 0 → handle.new.held ≡ handle.old.held }
 {
-    fill(alloc, handle, Keys { key0: 0, key1: 0 }, most)
+    let keys = Keys { key0: 0, key1: 0 };
+    handle.begin(alloc, Held::Texts(HashBag::with_limit(alloc, keys, most)))
 }
 
-/// Does the same with two keys of SipHash, which the caller draws at random: then nobody can choose byte strings that collide.
+/// Does the same as `hashbag_texts_new`, with two keys of SipHash, which the caller draws at random: then nobody can choose byte strings
+/// that collide.
 ///
 /// # Errors
 ///
@@ -64,29 +56,8 @@ pub extern "C" fn hashbag_texts_new_keyed(
     ensures memory { result ≢ 0 → result ≡ 1 }
     ensures err { result ≢ 0 → handle.new.held ≡ handle.old.held }
 {
-    fill(alloc, handle, Keys { key0, key1 }, most)
-}
-
-fn insert(held: &mut Held, value: &[u8], n: usize, before: &mut usize) -> u8
-    ensures inserted { 0 < n → result ≡ 0 → TextsTo (Some held.old) (Some held.new) (InsertsNamed bytes_eq (named value.now) n) }
-    ensures none { n ≡ 0 → IfTexts (Some held.old) (λ _. (result ≡ 0) × (held.new ≡ held.old)) }
-    ensures before { IfTexts (Some held.old) (λ bag. result ≡ 0 → before.new ≡ occurs value.now bag) }
-    ensures too_many { IfTexts (Some held.old) (λ bag. (result ≡ 2) ↔ (Overfills bag n)) }
-    ensures present { IfTexts (Some held.old) (λ bag. length bag.items + n ≤ bag.most → 0 < occurs value.now bag → result ≡ 0) }
-    ensures only { IfTexts (Some held.old) (λ _. result ≢ 0 → (result ≡ 1) ⊎ (result ≡ 2)) }
-    ensures kind { IfNumbers (Some held.old) (λ _. result ≡ KIND) }
-    ensures err { result ≢ 0 → (held.new ≡ held.old) × (before.new ≡ before.old) }
-{
-    match held {
-        Held::Numbers(_) => KIND,
-        Held::Texts(bag) => match bag.insert_many_key(Name { bytes: value }, n) {
-            Ok(count) => {
-                *before = count;
-                0
-            }
-            Err(error) => error.number(),
-        },
-    }
+    let keys = Keys { key0, key1 };
+    handle.begin(alloc, Held::Texts(HashBag::with_limit(alloc, keys, most)))
 }
 
 /// Inserts `n` occurrences of a byte string, writes the count before, and returns 0. With 0 nothing changes. The bytes are copied if the
@@ -104,60 +75,39 @@ pub extern "C" fn hashbag_texts_insert(
     n: usize,
     before: &mut usize,
 ) -> u8
-    ensures inserted { 0 < n → result ≡ 0 → TextsTo handle.old.held handle.new.held (InsertsNamed bytes_eq (named value.now) n) }
+    // If `n` isn't 0 and the result is 0, `n` of the byte string were inserted.
+    ensures inserted { 0 < n → result ≡ 0 → TextsTo handle.old.held handle.new.held (InsertsText value.now n) }
+
+    // With `n` 0 it succeeds, and nothing changes.
     ensures none { n ≡ 0 → IfTexts handle.old.held (λ _. (result ≡ 0) × (handle.new.held ≡ handle.old.held)) }
-    ensures before { IfTexts handle.old.held (λ bag. result ≡ 0 → before.new ≡ occurs value.now bag) }
+    ensures before { OnTexts result handle.old.held (λ bag. before.new ≡ occurs value.now bag) }
+
+    // The result is 2 exactly if the total with `n` more would pass the limit.
     ensures too_many { IfTexts handle.old.held (λ bag. (result ≡ 2) ↔ (Overfills bag n)) }
-    ensures present { IfTexts handle.old.held (λ bag. length bag.items + n ≤ bag.most → 0 < occurs value.now bag → result ≡ 0) }
+
+    // The result is 0 if `n` more are within the limit, and the byte string is present.
+    ensures present { IfTexts handle.old.held (λ bag. CanHold bag n → 0 < occurs value.now bag → result ≡ 0) }
     ensures only { IfTexts handle.old.held (λ _. result ≢ 0 → (result ≡ 1) ⊎ (result ≡ 2)) }
-    ensures kind { IfNumbers handle.old.held (λ _. result ≡ KIND) }
-    ensures empty { handle.old.held ≡ None → result ≡ EMPTY }
+    ensures otherwise { UnlessTexts handle.old.held (λ code. result ≡ code) }
     ensures err { result ≢ 0 → (handle.new.held ≡ handle.old.held) × (before.new ≡ before.old) }
 {
-    let Some(mut held) = handle.take(alloc) else {
-        return EMPTY;
-    };
-    let code = insert(&mut held, value, n, before);
-    handle.put(held);
-    code
-}
-
-fn contains(held: &Held, value: &[u8]) -> usize
-    ensures count { IfTexts (Some held.now) (λ bag. result ≡ occurs value.now bag) }
-    ensures kind { IfNumbers (Some held.now) (λ _. result ≡ 0) }
-{
-    match held {
-        Held::Numbers(_) => 0,
-        Held::Texts(bag) => bag.contains(Name { bytes: value }),
-    }
+    with_held!(alloc, handle, EMPTY, |mut held| match held {
+        Held::Numbers(_) => KIND,
+        Held::Texts(bag) => store!(bag.insert_many_key(Name { bytes: value }, n), before),
+    })
 }
 
 /// Returns the count of a byte string, 0 if it is absent or the handle has no bag of byte strings.
 #[unsafe(no_mangle)]
 pub extern "C" fn hashbag_texts_contains(alloc: Global, handle: &mut Handle, value: &[u8]) -> usize
     ensures count { IfTexts handle.old.held (λ bag. result ≡ occurs value.now bag) }
-    ensures kind { IfNumbers handle.old.held (λ _. result ≡ 0) }
-    ensures empty { handle.old.held ≡ None → result ≡ 0 }
+    ensures otherwise { UnlessTexts handle.old.held (λ _. result ≡ 0) }
     ensures unchanged { handle.new.held ≡ handle.old.held }
 {
-    let Some(held) = handle.take(alloc) else {
-        return 0;
-    };
-    let count = contains(&held, value);
-    handle.put(held);
-    count
-}
-
-fn remove(held: &mut Held, value: &[u8], n: usize) -> usize
-    ensures after { IfTexts (Some held.old) (λ bag. result ≡ occurs value.now bag - n) }
-    ensures fewer { TextsTo (Some held.old) (Some held.new) (HasFewer bytes_eq (named value.now) n) }
-    ensures len { TextsTo (Some held.old) (Some held.new) (λ bag after. TotalChangesAs (occurs value.now bag) result bag after) }
-    ensures kind { IfNumbers (Some held.old) (λ _. held.new ≡ held.old) }
-{
-    match held {
+    with_held!(alloc, handle, 0, |held| match held {
         Held::Numbers(_) => 0,
-        Held::Texts(bag) => bag.remove_up_to(Name { bytes: value }, n),
-    }
+        Held::Texts(bag) => bag.contains(Name { bytes: value }),
+    })
 }
 
 /// Removes `n` occurrences of a byte string, or all if there are fewer, and returns the count after. It is 0 if the handle has no bag of
@@ -170,50 +120,38 @@ pub extern "C" fn hashbag_texts_remove(
     n: usize,
 ) -> usize
     ensures after { IfTexts handle.old.held (λ bag. result ≡ occurs value.now bag - n) }
-    ensures fewer { TextsTo handle.old.held handle.new.held (HasFewer bytes_eq (named value.now) n) }
-    ensures len { TextsTo handle.old.held handle.new.held (λ bag after. TotalChangesAs (occurs value.now bag) result bag after) }
-    ensures kind { IfNumbers handle.old.held (λ _. handle.new.held ≡ handle.old.held) }
-    ensures empty { handle.old.held ≡ None → handle.new.held ≡ None }
-{
-    let Some(mut held) = handle.take(alloc) else {
-        return 0;
-    };
-    let left = remove(&mut held, value, n);
-    handle.put(held);
-    left
-}
 
-fn take_all(held: &mut Held, value: &[u8]) -> usize
-    ensures before { IfTexts (Some held.old) (λ bag. result ≡ occurs value.now bag) }
-    ensures fewer { TextsTo (Some held.old) (Some held.new) (LosesAll bytes_eq (named value.now)) }
-    ensures len { TextsTo (Some held.old) (Some held.new) (λ bag after. length after.items + result ≡ length bag.items) }
-    ensures kind { IfNumbers (Some held.old) (λ _. (result ≡ 0) × (held.new ≡ held.old)) }
+    // The bag lost `n` of the byte string, or all if there were fewer, and nothing else. Limit and keys are the same, and there is no less room.
+    ensures fewer { TextsTo handle.old.held handle.new.held (HasFewer bytes_eq (named value.now) n) }
+
+    // The total fell by as many as the count of the byte string did.
+    ensures len { TextsTo handle.old.held handle.new.held (TotalFollows (named value.now) result) }
+    ensures otherwise { UnlessTexts handle.old.held (λ _. (result ≡ 0) × (handle.new.held ≡ handle.old.held)) }
 {
-    match held {
+    with_held!(alloc, handle, 0, |mut held| match held {
         Held::Numbers(_) => 0,
-        Held::Texts(bag) => {
-            let count = bag.contains(Name { bytes: value });
-            bag.remove_up_to(Name { bytes: value }, count);
-            count
-        }
-    }
+        Held::Texts(bag) => bag.remove_up_to(Name { bytes: value }, n),
+    })
 }
 
 /// Removes all occurrences of a byte string, and returns how many there were. It is 0 if the handle has no bag of byte strings.
 #[unsafe(no_mangle)]
 pub extern "C" fn hashbag_texts_take_all(alloc: Global, handle: &mut Handle, value: &[u8]) -> usize
     ensures before { IfTexts handle.old.held (λ bag. result ≡ occurs value.now bag) }
+
+    // The bag lost all occurrences of the byte string, and nothing else. The total fell by `result`.
     ensures fewer { TextsTo handle.old.held handle.new.held (LosesAll bytes_eq (named value.now)) }
-    ensures len { TextsTo handle.old.held handle.new.held (λ bag after. length after.items + result ≡ length bag.items) }
-    ensures kind { IfNumbers handle.old.held (λ _. (result ≡ 0) × (handle.new.held ≡ handle.old.held)) }
-    ensures empty { handle.old.held ≡ None → (result ≡ 0) × (handle.new.held ≡ None) }
+    ensures len { TextsTo handle.old.held handle.new.held (ShrinksBy result) }
+    ensures otherwise { UnlessTexts handle.old.held (λ _. (result ≡ 0) × (handle.new.held ≡ handle.old.held)) }
 {
-    let Some(mut held) = handle.take(alloc) else {
-        return 0;
-    };
-    let before = take_all(&mut held, value);
-    handle.put(held);
-    before
+    with_held!(alloc, handle, 0, |mut held| match held {
+        Held::Numbers(_) => 0,
+        Held::Texts(bag) => {
+            let count = bag.contains(Name { bytes: value });
+            bag.remove_up_to(Name { bytes: value }, count);
+            count
+        }
+    })
 }
 
 // Sets the count of a byte string, of which there are `before`.
@@ -241,31 +179,6 @@ pub(crate) fn recount(
     Ok(())
 }
 
-fn set_count(held: &mut Held, value: &[u8], n: usize, before: &mut usize) -> u8
-    ensures set { result ≡ 0 → TextsTo (Some held.old) (Some held.new) (SetsNamed bytes_eq (named value.now) n) }
-    ensures before { IfTexts (Some held.old) (λ bag. result ≡ 0 → before.new ≡ occurs value.now bag) }
-    ensures too_many { IfTexts (Some held.old) (λ bag. (result ≡ 2) ↔ (Overfills bag (n - occurs value.now bag))) }
-    ensures present { IfTexts (Some held.old) (λ bag. CanHold bag (n - occurs value.now bag) → 0 < occurs value.now bag → result ≡ 0) }
-    ensures none { n ≡ 0 → IfTexts (Some held.old) (λ _. result ≡ 0) }
-    ensures only { IfTexts (Some held.old) (λ _. result ≢ 0 → (result ≡ 1) ⊎ (result ≡ 2)) }
-    ensures kind { IfNumbers (Some held.old) (λ _. result ≡ KIND) }
-    ensures err { result ≢ 0 → (held.new ≡ held.old) × (before.new ≡ before.old) }
-{
-    match held {
-        Held::Numbers(_) => KIND,
-        Held::Texts(bag) => {
-            let count = bag.contains(Name { bytes: value });
-            match recount(bag, value, count, n) {
-                Ok(()) => {
-                    *before = count;
-                    0
-                }
-                Err(error) => error.number(),
-            }
-        }
-    }
-}
-
 /// Sets the count of a byte string to `n`, writes the count before, and returns 0. With 0 the string is removed. The bytes are copied if the
 /// string is absent.
 ///
@@ -281,20 +194,31 @@ pub extern "C" fn hashbag_texts_set_count(
     n: usize,
     before: &mut usize,
 ) -> u8
+    // If the result is 0: what the count lacked to `n` was inserted, or what it had above `n` was removed.
     ensures set { result ≡ 0 → TextsTo handle.old.held handle.new.held (SetsNamed bytes_eq (named value.now) n) }
-    ensures before { IfTexts handle.old.held (λ bag. result ≡ 0 → before.new ≡ occurs value.now bag) }
+    ensures before { OnTexts result handle.old.held (λ bag. before.new ≡ occurs value.now bag) }
+
+    // The result is 2 exactly if the total with what is inserted would pass the limit. `n - occurs ..` is 0 if the count isn't below `n`.
     ensures too_many { IfTexts handle.old.held (λ bag. (result ≡ 2) ↔ (Overfills bag (n - occurs value.now bag))) }
-    ensures present { IfTexts handle.old.held (λ bag. CanHold bag (n - occurs value.now bag) → 0 < occurs value.now bag → result ≡ 0) }
+
+    // The result is 0 if the byte string is present and the total with what is inserted is within the limit; and if `n` is 0.
+    ensures present { IfTexts handle.old.held (λ bag. CanSet value.now n bag → 0 < occurs value.now bag → result ≡ 0) }
     ensures none { n ≡ 0 → IfTexts handle.old.held (λ _. result ≡ 0) }
     ensures only { IfTexts handle.old.held (λ _. result ≢ 0 → (result ≡ 1) ⊎ (result ≡ 2)) }
-    ensures kind { IfNumbers handle.old.held (λ _. result ≡ KIND) }
-    ensures empty { handle.old.held ≡ None → result ≡ EMPTY }
+    ensures otherwise { UnlessTexts handle.old.held (λ code. result ≡ code) }
     ensures err { result ≢ 0 → (handle.new.held ≡ handle.old.held) × (before.new ≡ before.old) }
 {
-    let Some(mut held) = handle.take(alloc) else {
-        return EMPTY;
-    };
-    let code = set_count(&mut held, value, n, before);
-    handle.put(held);
-    code
+    with_held!(alloc, handle, EMPTY, |mut held| match held {
+        Held::Numbers(_) => KIND,
+        Held::Texts(bag) => {
+            let count = bag.contains(Name { bytes: value });
+            match recount(bag, value, count, n) {
+                Ok(()) => {
+                    *before = count;
+                    0
+                }
+                Err(error) => error.number(),
+            }
+        }
+    })
 }

@@ -66,7 +66,7 @@ impl Walk {
         Walk::of_raw(RawBox::of(left))
     }
 
-    /// Returns the box.
+    /// Returns the box, or `None` if the walk has nothing.
     pub fn into_box(self) -> Option<Box<Left>>
         ensures { MatchOption result (self.left ≡ None) (λ left. self.left ≡ Some left.value) }
     {
@@ -76,7 +76,7 @@ impl Walk {
         }
     }
 
-    /// Takes the box out, and leaves nothing.
+    /// Takes the box out, and leaves nothing. Returns `None` if nothing is there.
     pub fn take(&mut self, alloc: Global) -> Option<Box<Left>>
         ensures taken { MatchOption result (self.old.left ≡ None) (λ left. self.old.left ≡ Some left.value) }
         ensures left_empty { self.new.left ≡ None }

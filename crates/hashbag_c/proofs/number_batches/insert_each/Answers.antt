@@ -18,9 +18,11 @@ loop-value-preserved c = record {
 }
 
 pub returns-clause-counts : goal.returns-clause-counts
-returns-clause-counts c = λ v. c.loop-value.invariant.counts v ∙ ap (λ (k : ℕ). count nat_eq v c.args.bag.now.items + count nat_eq v (take k c.args.values.now)) (sym c.loop-value.invariant.done)
+returns-clause-counts c = record { counts = λ v. c.loop-value.invariant.counts v ∙ ap (λ (k : ℕ). count nat_eq v c.args.bag.now.items + count nat_eq v (take k c.args.values.now)) (sym c.loop-value.invariant.done) }
 
 pub returns-in_err-insert-clause-counts : goal.returns-in_err-insert-clause-counts
-returns-in_err-insert-clause-counts c = λ v.
-    ap (λ (bag : Bag ℕ State). count nat_eq v bag.items) c.in_err-insert.ensures.err ∙ c.loop-value.invariant.counts v
-    ∙ ap (λ (k : ℕ). count nat_eq v c.args.bag.now.items + count nat_eq v (take k c.args.values.now)) (sym c.loop-value.invariant.done)
+returns-in_err-insert-clause-counts c = record {
+  counts = λ v.
+      ap (λ (bag : Bag ℕ State). count nat_eq v bag.items) c.in_err-insert.ensures.err ∙ c.loop-value.invariant.counts v
+      ∙ ap (λ (k : ℕ). count nat_eq v c.args.bag.now.items + count nat_eq v (take k c.args.values.now)) (sym c.loop-value.invariant.done);
+}

@@ -18,7 +18,9 @@ loop-end-preserved c = record {
 }
 
 pub returns-clause-counts : goal.returns-clause-counts
-returns-clause-counts c = λ v.
-    let all = c.loop-end.invariant.counts v in
-    let none = at_drop_all (λ (l : List ℕ). count bytes_eq v (pieces_from c.loop-end.from c.args.bytes.now l)) c.args.ends.now c.loop-end.end-index (omega arith) in
-    omega arith
+returns-clause-counts c = record {
+  counts = λ v.
+      let all = c.loop-end.invariant.counts v in
+      let none = at_drop_all (λ (l : List ℕ). count bytes_eq v (pieces_from c.loop-end.from c.args.bytes.now l)) c.args.ends.now c.loop-end.end-index (omega arith) in
+      omega arith;
+}

@@ -30,9 +30,11 @@ loop-at-preserved c = record {
 }
 
 pub returns-clause-counts : goal.returns-clause-counts
-returns-clause-counts c = λ v.
-    let bytes = c.args.bytes.now in let at = c.loop-at.at in
-    let last = split_last c.args.separator bytes c.loop-at.from at (omega arith) (omega arith) in
-    let one = counts_with_rest c.loop-at.bag c.insert_key-2.new.self v (slice_range bytes c.loop-at.from (length bytes)) [] c.in_ok-insert_key-2.ensures.inserted in
-    let whole = ap (λ (l : List (List ℕ)). count bytes_eq v c.loop-at.bag.items + count bytes_eq v l) (sym last) ∙ c.loop-at.invariant.counts v in
-    omega arith
+returns-clause-counts c = record {
+  counts = λ v.
+      let bytes = c.args.bytes.now in let at = c.loop-at.at in
+      let last = split_last c.args.separator bytes c.loop-at.from at (omega arith) (omega arith) in
+      let one = counts_with_rest c.loop-at.bag c.insert_key-2.new.self v (slice_range bytes c.loop-at.from (length bytes)) [] c.in_ok-insert_key-2.ensures.inserted in
+      let whole = ap (λ (l : List (List ℕ)). count bytes_eq v c.loop-at.bag.items + count bytes_eq v l) (sym last) ∙ c.loop-at.invariant.counts v in
+      omega arith;
+}

@@ -40,8 +40,9 @@ use Rattle.std_heap.specs.contracts.GlobalAllocator.TheImpl.{ghosts}
 use Rattle.hashbag_c.specs.Own.{owned_left}
 use Rattle.hashbag_c.specs.contracts.held.Left as Left
 use Rattle.hashbag_c.specs.contracts.raw_box.RawBox as RawBox
-use Rattle.hashbag_c.proofs.AsLeftBox.{E, FromWalk as From}
-use Rattle.hashbag_c.proofs.WalkSteps.{Row, Z, both, walk_out, tested}
+use Rattle.hashbag_c.proofs.AsBox.{LeftE as E, FromWalk as From}
+use Rattle.hashbag_c.proofs.HandleSteps.{Z, both, tested}
+use Rattle.hashbag_c.proofs.WalkSteps.{Row, walk_out}
 use Rattle.hashbag_c.specs.contracts.walk.Walk.into_raw as F
 use Rattle.hashbag_c.specs.contracts.walk.Walk.into_raw.Key.{name as #self}
 use Rattle.hashbag_c.proofs.walk.Walk.into_raw.Statement as stated
@@ -90,7 +91,7 @@ module _ {M : Type 1} {𝓤 : Ura M} (𝓛 : Logic 𝓤) (at_mem : Memory → SP
         let w : Val = word E h b o in let typed = box_typed E h b o fits in let v₁ : Val = live 1 (vcons w vnil) in
         let d : D E = record { ptr = p; alloc = a; value = x } in let made : Lr.Denot = record { ptr = p; alloc = a; value = x } in
         let good : Good (layout Out) v₁ = (and_tt _ typed.0, (record { fits = lit< tt }, (typed.1, tt))) in
-        qed 𝓛 (‵ Owned ∷ ‵ (Z.own_val a (h ∷ [])) ∷ []) ∵ use1 𝓛 (given (Testable p) (‵ Owned)) (tested 𝓛 a p x) $ learn ! (λ t. fsplit ! $
+        qed 𝓛 (‵ Owned ∷ ‵ (Z.own_val a (h ∷ [])) ∷ []) ∵ use1 𝓛 (given (Testable p) (‵ Owned)) (tested 𝓛 Left.the_row a p x) $ learn ! (λ t. fsplit ! $
         box_in E ! d b o x refl refl $ use1 𝓛 (‵ (Lr.own_val made (w ∷ []))) (id⊢ 𝓤 _) $ use1 𝓛 (‵ (Out.own_val (Some made) (v₁ ∷ []))) (Some-of 𝓛 Lr made w) $
         enter ! 𝓣.C 𝓣.Λ code.function (w ∷ []) _ $
         alloc_all ! (λ l. pass_all ! refl (typed, tt) $ let Ev = env code.function.locals l in

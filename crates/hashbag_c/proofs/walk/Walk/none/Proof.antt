@@ -18,8 +18,9 @@ use Rattle.core.proofs.alloc.Calls.{handle_tells}
 use Rattle.std.proofs.raw_atomic.Walks.{proved_at}
 use Rattle.std.specs.declared.option.Option.TheVariants.{None}
 use Rattle.std_alloc.proofs.ResultValues.{and_tt}
-use Rattle.hashbag_c.proofs.AsLeftBox.{E}
-use Rattle.hashbag_c.proofs.WalkSteps.{Row, Z, both, walk_in}
+use Rattle.hashbag_c.proofs.AsBox.{LeftE as E}
+use Rattle.hashbag_c.proofs.HandleSteps.{Z, both}
+use Rattle.hashbag_c.proofs.WalkSteps.{Row, walk_in}
 use Rattle.hashbag_c.specs.contracts.walk.Walk.none as F
 use Rattle.hashbag_c.specs.contracts.walk.Walk.none.Key.{name as #self}
 use Rattle.hashbag_c.proofs.walk.Walk.none.Statement.{statement}

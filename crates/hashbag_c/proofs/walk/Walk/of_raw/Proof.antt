@@ -26,7 +26,7 @@ use denote.Triple.Walked.{says, Stays, stay_dropped, walk_of, ends_at, Goes-drop
 use Rattle.std.specs.declared.option.Option.TheVariants.{Some}
 use Rattle.std_alloc.proofs.BoxSteps.Form.{D, B, word, box_typed}
 use Rattle.std_alloc.proofs.BoxSteps.Steps.{box_out, box_in}
-use Rattle.hashbag_c.proofs.AsLeftBox.{E, FromRaw as From}
+use Rattle.hashbag_c.proofs.AsBox.{LeftE as E, FromLeftRaw as From}
 use Rattle.hashbag_c.specs.contracts.walk.Walk.of_raw as F
 use Rattle.hashbag_c.specs.contracts.walk.Walk.of_raw.Key.{name as #self}
 use Rattle.hashbag_c.proofs.walk.Walk.of_raw.Statement as stated
