@@ -62,6 +62,7 @@ Every public type and call of `hashbag`, by task. `ops::sum` is `hashbag::ops::s
 An entry has the signature, the first paragraph of the doc comment, its sections on errors and cost if it has them, and the names of the
 clauses of the contract, by which a proof speaks of them. The file that the entry names has the clauses, and for most calls an example, which
 the gate runs. [CALLING](../prove/CALLING.md) says how a caller uses them. In this list a call without a type or module before its name is one of `HashBag`.
+A bag of any type of `serde` is saved without these calls, as [serde_rows](../../beside/crates/hashbag_cookbook/src/serde_rows.rs) does.
 """
 
 faults = []

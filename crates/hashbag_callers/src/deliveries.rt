@@ -1,4 +1,4 @@
-//! Callers to copy: two deliveries that are matched. A `for` or a `fold` uses up a join, or only the first item of a join is read.
+//! Callers to copy: two deliveries that are matched. One caller reads the first item of a join, one loops over a join, one folds it.
 //!
 //! The bags are taken by reference. A function that owns two bags, whose hash states are type parameters, lends them to a function like
 //! these: it can't pass a join of its own bags on by value.
@@ -19,11 +19,12 @@ pub fn is_complete<T: Eq + Hash + Drop, S: BuildHasher + Drop, S2: BuildHasher +
     ordered.difference(delivered).next().is_none()
 }
 
-/// Returns how many more of any one article were delivered than ordered, at most, by a loop over the difference.
+/// Returns the greatest surplus: of each article, how many more were delivered than ordered. It loops over the difference.
 pub fn greatest_surplus<T: Eq + Hash + Drop, S: BuildHasher + Drop, S2: BuildHasher + Drop>(
     delivered: &HashBag<T, S>,
     ordered: &HashBag<T, S2>,
 ) -> usize
+    // No count in `delivered` is more than `result` above the count in `ordered`. If `result` isn't 0, some count is exactly `result` above.
     ensures { IsGreatestSurplus T.eq delivered.now.items ordered.now.items result }
 {
     let mut greatest = 0;
@@ -38,6 +39,7 @@ pub fn greatest_surplus_by_fold<T: Eq + Hash + Drop, S: BuildHasher + Drop, S2: 
     delivered: &HashBag<T, S>,
     ordered: &HashBag<T, S2>,
 ) -> usize
+    // No count in `delivered` is more than `result` above the count in `ordered`. If `result` isn't 0, some count is exactly `result` above.
     ensures { IsGreatestSurplus T.eq delivered.now.items ordered.now.items result }
 {
     delivered

@@ -34,7 +34,7 @@ pub fn both_trees<T: JsonItem + Ord + Hash + Drop, S: BuildHasher + Drop>(
     ensures same_trees { IfOk result (λ trees. ((bag_eq T.eq a.now b.now ≡ true) × (a.now.most ≡ b.now.most)) ↔ (view trees.0 ≡ view trees.1)) }
     ensures memory { IfErr result (λ e. e ≡ BagError.Memory) }
 {
-    // The clauses of `a.to_value` speak of any other bag. The contract of `len` says that `b` is a bag.
+    // The clause `same` of `a.to_value` is about the tree of any second bag. The contract of `len` states `IsBag` of `b`.
     let _len = b.len();
     let first = a.to_value(alloc)?;
     let second = b.to_value(alloc)?;

@@ -3,6 +3,7 @@
 //! Each clause follows from the contracts of the calls alone, by the lemmas of `CallerLemmas`.
 ghost use Rattle.std.specs.Prelude.{◌≡◌, ◌+◌, ◌<◌, ◌≤◌, ◌↔◌, min, false, length, IsTrue, OnOk, OnErr, IfOk, IfSome};
 ghost use Rattle.std.specs.Bool.{OnTrue, OnFalse};
+ghost use Rattle.hashbag.specs.Bag.{IsPresent};
 ghost use Rattle.hashbag.specs.Occurrences.{count, instance_or_itself};
 ghost use Rattle.hashbag_callers.specs.Ledger.{ChangesOnly};
 
@@ -52,6 +53,8 @@ pub fn sell_out<T: Eq + Hash + Drop, S: BuildHasher + Drop>(
 ) -> Option<T>
     ensures none_left { count T.eq article.now stock.new.items ≡ 0 }
     ensures there { IfSome result (λ _. 0 < count T.eq article.now stock.old.items) }
+
+    // The last one is the instance that was stored.
     ensures last { IfSome result (λ last. last ≡ instance_or_itself T.eq article.now stock.old.items) }
     ensures absent { result ≡ None → count T.eq article.now stock.old.items ≡ 0 }
     ensures len { length stock.new.items + count T.eq article.now stock.old.items ≡ length stock.old.items }
@@ -84,6 +87,8 @@ pub fn list<T: Eq + Hash + Drop, S: BuildHasher + Drop>(
     article: T,
 ) -> Result<usize, BagError>
     ensures there { IfOk result (λ after. 0 < after) }
+
+    // The article has the count `after`, and every other value its count before.
     ensures listed { IfOk result (λ after. ChangesOnly T.eq article after stock.old stock.new) }
     ensures occupied { 0 < count T.eq article stock.old.items → result ≡ Ok (count T.eq article stock.old.items) }
     ensures vacant { count T.eq article stock.old.items ≡ 0 → IfOk result (λ after. after ≡ 1) }
@@ -98,7 +103,8 @@ pub fn recount<T: Eq + Hash + Drop, S: BuildHasher + Drop>(
     article: T,
     found: usize,
 ) -> Result<(), BagError>
-    ensures present { OnOk result (0 < count T.eq article stock.old.items → ChangesOnly T.eq article found stock.old stock.new) }
+    // If the article was present, it has the count `found`, and every other value its count before.
+    ensures present { OnOk result (IsPresent T.eq article stock.old → ChangesOnly T.eq article found stock.old stock.new) }
     ensures absent { OnOk result (count T.eq article stock.old.items ≡ 0 → stock.new ≡ stock.old) }
     ensures err { OnErr result (stock.new ≡ stock.old) }
 {
@@ -118,6 +124,8 @@ pub fn keep_one<T: Eq + Hash + Drop, S: BuildHasher + Drop>(
     article: T,
 ) -> Result<usize, BagError>
     ensures before { IfOk result (λ before. before ≡ count T.eq article stock.old.items) }
+
+    // The article has the count 1, and every other value its count before.
     ensures one { OnOk result (ChangesOnly T.eq article 1 stock.old stock.new) }
     ensures err { OnErr result (stock.new ≡ stock.old) }
 {
@@ -125,7 +133,7 @@ pub fn keep_one<T: Eq + Hash + Drop, S: BuildHasher + Drop>(
     Ok(before)
 }
 
-/// Keeps at most `most` of each article, as shelves do.
+/// Keeps at most `most` of each article.
 pub fn keep_at_most<T: Eq + Hash + Drop, S: BuildHasher + Drop>(
     stock: &mut HashBag<T, S>,
     most: usize,

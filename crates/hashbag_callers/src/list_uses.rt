@@ -20,7 +20,7 @@ pub fn both_lists<T: Eq + Hash + Drop>(
     Ok(bag)
 }
 
-/// Removes one occurrence of each value of a list, as often as it is listed, if one is left. Returns how many occurrences were removed.
+/// For each element of a list, removes one occurrence of this value from the bag, if one is left. Returns how many occurrences were removed.
 pub fn take_each<T: Eq + Hash + Drop, S: BuildHasher + Drop>(
     bag: &mut HashBag<T, S>,
     values: &[T],

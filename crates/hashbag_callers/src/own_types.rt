@@ -1,5 +1,5 @@
 //! Types of one's own in a bag: written as JSON strings, and looked up by a borrowed form.
-ghost use Rattle.std.specs.Prelude.{◌≡◌, ℕ, List, Bool, true, bytes_eq, string_bytes, refl};
+ghost use Rattle.std.specs.Prelude.{◌≡◌, ◌==◌, ◌&&◌, ℕ, List, Bool, true, bytes_eq, string_bytes, refl};
 ghost use Rattle.std.proofs.Common.{ap, ◌∙◌, rules};
 ghost use Rattle.std.proofs.lemmas.Slice.Eq.{bytes_eq-Decides};
 ghost use Rattle.std.specs.Cmp.Lexicographic.{nat_list_eq_equiv};
@@ -7,6 +7,7 @@ ghost use Rattle.std.specs.Cmp.Rules.{hashing};
 ghost use denote.Enum.Bare.{same_true, true_same};
 ghost use Rattle.hashbag_callers.specs.contracts.own_types.Size.{the_type};
 ghost use Rattle.hashbag.specs.Occurrences.{count_named};
+ghost use Rattle.hashbag_callers.specs.Parts.{part_one};
 ghost use Rattle.hashbag_callers.specs.Sizes.{size_text, is_size, size_one, size_found};
 
 use hashbag::{HashBag, ItemError, JsonText, Key};
@@ -55,9 +56,49 @@ impl Key<Article> for &str {
 
 /// Returns how often the article of this name occurs.
 pub fn how_many<S: BuildHasher + Drop>(bag: &HashBag<Article, S>, name: &str) -> usize
+    // `count_named test items`: how many items pass the test.
     ensures { result ≡ count_named (λ v. bytes_eq (string_bytes v.name) name.now) bag.now.items }
 {
     bag.contains(name)
+}
+
+/// An article of a lot. The name is owned.
+#[derive(Debug, PartialEq, Eq, Hash, Drop)]
+pub struct Part {
+    /// The name of the article.
+    pub name: String,
+    /// The number of the lot.
+    pub lot: u64,
+}
+
+/// The same with a borrowed name. Parts are looked up by it, so no name is copied.
+#[derive(Clone, Copy, PartialEq, Eq, Hash)]
+pub struct PartKey<'a> {
+    /// The name of the article.
+    pub name: &'a str,
+    /// The number of the lot.
+    pub lot: u64,
+}
+
+// Both fields are compared, and hashed in the order of the fields, as in a `Part`.
+impl Key<Part> for PartKey<'_> {
+    ghost names = { λ key v. bytes_eq (string_bytes v.name) key.name.now && (v.lot == key.lot) };
+
+    ghost hashed_alike = { Prim.search (hashing, rules) };
+
+    ghost names_one = { λ key v w yes. part_one (string_bytes v.name) (string_bytes w.name) key.name.now v.lot w.lot key.lot yes };
+
+    fn names(&self, value: &Part) -> bool {
+        value.name.as_str() == self.name && value.lot == self.lot
+    }
+}
+
+/// Returns how often the article occurs in this lot.
+pub fn how_many_parts<S: BuildHasher + Drop>(bag: &HashBag<Part, S>, name: &str, lot: u64) -> usize
+    // `count_named test items`: how many items pass the test.
+    ensures { result ≡ count_named (λ v. bytes_eq (string_bytes v.name) name.now && (v.lot == lot)) bag.now.items }
+{
+    bag.contains(PartKey { name, lot })
 }
 
 /// A size, which JSON has as a word.

@@ -1,6 +1,6 @@
 //! Callers that read the plain facts out of the records that a bag's clauses name. None of them has a proof of its own.
 ghost use Rattle.std.specs.Prelude.{◌≡◌, ◌+◌, ◌-◌, ◌<◌, ◌≤◌, length, IsOk, IfOk, OnOk, OnErr};
-ghost use Rattle.hashbag.specs.Bag.{IsBagOf};
+ghost use Rattle.hashbag.specs.Bag.{IsBagOf, IsPresent};
 ghost use Rattle.hashbag.specs.Occurrences.{count, less};
 ghost use Rattle.hashbag.specs.Tables.{room};
 ghost use Rattle.hashbag_callers.specs.Transfers.{LowersCount};
@@ -14,7 +14,10 @@ pub fn take_some<T: Eq + Hash + Drop, S: BuildHasher + Drop>(
     value: &T,
     n: usize,
 ) -> usize
+    // The bag means its list without `n` of the value, or without all if there were fewer. The limit and the hash state are the same.
     ensures removed { IsBagOf T.eq bag.old (less T.eq value.now n bag.old.items) bag.new }
+
+    // If the value was present, only its slot changed: its count is less by `n`, or the slot is Removed if none is left.
     ensures slot { 0 < count T.eq value.now bag.old.items → LowersCount T.eq value.now n bag.old bag.new }
     ensures none { count T.eq value.now bag.old.items ≡ 0 → bag.new ≡ bag.old }
     ensures slots { length bag.new.tables.newer ≡ length bag.old.tables.newer }
@@ -24,15 +27,16 @@ pub fn take_some<T: Eq + Hash + Drop, S: BuildHasher + Drop>(
     bag.remove_up_to(value, n)
 }
 
-/// Inserts a value, and returns the count before. What `Inserts` says of the slots and of the room is a clause each.
+/// Inserts a value, and returns the count before. Each fact of `Inserts` about slots and about room is a clause.
 pub fn put_in<T: Eq + Hash + Drop, S: BuildHasher + Drop>(
     bag: &mut HashBag<T, S>,
     value: T,
 ) -> Result<usize, BagError>
+    // With room, the number of slots is the same, and room is at most 1 less. If the value was present, the number is the same, and room isn't less.
     ensures slots { OnOk result (0 < room bag.old.tables → length bag.new.tables.newer ≡ length bag.old.tables.newer) }
     ensures room { OnOk result (0 < room bag.old.tables → room bag.old.tables ≤ room bag.new.tables + 1) }
-    ensures same_slots { OnOk result (0 < count T.eq value bag.old.items → length bag.new.tables.newer ≡ length bag.old.tables.newer) }
-    ensures same_room { OnOk result (0 < count T.eq value bag.old.items → room bag.old.tables ≤ room bag.new.tables) }
+    ensures same_slots { OnOk result (IsPresent T.eq value bag.old → length bag.new.tables.newer ≡ length bag.old.tables.newer) }
+    ensures same_room { OnOk result (IsPresent T.eq value bag.old → room bag.old.tables ≤ room bag.new.tables) }
 {
     bag.insert(value)
 }
@@ -56,6 +60,7 @@ pub fn put_in_place<T: Eq + Hash + Drop, S: BuildHasher + Drop>(
     bag: &mut HashBag<T, S>,
     value: T,
 ) -> Result<usize, BagError>
+    // With room, the number of slots is the same, and room is at most 1 less. If the value was present, the number is the same, and room isn't less.
     ensures slots { OnOk result (0 < room bag.old.tables → length bag.new.tables.newer ≡ length bag.old.tables.newer) }
     ensures room { OnOk result (0 < room bag.old.tables → room bag.old.tables ≤ room bag.new.tables + 1) }
     ensures same_slots { IfOk result (λ before. 0 < before → length bag.new.tables.newer ≡ length bag.old.tables.newer) }

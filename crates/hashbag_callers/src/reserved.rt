@@ -2,6 +2,7 @@
 ghost use Rattle.std.specs.Prelude.{◌≡◌, ◌+◌, ◌<◌, ◌≤◌, ◌↔◌, length, OnOk, OnErr};
 ghost use Rattle.hashbag.specs.Occurrences.{count};
 ghost use Rattle.hashbag.specs.Tables.{room};
+ghost use Rattle.hashbag.specs.Unions.{IsSumOf};
 
 use hashbag::{BagError, HashBag};
 use std::hash::{BuildHasher, Hash};
@@ -14,8 +15,11 @@ pub fn insert_all<T: Eq + Hash + Drop, S: BuildHasher + Drop>(
     bag: &mut HashBag<T, S>,
     values: Vec<T>,
 ) -> Result<(), BagError>
-    ensures counts { OnOk result ((v : T) → count T.eq v bag.new.items ≡ count T.eq v bag.old.items + count T.eq v values.items) }
+    // Each count is the count before plus how often the value is in `values`.
+    ensures counts { OnOk result (IsSumOf T.eq bag.old.items values.items bag.new.items) }
     ensures len { OnOk result (length bag.new.items ≡ length bag.old.items + length values.items) }
+
+    // If there was room for all values, the number of slots is the same.
     ensures slots { OnOk result (length values.items ≤ room bag.old.tables → length bag.new.tables.newer ≡ length bag.old.tables.newer) }
     ensures none_lost { OnErr result ((v : T) → count T.eq v bag.old.items ≤ count T.eq v bag.new.items) }
     ensures full { result ≡ Err BagError.TooMany → length bag.new.items ≡ bag.old.most }
@@ -38,6 +42,8 @@ pub fn extend_all<T: Eq + Hash + Drop, S: BuildHasher + Drop>(
     values: Vec<T>,
 ) -> Result<(), BagError>
     ensures len { OnOk result (length bag.new.items ≡ length bag.old.items + length values.items) }
+
+    // If there was room for all values, the number of slots is the same, and no table was built.
     ensures slots { OnOk result (length values.items ≤ room bag.old.tables → length bag.new.tables.newer ≡ length bag.old.tables.newer) }
     ensures built { OnOk result (length values.items ≤ room bag.old.tables → bag.new.tables.built ≡ bag.old.tables.built) }
     ensures err { OnErr result (bag.new ≡ bag.old) }

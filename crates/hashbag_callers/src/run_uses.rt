@@ -26,7 +26,11 @@ pub fn insert_and_count<T: Eq + Hash + Copy, S: BuildHasher + Drop>(
     value: T,
 ) -> Result<Vec<Reply<T>>, BagError>
     requires { length bag.old.items + 1 ≤ bag.old.most }
+
+    // The replies are `Count n` and `Count (n + 1)`, where n is the count before.
     ensures replies { IfOk result (λ replies. replies.items ≡ n_then_one_more Reply.Count (count T.eq value bag.old.items)) }
+
+    // The bag means its list with one more of the value.
     ensures left { OnOk result (Means bag.new (add T.eq value 1 bag.old.items)) }
 {
     let steps = insert_then_count(alloc, value)?;

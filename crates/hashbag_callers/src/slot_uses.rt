@@ -12,6 +12,7 @@ use std::hash::{BuildHasher, Hash};
 pub fn keep_one_of_each<T: Eq + Hash + Drop, S: BuildHasher + Drop>(
     bag: &mut HashBag<T, S>,
 ) -> usize
+    // The number of slots is 0, or a power of two from 16 to 2^59.
     ensures count { IsSlotCount (length bag.new.tables.newer) }
     ensures live { result ≡ live_count bag.new.tables.newer + live_count bag.new.tables.waiting }
     ensures dead { (p : ℕ) (s : Slot T) → slot_at bag.old.tables.newer p ≡ s → is_live s ≡ false → slot_at bag.new.tables.newer p ≡ s }
@@ -21,7 +22,7 @@ pub fn keep_one_of_each<T: Eq + Hash + Drop, S: BuildHasher + Drop>(
     bag.set_len()
 }
 
-/// A law, at no cost: the number of slots after each growth during an extend follows from the list before that growth.
+/// This function does nothing; its clause is a law: the number of slots after each growth during an extend follows from the list before that growth.
 pub fn grow_as_listed<T: Eq, S>()
     ensures { GrowAsListed S T.eq }
 {}

@@ -9,6 +9,7 @@ use std::hash::BuildHasher;
 
 /// Returns a bag that has each word as often as the list.
 pub fn count_texts(alloc: Global, words: &[&str]) -> Result<HashBag<String>, BagError>
+    // `text_count bytes words`: how many of the words have these bytes.
     ensures counts { IfOk result (λ bag. (v : _) → count string_eq v bag.items ≡ text_count (string_bytes v) words.now) }
     ensures len { IfOk result (λ bag. length bag.items ≡ length words.now) }
 {
@@ -21,6 +22,7 @@ pub fn count_texts(alloc: Global, words: &[&str]) -> Result<HashBag<String>, Bag
 
 /// Returns how often a word was counted.
 pub fn how_often<S: BuildHasher + Drop>(bag: &HashBag<String, S>, word: &str) -> usize
+    // v is any `String` with the bytes of `word`.
     ensures { (v : _) → string_bytes v ≡ word.now → result ≡ count string_eq v bag.now.items }
 {
     bag.contains(word)
@@ -32,6 +34,7 @@ pub fn strike_out<S: BuildHasher + Drop>(
     word: &str,
     n: usize,
 ) -> usize
+    // v is any `String` with the bytes of `word`.
     ensures counts { (v : _) → string_bytes v ≡ word.now → count string_eq v bag.new.items ≡ count string_eq v bag.old.items - n }
     ensures left { (v : _) → string_bytes v ≡ word.now → result ≡ count string_eq v bag.new.items }
 {

@@ -24,6 +24,7 @@ pub fn transfer<T: Eq + Hash + Copy + Drop, S: BuildHasher + Drop, S2: BuildHash
     value: T,
     n: usize,
 ) -> Result<(), TransferError>
+    // Each value w occurs in both bags together as often as before.
     ensures sum { (w : T) → count_together T.eq w from.new to.new ≡ count_together T.eq w from.old to.old }
     ensures moved { OnOk result (count T.eq value to.new.items ≡ count T.eq value to.old.items + n) }
     ensures too_few { (result ≡ Err TransferError.TooFew) ↔ (count T.eq value from.old.items < n) }
@@ -50,6 +51,8 @@ pub fn transfer_clone<T: Eq + Hash + Clone + Drop, S: BuildHasher + Drop, S2: Bu
     n: usize,
 ) -> Result<(), TransferError>
     requires equal { (y : T) → T.is_clone value.now y → T.eq value.now y ≡ true }
+
+    // Each value w occurs in both bags together as often as before.
     ensures sum { (w : T) → count_together T.eq w from.new to.new ≡ count_together T.eq w from.old to.old }
     ensures moved { OnOk result (count T.eq value.now to.new.items ≡ count T.eq value.now to.old.items + n) }
     ensures too_few { (result ≡ Err TransferError.TooFew) ↔ (count T.eq value.now from.old.items < n) }

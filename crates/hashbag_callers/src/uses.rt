@@ -60,6 +60,7 @@ pub fn moved_out<T: Eq + Hash + Drop, S: BuildHasher + Drop>(
     alloc: Global,
     bag: &mut HashBag<T, S>,
 ) -> Result<Vec<(T, usize)>, AllocError>
+    // The list has each value once, with its count, and no other value. This holds for any list X that the bag means: it doesn't depend on X's order.
     ensures list { IfOk result (λ list. (X : List T) → Means bag.old X → IsSetWalk T.eq X list.items) }
     ensures distinct { IfOk result (λ list. length list.items ≡ distinct_count T.eq bag.old.items) }
     ensures empty { bag.new.items ≡ [] }

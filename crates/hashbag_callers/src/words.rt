@@ -1,7 +1,8 @@
 //! Callers to copy: words that are counted, one by one or all at once, and bags that are equal whatever the order of their insertions.
-ghost use Rattle.std.specs.Prelude.{◌≡◌, ◌+◌, ◌≤◌, ℕ, nat_eq, length, IsTrue, OnOk, IfOk, IfErr};
+ghost use Rattle.std.specs.Prelude.{◌≡◌, ◌+◌, ◌≤◌, nat_eq, length, IsTrue, OnOk, IfOk, IfErr};
 ghost use Rattle.std.specs.List.Sorted.{IsPermutation};
 ghost use Rattle.hashbag.specs.Occurrences.{count};
+ghost use Rattle.hashbag.specs.Unions.{IsSumOf};
 
 use hashbag::{BagError, HashBag};
 use std::alloc::Global;
@@ -22,7 +23,8 @@ pub fn insert_each<S: BuildHasher + Drop>(
     bag: &mut HashBag<u64, S>,
     words: &[u64],
 ) -> Result<(), BagError>
-    ensures counts { OnOk result ((v : ℕ) → count nat_eq v bag.new.items ≡ count nat_eq v bag.old.items + count nat_eq v words.now) }
+    // Each count is the count before plus how often the value is in `words`.
+    ensures counts { OnOk result (IsSumOf nat_eq bag.old.items words.now bag.new.items) }
     ensures len { OnOk result (length bag.new.items ≡ length bag.old.items + length words.now) }
     ensures only_memory { length bag.old.items + length words.now ≤ bag.old.most → IfErr result (λ e. e ≡ BagError.Memory) }
 {
