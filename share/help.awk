@@ -90,9 +90,9 @@ function cut_example(at, from, rest, end) {
   put("example", rest)
 }
 
-# Writes the commands that a sentence names: `first word is A, B or C, it is a subcommand`, and `no command is named it is` A, in backticks.
+# Writes the commands that a sentence names: `first word is A, B or C, it is a subcommand`, and `Without a command, A is meant`, A in backticks.
 function put_named(said, many, i, names) {
-  if (match(said, /no command is named,? it is `[a-z-]+`/)) {
+  if (match(said, /Without a command, `[a-z-]+` is meant/)) {
     split(substr(said, RSTART, RLENGTH), names, "`")
     put("default", names[2])
   }

@@ -12,7 +12,7 @@ use crate::line_form::LineForm;
 use crate::quotes::misplaced_quote;
 use crate::trims::trim;
 use csv::{ByteRecord, Position, Reader, ReaderBuilder};
-use hashbag_shell::tips::is_near;
+use hashbag_shell::tips::Nearest;
 use std::alloc::{AllocError, Global};
 use std::fmt::Write;
 use std::str;
@@ -360,20 +360,22 @@ impl<'a> Sheet<'a> {
         }
     }
 
-    // Appends a hint with the first name in the header that is near `name`, if there is one.
+    // Appends a hint with the name in the header that is nearest to `name`, if one is near.
     fn push_near(&self, text: &mut String, name: &str) -> Result<(), AllocError> {
+        let mut nearest = Nearest::new(name);
         for place in 0..self.record.len() {
-            if let Ok(there) = str::from_utf8(self.bytes_at(place))
-                && is_near(self.alloc, name, there)?
-            {
-                return write!(text, "; is it `{}`?", shown(self.alloc, there)?);
+            if let Ok(column) = str::from_utf8(self.bytes_at(place)) {
+                nearest.offer(self.alloc, column)?;
             }
         }
-        Ok(())
+        match nearest.name() {
+            Some(column) => write!(text, "; is it `{}`?", shown(self.alloc, column)?),
+            None => Ok(()),
+        }
     }
 
     // Returns the names in the header, at most 12, and a hint. If the only name contains another delimiter, the hint is that delimiter;
-    // else it is the first name near `name`, if there is one; else an encoding, if a name isn't UTF-8.
+    // else it is the name nearest to `name`, if one is near; else an encoding, if a name isn't UTF-8.
     fn names_shown(&self, name: &str) -> Result<String, AllocError> {
         let mut text = String::new(self.alloc);
         let columns = self.record.len();

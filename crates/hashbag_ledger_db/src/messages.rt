@@ -3,10 +3,9 @@ use hashbag_csv::escaped::Escaped;
 use hashbag_ledger_args::command::PROGRAM;
 use hashbag_ledger_lib::movements::{Change, Entry};
 use hashbag_ledger_lib::once::Batch;
-use hashbag_shell::tips::is_near;
+use hashbag_shell::tips::Nearest;
 use std::alloc::{AllocError, Global};
 use std::fmt::Write;
-use strsim::osa_distance;
 
 // From how many movements on a new database is suggested: the open of a file with that many takes about a second.
 const MANY: u64 = 1_000_000;
@@ -68,23 +67,17 @@ pub fn entered_text(
     Ok(text)
 }
 
-// Returns the article of a balance whose name is nearest to this one, if a name is near. Of several names with the fewest changes of characters,
-// the first counts.
+// Returns the article of a balance whose name is nearest to this one, if a name is near.
 fn near_to<'b>(
     alloc: Global,
     balance: &[(&'b str, Change)],
     article: &str,
 ) -> Result<Option<&'b str>, AllocError> {
-    let mut nearest: Option<(&'b str, usize)> = None;
+    let mut nearest = Nearest::new(article);
     for entry in balance {
-        if is_near(alloc, article, entry.0)? {
-            let changes = osa_distance(alloc, article, entry.0)?;
-            if nearest.is_none_or(|found| changes < found.1) {
-                nearest = Some((entry.0, changes));
-            }
-        }
+        nearest.offer(alloc, entry.0)?;
     }
-    Ok(nearest.map(|found| found.0))
+    Ok(nearest.name())
 }
 
 // Appends an article of the balance whose name is near to this one, if there is one, and ends the line.

@@ -9,6 +9,14 @@ fn quoted(text: &str) -> Option<&str> {
     Some(name)
 }
 
+// Returns how many changes of characters turn a word into a name, if these are at most a third of the word's characters. Two characters in
+// the wrong order are one change. Hyphens at the beginning of either don't count.
+fn changes_if_near(alloc: Global, word: &str, name: &str) -> Result<Option<usize>, AllocError> {
+    let (word, name) = (word.trim_start_matches('-'), name.trim_start_matches('-'));
+    let changes = osa_distance(alloc, word, name)?;
+    Ok((changes.saturating_mul(3) <= word.chars().count()).then_some(changes))
+}
+
 /// Returns whether changes to at most a third of a word's characters turn the word into the name. Two characters in the wrong order are one
 /// change. Hyphens at the beginning of either don't count.
 ///
@@ -16,9 +24,40 @@ fn quoted(text: &str) -> Option<&str> {
 ///
 /// An allocation fails.
 pub fn is_near(alloc: Global, word: &str, name: &str) -> Result<bool, AllocError> {
-    let (word, name) = (word.trim_start_matches('-'), name.trim_start_matches('-'));
-    let changes = osa_distance(alloc, word, name)?;
-    Ok(changes.saturating_mul(3) <= word.chars().count())
+    Ok(changes_if_near(alloc, word, name)?.is_some())
+}
+
+/// Of the names that are offered, the one that is nearest to a word: a name that [`is_near`], with the fewest changes. Of several, the first.
+#[derive(Drop)]
+pub struct Nearest<'w, 'n> {
+    word: &'w str,
+    found: Option<(&'n str, usize)>,
+}
+
+impl<'w, 'n> Nearest<'w, 'n> {
+    /// Makes a search for the name nearest to this word. No name is offered yet.
+    pub fn new(word: &'w str) -> Self {
+        Nearest { word, found: None }
+    }
+
+    /// Offers a name.
+    ///
+    /// # Errors
+    ///
+    /// An allocation fails.
+    pub fn offer(&mut self, alloc: Global, name: &'n str) -> Result<(), AllocError> {
+        if let Some(changes) = changes_if_near(alloc, self.word, name)?
+            && self.found.is_none_or(|found| changes < found.1)
+        {
+            self.found = Some((name, changes));
+        }
+        Ok(())
+    }
+
+    /// Returns the nearest name, or `None` if no name is near.
+    pub fn name(&self) -> Option<&'n str> {
+        self.found.map(|found| found.0)
+    }
 }
 
 /// Returns a message of the parser. If the message has a tip whose name isn't near the word that was given, the tip is left out, and so is

@@ -7,7 +7,7 @@ const ABOUT: &str =
     "Counts words, lines, fields or matches of a pattern, and adds up files of counts";
 
 const AFTER: &str = "\
-Without a command, `count` is meant. So these count words, upper and lower case as one, and show the ten most common:
+Without a command, `count` is meant, so these count words, upper and lower case as one, and show the ten most common:
     hashbag_words --fold --top 10 text
     cat text | hashbag_words --fold --top 10
 `hashbag_words count --help` says what else may be counted, and how it is shown.
