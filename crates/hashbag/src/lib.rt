@@ -1,7 +1,7 @@
 //! A counted hash multiset: how often each of several values occurs, and how many occurrences there are in all.
 //!
-//! This is the one name by which users call the crates below it. A crate that walks over a `&HashBag` by `for` also lists `hashbag_core` among its
-//! libraries: the compiler looks for an impl for `&HashBag` in the crate that defines `HashBag`.
+//! Users call `hashbag_core`, `hashbag_ops` and `hashbag_script` by this name. A crate that walks over a `&HashBag` by `for` also lists
+//! `hashbag_core` among its libraries: the compiler looks for an impl for `&HashBag` in the crate that defines `HashBag`.
 #![tactic(auto)]
 
 pub use hashbag_core::{

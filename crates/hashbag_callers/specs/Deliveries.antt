@@ -1,4 +1,4 @@
--- What is said of two deliveries.
+-- The greatest surplus of a delivery.
 use Rattle.std.specs.Prelude.{◌≡◌, ℕ, ◌+◌, ◌<◌, ◌≤◌, Bool, List}
 use Rattle.hashbag.specs.Occurrences.{count}
 

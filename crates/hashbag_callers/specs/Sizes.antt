@@ -37,6 +37,6 @@ found_by t false true l p q r e = (Medium, sym ((bytes_eq-Decides t (codes "medi
 found_by t false false true p q r e = (Large, sym ((bytes_eq-Decides t (codes "large")).0 r))
 found_by t false false false p q r e = absurd (cc)
 
--- if a text is the word of a size, here is the size
+-- if a text is the word of a size, a size whose word is the text
 pub size_found : (t : List ℕ) → is_size t ≡ true → (x : Size) × (size_text x ≡ t)
 size_found t e = found_by t _ _ _ refl refl refl e

@@ -1,4 +1,4 @@
--- What transfers, removals and runs say of counts.
+-- How transfers, removals and runs change counts.
 use Rattle.std.specs.Prelude.{ℕ, ◌+◌, ◌-◌, Bool, List, [], ◌∷◌}
 use Rattle.hashbag.specs.Bag.{Bag}
 use Rattle.hashbag.specs.Held.{Recounts}

@@ -1,7 +1,7 @@
 //! Callers to copy: two deliveries that are matched. One caller reads the first item of a join, one loops over a join, one folds it.
 //!
-//! The bags are taken by reference. A function that owns two bags, whose hash states are type parameters, lends them to a function like
-//! these: it can't pass a join of its own bags on by value.
+//! The bags are taken by reference. A function that owns two bags can't pass a join of them on by value, if their hash states are type
+//! parameters. It lends the bags to a function like these.
 ghost use Rattle.std.specs.Prelude.{◌≤◌, ◌↔◌, IsTrue};
 ghost use Rattle.hashbag.specs.Occurrences.{count};
 ghost use Rattle.hashbag_callers.specs.Deliveries.{IsGreatestSurplus};
@@ -19,7 +19,7 @@ pub fn is_complete<T: Eq + Hash + Drop, S: BuildHasher + Drop, S2: BuildHasher +
     ordered.difference(delivered).next().is_none()
 }
 
-/// Returns the greatest surplus: of each article, how many more were delivered than ordered. It loops over the difference.
+/// Returns the greatest surplus. The surplus of a value is how many more were delivered than ordered, or 0. It loops over the difference.
 pub fn greatest_surplus<T: Eq + Hash + Drop, S: BuildHasher + Drop, S2: BuildHasher + Drop>(
     delivered: &HashBag<T, S>,
     ordered: &HashBag<T, S2>,

@@ -20,7 +20,7 @@ impl Hall {
         ensures too_many { (result ≡ Err BagError.TooMany) ↔ (self.old.guests.most < length self.old.guests.items + n) }
         ensures err { OnErr result (self.new.guests ≡ self.old.guests) }
     {
-        // The contract of `limit` says that the total is within the limit.
+        // Does nothing at run time. The contract of `limit` says that the total is within the limit.
         let _limit = self.guests.limit();
         self.guests.insert_many(group, n)?;
         Ok(())

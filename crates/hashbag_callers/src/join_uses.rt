@@ -5,8 +5,8 @@ ghost use Rattle.hashbag.specs.Occurrences.{count};
 use hashbag::HashBag;
 use std::hash::{BuildHasher, Hash};
 
-/// Returns the count of a value in `a` less its count in `b`, or 0 if `b` has no fewer, by the difference of the bags. The clause says: the
-/// lesser of both counts, plus the result, is the count in `a`.
+/// Returns how much the count of a value in `a` is above its count in `b`, or 0 if it isn't above, by the difference of the bags. The clause says:
+/// the lesser of both counts, plus the result, is the count in `a`.
 pub fn excess_of<T: Eq + Hash + Drop, S: BuildHasher + Drop, S2: BuildHasher + Drop>(
     a: &HashBag<T, S>,
     b: &HashBag<T, S2>,

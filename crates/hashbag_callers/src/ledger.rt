@@ -27,7 +27,7 @@ pub fn deliver<T: Eq + Hash + Drop, S: BuildHasher + Drop>(
 }
 
 /// Removes sold goods, and returns whether there were enough of them. If not, nothing changes. So no count is ever below zero, and the
-/// goods that are sold and those that are left add up to the goods before.
+/// goods that are sold and the goods that are left add up to the goods before.
 pub fn sell<T: Eq + Hash + Drop, S: BuildHasher + Drop>(
     stock: &mut HashBag<T, S>,
     article: &T,
@@ -68,7 +68,7 @@ pub fn sell_out<T: Eq + Hash + Drop, S: BuildHasher + Drop>(
     }
 }
 
-/// Removes one of an article, and returns whether it was the last. `try_take` returns the last one, and else lends the one that stays.
+/// Removes one of an article, and returns whether it was the last. `try_take` returns the last one; if others are left, it lends the stored one.
 ///
 /// No clause can say what the bag means afterwards, since the loan may last. A caller that needs such a clause calls `take_one`, as
 /// `sell_out` does.

@@ -1,4 +1,4 @@
-//! Types of one's own in a bag: written as JSON strings, and looked up by a borrowed form.
+//! A caller's own types in a bag: written as JSON strings, and looked up by a borrowed form.
 ghost use Rattle.std.specs.Prelude.{◌≡◌, ◌==◌, ◌&&◌, ℕ, List, Bool, true, bytes_eq, string_bytes, refl};
 ghost use Rattle.std.proofs.Common.{ap, ◌∙◌, rules};
 ghost use Rattle.std.proofs.lemmas.Slice.Eq.{bytes_eq-Decides};
@@ -71,7 +71,7 @@ pub struct Part {
     pub lot: u64,
 }
 
-/// The same with a borrowed name. Parts are looked up by it, so no name is copied.
+/// A [`Part`] with a borrowed name. Parts are looked up by this key, so a look-up copies no name.
 #[derive(Clone, Copy, PartialEq, Eq, Hash)]
 pub struct PartKey<'a> {
     /// The name of the article.
@@ -101,7 +101,7 @@ pub fn how_many_parts<S: BuildHasher + Drop>(bag: &HashBag<Part, S>, name: &str,
     bag.contains(PartKey { name, lot })
 }
 
-/// A size, which JSON has as a word.
+/// A size. In JSON it is a word.
 #[derive(Clone, Copy, Debug, PartialEq, Eq, PartialOrd, Ord, Hash)]
 pub enum Size {
     /// Written as `small`.

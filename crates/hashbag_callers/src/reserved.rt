@@ -36,7 +36,7 @@ pub fn insert_all<T: Eq + Hash + Drop, S: BuildHasher + Drop>(
 
 /// Inserts all values, or none, by one extend.
 ///
-/// Room is made and the total is tested before. So the extend can't fail and builds no table, which is proved.
+/// Before the extend, room is made and the total is tested. So the extend can't fail and builds no table, which is proved.
 pub fn extend_all<T: Eq + Hash + Drop, S: BuildHasher + Drop>(
     bag: &mut HashBag<T, S>,
     values: Vec<T>,

@@ -11,7 +11,7 @@ use std::hash::{BuildHasher, Hash};
 pub enum TransferError {
     /// The bag has fewer than `n` occurrences of the value.
     TooFew,
-    /// The insertion into the other bag failed, or the clone of the value.
+    /// The insertion into the other bag failed, or the value couldn't be cloned.
     Bag(BagError),
 }
 

@@ -22,7 +22,7 @@ Means bag X = IsPermutation X bag.items
 abbrev pub limited : {T S : Type 0} → ℕ → Bag T S → Bag T S
 limited most bag = record { items = bag.items; hasher = bag.hasher; tables = bag.tables; most = most }
 
--- `after` means X, has the state and the limit of `before`, and its list is one that a bag may mean
+-- `after` means X, has the state and the limit of `before`, and `IsBag` holds of its list
 pub record IsBagOf {T S : Type 0} (eq : T → T → Bool) (before : Bag T S) (X : List T) (after : Bag T S) : Type 0 where
   pub means : Means after X
   pub hasher : after.hasher ≡ before.hasher
@@ -45,11 +45,11 @@ total_recounted eq v n bag = length bag.items - count eq v bag.items + n
 abbrev pub IsShorterBy : {T S : Type 0} → ℕ → Bag T S → Bag T S → Type 0
 IsShorterBy n before after = length after.items + n ≡ length before.items
 
--- `after` has fewer occurrences in all by what `take_one` removed: one, or none if it returns `Err 0`
+-- `take_one` returned r: `after` has one occurrence fewer than `before`, or as many if r is `Err 0`
 abbrev pub IsShorterByTaken : {T S X : Type 0} → Result X ℕ → Bag T S → Bag T S → Type 0
 IsShorterByTaken r before after = MatchResult r (λ _. IsShorterBy 1 before after) (λ n. IsShorterBy (min n 1) before after)
 
--- `after` has fewer occurrences in all by the count that `take_all` returns
+-- `take_all` returned r: `after` has fewer occurrences than `before` by the count in r, or as many if r is `None`
 abbrev pub IsShorterByAll : {T S X : Type 0} → Option (X × ℕ) → Bag T S → Bag T S → Type 0
 IsShorterByAll r before after = MatchOption r (length after.items ≡ length before.items) (λ taken. IsShorterBy taken.1 before after)
 
@@ -57,7 +57,7 @@ IsShorterByAll r before after = MatchOption r (length after.items ≡ length bef
 abbrev pub HasOneValueMore : {T S : Type 0} → (T → T → Bool) → Bag T S → Bag T S → Type 0
 HasOneValueMore eq before after = distinct_count eq after.items ≡ distinct_count eq before.items + 1
 
--- what is lent is what was found: a value with its number, or nothing
+-- `lent` is `found` with a reference in the place of the value: a value and a number, or `None`
 abbrev pub Lends : {T : Type 0} → Option (Bor T × ℕ) → Option (T × ℕ) → Type 0
 Lends lent found = option_map (λ e. (e.0.now, e.1)) lent ≡ found
 
@@ -73,8 +73,8 @@ LendsNotOne names X lent = Lends lent (stored_named names X) × (count_named nam
 abbrev pub occurrences : {T : Type 0} → List (T × ℕ) → List T
 occurrences es = flat_map (λ e. replicate e.1 e.0) es
 
--- what every bag keeps: its total is the sum of its counts and at most its limit, which is a `usize`, and its entries are a map of
--- counts
+-- the invariant of every bag. Its total is the sum of its counts, and is at most its limit. The limit fits a `usize`. Its entries are a map
+-- of counts
 pub record IsTallied {T : Type 0} (eq : T → T → Bool) (es : List (T × ℕ)) (total most : ℕ) : Type 0 where
   pub sum : total ≡ length (occurrences es)
   pub fits : total ≤ most

@@ -1,4 +1,4 @@
--- What an entry is, and what its calls leave of the bag that it borrows: `and_modify` for any closure f.
+-- What an entry is, and how its calls change the bag that it borrows: `and_modify` for any closure f.
 use Rattle.std.specs.Prelude.{◌≡◌, ℕ, ◌+◌, ◌<◌, ◌≤◌, Bool, length, Result, Ok, IfOk}
 use Rattle.std.specs.Borrow.{MutBor}
 use Rattle.std.specs.Fn.{FnOnceReturnsAtMut}
@@ -41,7 +41,7 @@ module _ {T S H : Type 0} (eq : T → T → Bool) where
   RecountsOccupied e after = IsOccupied e → RecountsAs eq e.value e.bag.now after
 
 module _ {T S : Type 0} (eq : T → T → Bool) where
-  -- the bags have as many occurrences of values other than v
+  -- both bags have the same number of occurrences of values other than v
   abbrev pub KeepsOthers : T → Bag T S → Bag T S → Type 0
   KeepsOthers v before after = length after.items + count eq v before.items ≡ length before.items + count eq v after.items
 

@@ -39,7 +39,7 @@ module _ {T : Type 0} {eq : T → T → Bool} (laws : IsEquivalence eq) where
     found_step v x Z true e t later some = count_congr X v x e ∙ (Decides-eqb (count eq x X) (count eq x Y)).0 t ∙ sym (count_congr Y v x e)
     found_step v x Z false e t later some = later some
 
-    -- if the counts of each value of Z agree, so do those of a value that Z has
+    -- if each item of Z has the same count in X and in Y, then v has the same count in both if v is equal to an item of Z
     found : (v : T) (Z : List T) → AllByRecursion (λ x. agrees x ≡ true) Z → (length (filter (eq v) Z) ≡ 0 → ⊥) → count eq v X ≡ count eq v Y
     found v [] h some = absurd (some refl)
     found v (x ∷ Z) h some = found_step v x Z (eq v x) refl h.0 (found v Z h.1) some

@@ -25,7 +25,7 @@ same_key a b = a.0 == b.0
 abbrev pub bag : List Tagged
 bag = (1, 10) ∷ (2, 7) ∷ (1, 10) ∷ []
 
--- ---- the words
+-- ---- counts, instances, and changes of a list
 
 the_end : greatest_total ≡ 18446744073709551615
 the_end = refl
@@ -51,7 +51,7 @@ not_found = refl
 itself : instance_or_itself same_key (3, 99) bag ≡ (3, 99)
 itself = refl
 
--- by a key that names those with the number 1, and with 3
+-- by a key that names the items with the number 1, and by a key that names the items with the number 3
 by_key : count_named (λ (x : Tagged). x.0 == 1) bag ≡ 2
 by_key = refl
 
@@ -142,7 +142,7 @@ other_totals : same_counts same_key bag ((1, 10) ∷ (2, 7) ∷ []) ≡ Bool.fal
 unfolding same_counts
 other_totals = refl
 
--- as many in all, and as many values
+-- both lists have as many items, and as many distinct values, but other counts
 other_counts : same_counts same_key bag ((1, 10) ∷ (2, 7) ∷ (2, 7) ∷ []) ≡ Bool.false
 unfolding same_counts
 other_counts = refl

@@ -13,7 +13,7 @@ Once x p = p ≡ (x, 1)
 abbrev pub AsItIs : {T : Type 0} → T × ℕ → T × ℕ → Type 0
 AsItIs e p = p ≡ e
 
--- the pair that is inserted for a result: its value, once. For an error none is
+-- the pair that is inserted for a result: its value, once. No pair is inserted for an error
 abbrev pub OkOnce : {T E : Type 0} → Result T E → T × ℕ → Type 0
 OkOnce (Ok x) p = p ≡ (x, 1)
 OkOnce (Err e) p = ⊥

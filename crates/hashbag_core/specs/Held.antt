@@ -1,4 +1,4 @@
--- How the two tables of slots of a bag hold its occurrences, and what calls leave of the tables.
+-- How the two tables of slots of a bag hold its occurrences, and how calls change the tables.
 use Rattle.std.specs.Prelude.{◌≡◌, ℕ, ◌+◌, ◌-◌, ◌<◌, ◌≤◌, ◌==◌, if◌then◌else◌, Bool, List, [], length, replicate}
 use Rattle.hashbag_slots.specs.declared.slots.Slot.{Slot}
 use Rattle.hashbag_slots.specs.declared.slots.Slot.TheVariants.{Empty, Removed, Live}
@@ -60,8 +60,8 @@ FitsLimit n bag = length bag.items + n ≤ bag.most
 abbrev pub BuildsSlots : {T S : Type 0} → ℕ → Bag T S → Bag T S → Type 0
 BuildsSlots m before after = after.tables.built ≡ before.tables.built + m
 
--- `after` is `before` without n occurrences of the value that a key names, or without all if they are fewer. The fields say its list; the
--- slot of the value, if it was present; that nothing changed, if it was absent; and that there are as many slots and no less room
+-- `after` is `before` without n occurrences of the value that a key names, or without all if they are fewer. `left`: its list. `slot`: the
+-- slot of the value, if it was present. `none`: nothing changed, if it was absent. `room`: there are as many slots and no less room
 pub record HasFewer {T S : Type 0} (eq : T → T → Bool) (names : T → Bool) (n : ℕ) (before after : Bag T S) : Type 0 where
   pub left : IsBagOf eq before (less_named names n before.items) after
   pub slot : 0 < count_named names before.items → Rewrites names (left_in (count_named names before.items - n)) before.tables after.tables

@@ -1,4 +1,4 @@
--- What one insertion leaves of a whole bag, and what insertions in turn leave.
+-- How one insertion changes a whole bag, and how insertions in turn change it.
 use Rattle.std.specs.Prelude.{◌≡◌, ℕ, ◌+◌, ◌<◌, ◌≤◌, ◌⊎◌, Bool, List, [], ◌∷◌, length, Option, Some, Result, Ok, Err}
 use denote.Ref.{Bor}
 use Rattle.std.specs.List.{AllZip}
@@ -18,8 +18,9 @@ abbrev pub empty_bag : {T S : Type 0} → S → Bag T S
 empty_bag hasher = record { items = []; hasher = hasher; tables = no_slots 0; most = greatest_total }
 
 module _ {T S : Type 0} (eq : T → T → Bool) where
-  -- n of v were inserted into `before`, which left `after`. The fields say the list and its length; how many distinct values; the slots,
-  -- if v was absent and if it was present; how many slots, and how much room
+  -- the insertion of n of v turned `before` into `after`. `added`, `none`, `len`: the list and its length. `set_len`, `same_set`, `new_set`: how many
+  -- distinct values. `arrives`, `slot`: the slots, if v was absent and if it was present. `less_room`, `same_room`: how many slots, and how much
+  -- room. `held`: the slots hold the list
   pub record Inserts (v : T) (n : ℕ) (before after : Bag T S) : Type 0 where
     pub added : IsBagOf eq before (add eq v n before.items) after
     pub none : n ≡ 0 → after ≡ before
@@ -33,8 +34,8 @@ module _ {T S : Type 0} (eq : T → T → Bool) where
     pub same_room : 0 < count eq v before.items → KeepsRoom 0 before.tables after.tables
     pub held : 0 < n → AreHeld eq after.items after.tables
 
-  -- v itself was stored, once, for all values equal to it in `before`, which left `after`. Its fields mean what
-  -- those of `Inserts` mean
+  -- v itself, once, replaced all items of `before` that are equal to v. That turned `before` into `after`. The fields are like the fields of
+  -- `Inserts`; `stored` is like `added`
   pub record Replaces (v : T) (before after : Bag T S) : Type 0 where
     pub stored : IsBagOf eq before (put eq v 1 before.items) after
     pub len : length after.items + count eq v before.items ≡ length before.items + 1
@@ -55,7 +56,7 @@ module _ {T S : Type 0} (eq : T → T → Bool) where
   InTurn [] before after = after ≡ before
   InTurn (p ∷ pairs) before after = (middle : Bag T S) × Inserts p.0 p.1 before middle × InTurn pairs middle after
 
-  -- the bag is what these pairs left, inserted one after the other into an empty bag without slots, with the state and the limit of this bag
+  -- inserting these pairs one after the other into an empty bag without slots, which has the state and the limit of `bag`, leads to `bag`
   abbrev pub IsMadeOf : List (T × ℕ) → Bag T S → Type 0
   IsMadeOf pairs bag = InTurn pairs (limited bag.most (empty_bag bag.hasher)) bag
 

@@ -12,7 +12,7 @@ use Rattle.hashbag_core.specs.Walks.{IsEach}
 abbrev other_bag : List Tagged
 other_bag = (3, 30) ∷ (1, 20) ∷ []
 
--- ---- the words
+-- ---- `saturated` and `alone`
 
 within : saturated (pos 2 -ℤ pos 5) ≡ negsuc 2
 within = refl

@@ -48,8 +48,8 @@ opened_object None limit = Err NotAnArray
 opened_object (Some ds) None = Err BadLimit
 opened_object (Some ds) (Some limit) = Ok (limit, ds)
 
--- the limit of a tree and the trees of its pairs, or why it is rejected before any pair is judged: an array has the greatest limit
--- and its own trees, and an object names both
+-- the limit of a tree and the trees of its pairs, or the error if the tree is rejected before any pair is judged. An array has the greatest
+-- limit, and its items are the pairs. An object has a member for the limit and a member for the pairs
 abbrev pub opened : Data → Result (ℕ × List Data) JsonError
 opened null = Err NotAnArray
 opened (boolean b) = Err NotAnArray
@@ -106,7 +106,7 @@ module _ (limit : ℕ) (has_item : Data → Bool) where
   pair_fault i total None = Some (NotAPair i)
   pair_fault i total (Some p) = part_fault i total p.0 (u64_of p.1)
 
-  -- the first fault among pairs, of which the first is pair i
+  -- the first fault among pairs, which are numbered from i
   unfoldable pub first_fault : ℕ → ℕ → List Data → Option JsonError
   first_fault i total [] = None
   first_fault i total (d ∷ ds) = option_or (pair_fault i total (pair_of d)) (first_fault (i + 1) (total + unwrap_or (pair_count d) 0) ds)
@@ -126,7 +126,7 @@ module _ (has_item : Data → Bool) where
   abbrev pub fault_after : {T S : Type 0} → ℕ → Bag T S → Data → Option JsonError
   fault_after i bag d = pair_fault bag.most has_item i (length bag.items) (pair_of d)
 
-  -- an array whose pairs have no fault under any limit from k on
+  -- if d is an array, its pairs have no fault under any limit of k or more
   abbrev pub HasNoFaultFrom : ℕ → Data → Type 0
   HasNoFaultFrom k d = (ds : List Data) (n : ℕ) → array_of d ≡ Some ds → k ≤ n → first_fault n has_item 0 0 ds ≡ None
 

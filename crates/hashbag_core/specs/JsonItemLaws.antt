@@ -36,7 +36,7 @@ u64_in_range x h = ap (λ b. cond b (Some x) None) (lt-ltb x (2 ^ 64) h)
 pub u64_reads : (x : ℕ) → IsU64 x → u64_item (number (unsigned x)) ≡ Some x
 u64_reads x h = u64_in_range x h
 
--- what is found in range is the item
+-- a tree's number, if it is in range, is the tree's item
 pub u64_found : (d : Data) (x : ℕ) → Some x ≡ u64_of d → IsU64 x → u64_item d ≡ Some x
 u64_found d x e h = ap (option_and_then u64_within) (sym e) ∙ u64_in_range x h
 
@@ -79,7 +79,7 @@ i64_written : (x : ℤ) → IsI64 x → Some x ≡ i64_of (number (of_integer x)
 i64_written (pos n) h = sym (ap (λ b. cond b (Some (pos n)) None) (lt-ltb n (2 ^ 63) h))
 i64_written (negsuc n) h = refl
 
--- what is found in range is the item
+-- a tree's number, if it is in range, is the tree's item
 pub i64_found : (d : Data) (x : ℤ) → Some x ≡ i64_of d → IsI64 x → i64_item d ≡ Some x
 i64_found d x e h = ap (option_and_then i64_within) (sym e) ∙ i64_in_range x h
 
@@ -143,7 +143,7 @@ text_in_level (Value-F.String s) e = (s, tt, refl)
 text_in_level (Value-F.Array v) e = absurd (false≢true e)
 text_in_level (Value-F.Object m) e = absurd (false≢true e)
 
--- a value that has a text is a string, and the text is the text of that string
+-- if the tree of v is a string, it is the tree of some `String`
 pub text_is_read : (v : Value) → is_some (as_str (view v)) ≡ true → IsOfText (view v)
 text_is_read v e =
     subst (λ (d : Data). is_some (as_str d) ≡ true → IsOfText d) (sym (fold_out-Value Data view_step v)) (text_in_level (out-Value v)) e

@@ -16,7 +16,7 @@ IsI64 (negsuc n) = n < 2 ^ 63
 abbrev pub u64_of : Data → Option ℕ
 u64_of d = option_and_then as_u64 (as_number d)
 
--- the number with a sign that a tree is, none if it is no whole number, or if it is 2 ^ 63 or more. A float is no whole number, not even 1.0
+-- the signed number that a tree is, none if it is no whole number, or if it is 2 ^ 63 or more. A float is no whole number, not even 1.0
 abbrev pub i64_of : Data → Option ℤ
 i64_of d = option_and_then as_i64 (as_number d)
 

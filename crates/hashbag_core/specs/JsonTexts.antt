@@ -26,7 +26,7 @@ module _ {X : Type 0} (text_of : X → List ℕ) (has_text : List ℕ → Bool) 
   abbrev pub IsText : X → Type 0
   IsText x = has_text (text_of x) ≡ true
 
-  -- d is the string of the text of x
+  -- d is the string of the text of x, and that text has a value
   abbrev pub ReadsText : Data → X → Type 0
   ReadsText d x = (as_str d ≡ Some (text_of x)) × IsText x
 

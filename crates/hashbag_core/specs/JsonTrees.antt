@@ -39,11 +39,11 @@ module _ {T : Type 0} (eq : T → T → Bool) (reads : Data → T → Type 0) wh
   ReadsBack X d = (pairs : List (T × ℕ)) → IsReading reads d pairs → SameCounts eq (add_all eq [] pairs) X
 
 module _ {T S : Type 0} (eq : T → T → Bool) (reads : Data → T → Type 0) where
-  -- these trees are read as some pairs, and the bag is what these pairs left, inserted in turn into an empty bag
+  -- these trees are read as some pairs, and inserting these pairs in turn into an empty bag leads to `bag`
   abbrev pub IsMadeOfTrees : List Data → Bag T S → Type 0
   IsMadeOfTrees trees bag = (pairs : List (T × ℕ)) × AllZip (IsPair reads) trees pairs × IsMadeOf eq pairs bag
 
-  -- the tree d is read as some pairs, and the bag is what these pairs left, inserted in turn into an empty bag
+  -- the tree d is read as some pairs, and inserting these pairs in turn into an empty bag leads to `bag`
   abbrev pub IsMadeOfTree : Data → Bag T S → Type 0
   IsMadeOfTree d bag = (pairs : List (T × ℕ)) × IsReading reads d pairs × IsMadeOf eq pairs bag
 

@@ -1,4 +1,4 @@
--- What an insertion by a key leaves of a bag. `names` is a test: a value passes it if the key names it. All values that pass are equal.
+-- How an insertion by a key changes a bag. `names` is a test: a value passes it if the key names it. All values that pass are equal.
 use Rattle.std.specs.Prelude.{◌≡◌, ℕ, ◌+◌, ◌<◌, ◌≤◌, Bool, List, length, Option, IsTrue}
 use Rattle.hashbag_core.specs.declared.bag.BagError.{BagError}
 use Rattle.hashbag_core.specs.declared.bag.BagError.TheVariants.{Memory, TooMany, BelowTotal}

@@ -17,7 +17,7 @@ module _ (T S H : RattleType) (key : HashMembers T.Denot) (build : builder.Ghost
   abbrev pub bag_row : RattleType
   bag_row = the_row T S H (record { eq = key.eq }) (record { hash_input = key.hash_input }) build hash
 
-  -- once the loan is over, the bag behind b has one occurrence fewer of what passes the test
+  -- once the loan is over, the bag that b borrows has lost one occurrence that passes the test `names`, if there was one
   abbrev pub ends_taking : MutBor (Bag T.Denot S.Denot) → (T.Denot → Bool) → Fml
   ends_taking b names = follows_so bag_row bag_row b.ghost_name none (λ _ _. ⊤) (HasFewer key.eq names 1 b.now)
 

@@ -23,7 +23,7 @@ module _ {T : Type 0} (eq : T → T → Bool) where
     pub each : IsEach X values
     pub counts : W ≡ map (λ v. (v, count eq v X)) values
 
-  -- W has each value of X, repeated as often as it occurs, before the next value
+  -- W has each value of X as often as X has it. All occurrences of a value are before the next value
   pub record IsWalk (X W : List T) : Type 0 where
     pub values : List T
     pub each : IsEach X values

@@ -1,9 +1,9 @@
 //! `HashBag`: how often each of several values occurs.
 //!
 //! In clauses `self.old` is the bag before a call, `self.new` the bag after it, and `self.now` a bag that is only read. `OnOk` and `OnErr` say what
-//! holds on success and on failure. `IfOk` and `IfErr` state it of the returned value or error. `×` is "and", `⊎` is "or", `(x : A) ×` is "there is
-//! an x", `(x : A) →` is "for every x". `ensures*` says what holds once a loan is over: the prover uses it at the end of the loan, and no proof can
-//! name it.
+//! holds on success and on failure. `IfOk` and `IfErr` say what holds of the returned value and of the error. `×` is "and", `⊎` is "or",
+//! `(x : A) ×` is "there is an x", `(x : A) →` is "for every x". `ensures*` says what holds once a loan is over: the prover uses it at the end of
+//! the loan, and no proof can name it.
 ghost use Rattle.std.specs.Prelude.{◌≡◌, ◌+◌, ◌<◌, ◌≤◌, ◌↔◌, [], length, IsTrue, IsOk, IfOk, IfErr, OnOk, OnErr};
 ghost use Rattle.hashbag_table.specs.Tables.{room};
 ghost use Rattle.hashbag_core.specs.Bag.{limited, total_recounted, Lends};
@@ -74,7 +74,7 @@ impl From<AllocError> for BagError {
 /// The state that hashes the values of a bag if no other is given. Its keys are fixed, so a bag hashes alike in every run of a
 /// program.
 ///
-/// Whoever chooses the values can therefore choose many with one hash. Each insertion then takes time in proportion to their number.
+/// So whoever chooses the values can choose many with the same hash. Each insertion then takes time in proportion to their number.
 /// For values that strangers choose, use `HashBag::with_hasher(alloc, RandomState::new(&rt)?)`, whose keys are random.
 pub type FixedState = BuildHasherDefault<FoldHasher>;
 
@@ -84,7 +84,7 @@ pub type FixedState = BuildHasherDefault<FoldHasher>;
 /// value is a `usize` of at least 1. The total of all counts is at most the bag's limit, which is `usize::MAX` if no other is set.
 ///
 /// Contracts see a bag as the plain list of its occurrences, in an order that means nothing, and the state that hashes its values. They
-/// also see the slots of its newer table, those of its older one that aren't carried yet, and the limit.
+/// also see the slots of its newer table, the slots of its older table that aren't carried yet, and the limit.
 ///
 /// # Examples
 ///
@@ -397,8 +397,8 @@ impl<T: Eq + Hash + Drop, S: BuildHasher + Drop> HashBag<T, S> {
     ///
     /// # Complexity
     ///
-    /// It hashes the value once, and twice if the total is at the limit. It allocates only if the value is absent and there is no room. If
-    /// the value is absent, up to 16 slots of an older table are carried, and each value in them is hashed once.
+    /// It hashes the value once, and twice if the value is present and the total is at the limit. It allocates only if the value is absent
+    /// and there is no room. If the value is absent, up to 16 slots of an older table are carried, and each value in them is hashed once.
     ///
     /// # Examples
     ///

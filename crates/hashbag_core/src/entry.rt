@@ -1,5 +1,5 @@
-//! `Entry`: the place of a value in a bag. In clauses `.entry` is the receiver as it was passed: in `HashBag::entry` the bag, else the
-//! `Entry`. `self.exit.0.now` is the bag after the call (`exit` has the loans that the receiver had; here one).
+//! `Entry`: the place of a value in a bag. In clauses `self.entry` is the receiver as it was passed: the bag in `HashBag::entry`, and the
+//! `Entry` in its own methods. `self.exit` has the receiver's borrows after the call. An `Entry` has one, so `self.exit.0.now` is the bag.
 ghost use Rattle.std.specs.Prelude.{◌≡◌, ◌<◌, ◌↔◌, ℕ, IsOk, IfOk, IfErr, OnErr};
 ghost use Rattle.hashbag_table.specs.Tables.{room, KeepsRoom};
 ghost use Rattle.hashbag_core.specs.Held.{FitsLimit};
@@ -197,7 +197,7 @@ impl<'a, T: Eq + Hash + Drop, S: BuildHasher + Drop> Entry<'a, T, S> {
     /// Ok(())
     /// ```
     pub fn or_insert_many(self, quantity: usize) -> Result<usize, BagError>
-        // Occupied: the count is returned, and the bag is unchanged. Vacant: on success `quantity` of the value are inserted, and `quantity` is returned.
+        // Occupied: the count is returned, and the bag is unchanged. Vacant: on success `quantity` is returned, and as many occurrences are inserted.
         ensures occupied { KeepsOccupied T.eq self.entry result self.exit.0.now }
         ensures vacant { FillsVacant T.eq quantity self.entry result self.exit.0.now }
         ensures none { quantity ≡ 0 → IsOk result × (self.exit.0.now ≡ self.entry.bag.now) }
@@ -227,7 +227,7 @@ impl<'a, T: Eq + Hash + Drop, S: BuildHasher + Drop> Entry<'a, T, S> {
 }
 
 impl<'a, T: Eq + Hash + Drop + Debug, S: BuildHasher + Drop> Debug for Entry<'a, T, S> {
-    /// Writes the value that the entry shows and its count, as `Entry(5, 3)`.
+    /// Writes [`Entry::value`] and its count, as `Entry(5, 3)`.
     ///
     /// # Examples
     ///

@@ -2,8 +2,8 @@
 //!
 //! A walk gives the values in no particular order. It knows how many items are left, and after the last one it gives `None` for good.
 //!
-//! In clauses `YieldsFirst (λ s. s)` says that a walk is its list of what is left, and `next` gives the first of it. `lower` and `upper` are
-//! the clauses of the trait: the bounds hold of the number of items left.
+//! In clauses most walks are the list of the items that are left. `YieldsFirst (λ s. s)` says that `next` gives the first item of that list.
+//! `lower` and `upper` are clauses of the trait `Iterator`: the number of items left is within both bounds.
 ghost use Rattle.std.specs.Prelude.{◌≡◌, length, Some, IfSome, ⊤};
 ghost use Rattle.std.specs.Borrow.{sem};
 ghost use Rattle.std.specs.Iterator.{YieldsFirst, YieldsFirstBy, YieldsFirstRef, item_count, at_most, UpTo};
@@ -107,7 +107,7 @@ impl<'a, T> ExactSizeIterator for Iter<'a, T> {
 }
 
 impl<'a, T: Debug> Debug for Iter<'a, T> {
-    /// Writes the occurrences that are left as a set of them, as `{5, 5, 5}`.
+    /// Writes the occurrences that are left in the form of a set: `{5, 5, 5}`.
     fn fmt<W: Write>(&self, f: &mut Formatter<W>) -> fmt::Result {
         f.debug_set().entries(self.clone().unwrap()).finish()
     }
@@ -334,8 +334,7 @@ impl<T: Debug> Debug for IntoIter<T> {
 }
 
 impl<T: Eq + Hash + Drop, S: BuildHasher + Drop> HashBag<T, S> {
-    /// Walks over the occurrences, of which there are `len()`. All occurrences of a value are given, each as the stored instance, before the next
-    /// value.
+    /// Walks over the `len()` occurrences. All occurrences of a value are given, each as the stored instance, before the next value.
     ///
     /// # Complexity
     ///
@@ -483,7 +482,7 @@ impl<T: Eq + Hash + Drop, S: BuildHasher + Drop> IntoIterator for HashBag<T, S> 
 }
 
 impl<T: Eq + Hash + Drop + Debug, S: BuildHasher + Drop> Debug for HashBag<T, S> {
-    /// Writes the occurrences as a set of them, as `{5, 5, 5}`.
+    /// Writes the occurrences in the form of a set: `{5, 5, 5}`.
     ///
     /// # Examples
     ///

@@ -4,7 +4,7 @@
 //! A join gives the values in no particular order, but an outer join first gives the values of the first bag. After its end a join gives `None` for
 //! good.
 //!
-//! In clauses `lower` and `upper` are the clauses of the trait: the bounds hold of the number of items left.
+//! In clauses `lower` and `upper` are clauses of the trait `Iterator`: the number of items left is within both bounds.
 ghost use Rattle.std.specs.Prelude.{◌≡◌, List, pos, ◌-ℤ◌, length, IfSome};
 ghost use Rattle.std.specs.Iterator.{YieldsFirstBy, item_count, at_most, UpTo};
 ghost use Rattle.std.specs.Iterator.SizeHint.{IsWithinCount};
@@ -154,7 +154,7 @@ impl<'a, T: Eq + Hash + Drop, S: BuildHasher + Drop, S2: BuildHasher + Drop> Ite
         Some((value, 0, count))
     }
 
-    /// Returns as the bounds how many values of the first bag weren't looked up yet, and how many values of both bags.
+    /// Returns two bounds: how many values of the first bag weren't looked up yet, and how many values of both bags weren't.
     fn size_hint(&self) -> (usize, Option<usize>)
         ensures lower { IsWithinCount result.0 (at_most (length self.now)) }
         ensures upper { IfSome result.1 (UpTo (at_most (length self.now))) }
@@ -191,8 +191,8 @@ impl<'a, T: Eq + Hash + Drop, S: BuildHasher + Drop, S2: BuildHasher + Drop> Mod
     ghost view = { λ a. subtracted a.counts };
 }
 
-/// Returns the first count less the second: `isize::MAX` if the difference is above that, and `isize::MIN` if it is below that. It is the
-/// number that [`HashBag::signed_difference`] gives with a value.
+/// Returns the first count less the second, saturated to `isize::MIN` and `isize::MAX`: the number that [`HashBag::signed_difference`] gives
+/// with a value.
 ///
 /// # Examples
 ///

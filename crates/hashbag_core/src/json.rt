@@ -64,8 +64,8 @@ impl From<AllocError> for ItemError {
 /// Why a tree can't be read as a bag. Pairs are numbered from 0.
 #[derive(Clone, Copy, Debug, PartialEq, Eq, Error)]
 pub enum JsonError {
-    /// The tree is no array and no object, or an object without a member `pairs` that is an array, or one with a member besides
-    /// `limit` and `pairs`.
+    /// The tree is neither an array nor an object. Or it is an object that has no array as its member `pairs`, or that has another
+    /// member than `limit` and `pairs`.
     #[error("not an array")]
     NotAnArray,
     /// The pair is no array of exactly two.
@@ -186,7 +186,7 @@ pub trait JsonItem: Eq + Sized {
     /// A tree that has an item is read as one. So `from_json` of such a tree fails only if an allocation fails.
     ghost item_is_read: { (v : Value) → has_item (view v) ≡ true → (x : Self) × is_item x × reads (view v) x };
 
-    /// What the tree of an item is read as equals that item.
+    /// If the tree of an item `x` is read as `y`, then `x` equals `y`.
     ghost reads_back: { (x y : Self) → is_item x → reads (tree_of x) y → Self.eq x y ≡ true };
 
     /// If one tree is read as two items, these are equal.
@@ -399,7 +399,7 @@ impl<T: JsonItem + Hash + Drop, S: BuildHasher + Drop> HashBag<T, S> {
     pub fn from_value(alloc: Global, tree: &Value) -> Result<HashBag<T, S>, JsonError>
     where
         S: Default,
-        // Same as [`HashBag::from_value_with_hasher`], but the state is the default, and the limit is that of the tree.
+        // Same as [`HashBag::from_value_with_hasher`], but the state is the default, and the limit is the tree's.
         ensures no_fault { OnOk result (fault greatest_total T.has_item (view tree.now) ≡ None) }
         ensures read { IfOk result (IsMadeOfTree T.eq T.reads (view tree.now)) }
         ensures limit { IfOk result (λ bag. bag.most ≡ limit_of (view tree.now)) }

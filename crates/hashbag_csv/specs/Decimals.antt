@@ -27,7 +27,7 @@ part_of mark text = after_first (λ c. c == mark) text
 abbrev pub IsDecimal : ℕ → ℕ → List ℕ → Type 0
 IsDecimal mark D text = IsNumeral 10 text ⊎ ((text ≡ whole_of mark text ++ mark ∷ part_of mark text) × ArePartsOf D (whole_of mark text) (part_of mark text))
 
--- the number of units of 10^-D of a text: of its part before the first mark, and of the decimals after the mark
+-- the number of units of 10^-D of a text: the whole part is before the first mark, and the decimals are after it
 abbrev pub units : ℕ → ℕ → List ℕ → ℕ
 units mark D text = units_of D (whole_of mark text) (part_of mark text)
 

@@ -18,7 +18,7 @@ HasMark mark text = text ≡ whole_of mark text ++ mark ∷ part_of mark text
 unfoldable pub HasParts : ℕ → List ℕ → Type 0
 HasParts mark text = HasMark mark text × IsNumeral 10 (whole_of mark text) × IsNumeral 10 (part_of mark text)
 
--- digits, single marks between them; `after` says whether a digit is before the text
+-- whether a text is digits with single marks between them; `after` is whether a digit precedes the text
 abbrev pub is_grouped : ℕ → Bool → List ℕ → Bool
 is_grouped mark after [] = after
 is_grouped mark after (c ∷ cs) = if is_ascii_digit c then is_grouped mark true cs else (if after && (c == mark) then is_grouped mark false cs else false)

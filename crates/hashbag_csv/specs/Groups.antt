@@ -14,7 +14,7 @@ group_code Comma = 44
 group_code Apostrophe = 39
 group_code Space = 32
 
--- whether a byte may come before `behind` more bytes: it is the mark if `behind` is 3, 7, 11 .., else a digit
+-- whether a byte with `behind` bytes after it fits: it is the mark if `behind` is 3, 7, 11 and so on, else a digit
 abbrev pub fits_place : ℕ → ℕ → ℕ → Bool
 fits_place group c behind = if behind % 4 == 3 then c == group else is_ascii_digit c
 

@@ -43,7 +43,7 @@ abbrev pub lines_under : Scale → LineForm → List (List ℕ) → Option (List
 lines_under scale form keys number [] = []
 lines_under scale form keys number (header ∷ records) = map (line_of scale form (map (place_of header) keys) (option_map (place_of header) number)) records
 
--- the numbers of `n` columns, from 1. They replace the header of a list that has none
+-- the numbers of `n` columns, from 1. They replace a missing header
 abbrev pub column_numbers : ℕ → Record
 column_numbers zero = []
 column_numbers (suc n) = column_numbers n ++ decimal (suc n) ∷ []

@@ -34,7 +34,7 @@ abbrev pub is_group_fault : Fault → Bool
 is_group_fault (BadGroups field) = true
 is_group_fault _ = false
 
--- the fault of a field that isn't read: the whole part isn't in groups, or the number without group marks has this fault
+-- the fault of a field that isn't read: a group fault if the whole part isn't in groups, else the fault of the field without its group marks
 abbrev pub IsGroupedFault : Scale → Option GroupMark → List ℕ → Fault → Type 0
 IsGroupedFault scale group field fault =
     let mark = code_of scale.mark in
@@ -46,7 +46,7 @@ abbrev pub IsGroupedError : Scale → Option GroupMark → ℕ → List ℕ → 
 IsGroupedError scale group line field (Line at fault) = (at ≡ line) × IsGroupedFault scale group field fault
 IsGroupedError scale group line field Memory = ⊤
 
--- the error of a field that isn't read in this form, in this line; an empty field that is 0 has no error
+-- the error of a field that isn't read in this form, in this line; if an empty field is 0, it has no error
 abbrev pub IsErrorOfField : Scale → NumberForm → ℕ → List ℕ → SheetError → Type 0
 IsErrorOfField scale form line field e = ¬ (IsBlankZero form field) × IsGroupedError scale form.group line field e
 

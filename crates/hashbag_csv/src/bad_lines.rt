@@ -13,7 +13,7 @@ use crate::scale::Scale;
 use crate::sheet::Sheet;
 use std::alloc::{AllocError, Global};
 
-// Checks the next record: returns `Some(None)` if it is a line, `Some(Some(error))` if not, and `None` if no record is left.
+// Checks the next record: returns `Some(None)` if it is read as a line, `Some(Some(error))` if that fails, and `None` if no record is left.
 fn check_next<A: Article + Drop>(
     alloc: Global,
     sheet: &mut Sheet<'_>,
@@ -42,7 +42,7 @@ fn push_error(errors: &mut Vec<SheetError>, said: Option<SheetError>) -> Result<
     Ok(())
 }
 
-// Returns the errors of the bad lines that are left of a sheet, at most `max_errors`.
+// Returns the errors of the bad lines among the records of a sheet that aren't read yet, at most `max_errors`.
 fn bad_lines_left<A: Article + Drop>(
     alloc: Global,
     sheet: &mut Sheet<'_>,
@@ -81,8 +81,8 @@ pub fn bad_lines<A: Article + Drop>(
     form: LineForm,
     max_errors: usize,
 ) -> Result<Vec<SheetError>, SheetError>
-    // Lines were checked in order, all of them unless there are `max_errors` errors. `e.items` are the errors of the bad ones; any other fits the
-    // header, and its field in the column `number`, if that is `Some`, is a number.
+    // Lines were checked in order: all lines, unless there are `max_errors` errors. `e.items` are the errors of the bad lines. Each other line that
+    // was checked fits the header, and its field in the column `number`, if a column is given, is a number.
     ensures { IfOk result (λ e. AreBadLinesOf reading form (option_copied number.entry) max_errors text.now e.items) }
 {
     let Some(mut sheet) = Sheet::open_list(alloc, text, reading.delimiter, form)? else {

@@ -38,7 +38,7 @@ impl Reading {
     }
 
     /// Returns the reading that these words name: the delimiter by one of its names, the number of decimals, and the mark before decimals. An unknown
-    /// word counts as the default: `,` or `0` or `.`.
+    /// word counts as the default: `,` or `0` or `.`. With more than 9 decimals, the scale is [`Scale::whole`].
     pub fn named(delimiter: &str, decimals: &str, mark: &str) -> Reading {
         let decimals = decimals.parse().unwrap_or(0);
         let mark = if mark == "," {

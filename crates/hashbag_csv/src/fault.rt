@@ -51,7 +51,7 @@ pub enum Fault {
     /// A field is a number with decimals, and whole numbers are wanted.
     #[error("whole numbers only: `{0}`")]
     NotWhole(String),
-    /// A mark between groups of digits is in another place than before every third digit.
+    /// The whole part of a number has the group mark, but isn't groups of three digits with the mark between them.
     #[error("groups of three digits wanted: `{0}`")]
     BadGroups(String),
     /// A number has more decimals than the scale.
@@ -121,7 +121,7 @@ impl From<AllocError> for SheetError {
     }
 }
 
-// Returns the trouble that names the file and has this error.
+// Returns the error as a `Trouble`, which names the file if a line is bad.
 fn trouble_of<'a>(
     alloc: Global,
     file: &'a str,
@@ -138,7 +138,7 @@ fn trouble_of<'a>(
     }
 }
 
-/// Returns the value that was read. An error becomes a [`Trouble`] that names the file.
+/// Returns the value that was read, or the error as a [`Trouble`], which names the file if a line is bad.
 ///
 /// # Errors
 ///

@@ -134,8 +134,8 @@ pub fn add_first_lines<A: Article + Drop, S: BuildHasher + Drop>(
     form: LineForm,
     firsts: &mut HashMap<A, Vec<String>, S>,
 ) -> Result<(), SheetError>
-    // If `firsts` had exactly the articles of lines K, with the carried fields of each one's first line, it now has those of K followed by the text's
-    // lines.
+    // If `firsts` had exactly the articles of some lines K, each with the carried fields of its first line in K, it now has the articles of K
+    // followed by the text's lines, in the same way.
     ensures { OnOk result (AddsFirstsOf A.eq A.fields names.entry delimiter form text.now firsts.old firsts.new) }
 {
     let Some(mut sheet) = Sheet::open_list(alloc, text, delimiter, form)? else {
@@ -153,7 +153,7 @@ pub fn first_fields<'f, A: Article + Drop, S: BuildHasher + Drop>(
     firsts: &'f HashMap<A, Vec<String>, S>,
     article: &A,
 ) -> &'f [String]
-    // If `firsts` has the first carried fields of the articles of lines K, the result has those of the first line of K with `article`, or none.
+    // If `firsts` has exactly the articles of lines K, each with its first line's carried fields, the result is these fields of `article`, or empty.
     ensures { AreFirstFields A.eq A.fields firsts.now article.now result.now }
 {
     match firsts.get(article) {

@@ -54,7 +54,7 @@ fn has_none(text: &[u8], group: u8) -> bool
     text.iter().all(|byte| *byte != group)
 }
 
-// Returns whether a byte may come before `behind` more bytes: it has to be the mark if whole groups follow, else a digit.
+// Returns whether a byte with `behind` bytes after it fits: it has to be the mark if `behind` is 3, 7, 11 and so on, else a digit.
 fn fits(byte: u8, behind: usize, group: u8) -> bool
     ensures { result ≡ fits_place group byte behind }
 {
@@ -114,7 +114,7 @@ pub fn ungrouped_text(
     mark: Mark,
     group: GroupMark,
 ) -> Result<Option<String>, AllocError>
-    // `digits` is `text` without `group` before the first `mark`, if that part is in groups or has no `group`; else it is `None`.
+    // If the part of `text` before the first `mark` is in groups or has no `group`, `digits` is `text` without `group` in that part; else `None`.
     ensures { IfOk result (λ digits. IsUngrouped (code_of mark) group text.now digits) }
 {
     let Some((whole, part)) = text.split_once(mark.character()) else {

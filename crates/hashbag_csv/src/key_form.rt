@@ -1,10 +1,10 @@
 //! In which form the fields of an article are compared, and shown.
 
-/// In which form the fields of an article are compared, and shown. Each change is made if its flag is true.
+/// The form in which the fields of an article are compared and shown. A field is changed by each flag that is true.
 #[derive(Clone, Copy, PartialEq, Eq, Debug)]
 pub struct KeyForm {
-    /// The spaces and tabs at both ends are removed.
+    /// Whether the spaces and tabs at both ends are removed.
     pub trim: bool,
-    /// After that the case is folded: upper and lower case become one.
+    /// Whether the case is then folded: upper and lower case become one.
     pub fold: bool,
 }

@@ -33,7 +33,7 @@ pub struct LineColumns<'n> {
 ///
 /// `Line` if no column of the header, or more than one, has the name. `Memory` if an allocation fails.
 pub fn column_of<'n>(sheet: &Sheet<'_>, name: &'n str) -> Result<Column<'n>, SheetError>
-    // `place_of` is the index of the first field equal to `name` in the record read last, here the header; the number of its fields if none is.
+    // `place_of` is the index of the first field that is `name` in the record that was read last, here the header.
     ensures { IfOk result (λ column. place column ≡ place_of (read_last sheet.now) name.now) }
 {
     let column = sheet.column(name)?;
@@ -151,8 +151,8 @@ impl<'n> LineColumns<'n> {
         number: Option<&'n str>,
         form: LineForm,
     ) -> Result<LineColumns<'n>, SheetError>
-        // `key_places` and `number_place` are the indexes of the columns. `place_named` is the index of the first field with a name in the record read
-        // last, here the header; the number of its fields if none has it.
+        // `key_places` and `number_place` are the indexes of the columns. `place_named` is the index of the first field with a name in the record
+        // that was read last, here the header.
         ensures keys { IfOk result (λ c. key_places c ≡ map (place_named sheet.now) keys.now) }
         ensures number { IfOk result (λ c. number_place c ≡ option_map (place_named sheet.now) number.entry) }
         ensures form { IfOk result (λ columns. form_of columns ≡ form) }
@@ -178,7 +178,7 @@ impl<'n> LineColumns<'n> {
         sheet: &mut Sheet<'_>,
         scale: Scale,
     ) -> Result<Option<(A, usize)>, SheetError>
-        // `next` is the first unread record's line, its article and number by these columns, and the records after it are left; `None` if none was.
+        // `next` is the line of the next record, which was read: its article and its number, by these columns. It is `None` if no record was left.
         ensures line { IfOk result (λ next. ReadsNextLine A.fields (line_by scale self.now) sheet.old next sheet.new) }
 
         // The record that was read has as many fields as the header, or fewer if that is allowed.

@@ -46,8 +46,8 @@ fn grouped_number(
 ///
 /// `Line` with this line, unless the field is empty and an empty field is 0:
 ///
-/// - `BadGroups` exactly if the whole part has the form's mark, but isn't groups of three digits with the mark between them;
-/// - else `PastMost`, `TooManyDecimals`, `NotWhole` or `NoNumber`, as [`scaled_number`] returns for the text without these marks.
+/// - `BadGroups` exactly if the whole part has the form's group mark, but isn't groups of three digits with group marks between them;
+/// - else `PastMost`, `TooManyDecimals`, `NotWhole` or `NoNumber`, as [`scaled_number`] returns for the field without its group marks.
 ///
 /// `Memory` if a text can't be allocated.
 pub fn field_number(
@@ -61,7 +61,7 @@ pub fn field_number(
     ensures number { IfOk result (λ n. ReadsField scale form field.now n) }
     ensures most { IfOk result (λ n. n ≤ scale.most) }
 
-    // The error has this line and the fault that is listed above, or is `Memory`. An empty field that is 0 has no error.
+    // The error has this line and the fault that is listed above, or is `Memory`. If an empty field is 0, it is no error.
     ensures fault { IfErr result (λ e. IsErrorOfField scale form line field.now e) }
 {
     if form.blank_is_zero && field.is_empty() {

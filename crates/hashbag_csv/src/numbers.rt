@@ -87,8 +87,8 @@ fn has_groups(text: &str, mark: Mark, other: u8) -> bool
     are_digits(part)
 }
 
-// Whether a text is a number with decimals after a point or a comma, such as `1,234.5` or `1.234,5`. Only which error is returned depends on the
-// result.
+// Whether a text is a number with decimals after a point or a comma, such as `1,234.5` or `1.234,5`. The result only decides which error is
+// returned.
 #[tactic(auto, unfolding(crate::specs::Faults::IsFraction))]
 fn is_fraction(text: &str) -> bool
     ensures { IsTrue result ↔ IsFraction text.now }
@@ -172,7 +172,7 @@ pub fn scaled_number(
 ///
 /// Same as [`scaled_number`].
 pub fn number(alloc: Global, line: u64, digits: &str, field: &str) -> Result<usize, SheetError>
-    // `digits` is digits alone, and n is their number: 46 is the point, and 0 the number of decimals.
+    // `digits` has only digits, and n is their number. In the clause, 46 is the byte of the mark `.`, and 0 is the number of decimals.
     ensures number { IfOk result (λ n. IsDecimal 46 0 digits.now × (units 46 0 digits.now ≡ n)) }
 
     // The error has this line and the fault of `digits` that `scaled_number` lists, or is `Memory`.

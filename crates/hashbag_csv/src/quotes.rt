@@ -61,7 +61,7 @@ fn next_place(place: Place, byte: u8, delimiter: u8) -> Result<Place, Misplaced>
 /// closing quote, the index is of the field's opening quote.
 pub fn misplaced_quote(record: &[u8], delimiter: u8) -> Option<(usize, Misplaced)> {
     let mut place = Place::Start;
-    // The quote that opens the present field, or a stray one.
+    // The index of the last quote that opens a field, or of a stray quote.
     let mut at = 0;
     for (index, byte) in record.iter().enumerate() {
         if *byte == QUOTE && !matches!(place, Place::Quoted | Place::Closed) {

@@ -57,7 +57,7 @@ impl Scale {
     /// Returns the scale with this number of decimals after this mark, or `None` for more than 9 decimals. The greatest number is
     /// `usize::MAX` units.
     pub fn new(decimals: u32, mark: Mark) -> Option<Scale>
-        // The result is `None` if `decimals` is above 9; else it is a scale with these two, and with the greatest number `usize::MAX`.
+        // The result is `None` if `decimals` is above 9; else it is a scale with `decimals`, `mark` and the greatest number `usize::MAX`.
         ensures { MatchOption result (most_decimals < decimals) (λ scale. IsWidestScale decimals mark scale) }
     {
         if decimals > 9 {

@@ -93,9 +93,9 @@ pub struct Column<'n> {
 
 /// A CSV text whose records are read one after the other.
 ///
-/// The first record is the header, unless the text has none. Each other record has as many fields as the header, or fewer if that is allowed. A byte
-/// order mark, the ends of lines as `\n` or `\r\n`, fields in quotes and empty lines are read as most programs write them. A misplaced quote is an
-/// error.
+/// The first record is the header, unless the list has no header. Each other record has as many fields as the header, or fewer if that is allowed.
+/// A byte order mark and empty lines are skipped. A record ends at `\n`, `\r` or `\r\n`. A field may be in quotes, and two quotes in such a field
+/// are one. A misplaced quote is an error.
 #[derive(Drop)]
 pub struct Sheet<'a> {
     alloc: Global,
@@ -141,18 +141,18 @@ impl<'a> Sheet<'a> {
     }
 
     /// Opens the sheet of a list whose lines are in the form `form`, and reads its header. If the form has no header, the columns are named
-    /// `1`, `2` and so on, one for each field of the first record. Returns `None` if such a list has no record.
+    /// `1`, `2` and so on, one for each field of the first record. Returns `None` if the form has no header and the list no record.
     pub fn open_list(
         alloc: Global,
         text: &'a [u8],
         delimiter: Delimiter,
         form: LineForm,
     ) -> Result<Option<Sheet<'a>>, SheetError>
-        // The header, or the numbers that replace a missing one, was read last, and `left` are the records after it; or there is no record, and the
-        // result is `None`.
+        // `read_last` is the header, or the numbers that replace a missing header. `left` are the records after it. The result is `None` if there is
+        // no record.
         ensures records { IfOk result (IsOpened (list_in delimiter form text.now)) }
 
-        // The header's number of fields is that of the record read last. Records may have fewer exactly if `form.allows_short`.
+        // The header has as many fields as the record that was read last. Records may have fewer fields exactly if `form.allows_short`.
         ensures width { IfOk result (λ opened. IfSome opened (IsAtHeader form.allows_short)) }
     {
         if form.no_header {
@@ -173,7 +173,7 @@ impl<'a> Sheet<'a> {
         // The header was read last. `left` are the records after it.
         ensures records { IfOk result (λ sheet. records_in delimiter text.now ≡ read_last sheet ∷ left sheet) }
 
-        // The header's number of fields is that of the record read last. Records may have fewer exactly if `allows_short`.
+        // The header has as many fields as the record that was read last. Records may have fewer fields exactly if `allows_short`.
         ensures width { IfOk result (IsAtHeader allows_short) }
     {
         let mut sheet = Sheet::unread(alloc, text, delimiter, allows_short)?;
@@ -245,7 +245,7 @@ impl<'a> Sheet<'a> {
         // The record has as many fields as the header, or fewer if that is allowed.
         ensures fits { IfOk result (λ found. found ≡ true → fits_sheet self.old (read_last self.new) ≡ true) }
 
-        // A quote is misplaced, or the record doesn't have that number of fields; or the error is `Memory`.
+        // A quote is misplaced, or the record has the wrong number of fields; or the error is `Memory`.
         ensures fault { IfErr result (λ e. IsReadError (fits_sheet self.old (read_last self.new)) e) }
 
         // After any error but `Memory` the record has been read, so the next call reads the one after it.
@@ -374,8 +374,8 @@ impl<'a> Sheet<'a> {
         }
     }
 
-    // Returns the names in the header, at most 12, and a hint. If the only name contains another delimiter, the hint is that delimiter;
-    // else it is the name nearest to `name`, if one is near; else an encoding, if a name isn't UTF-8.
+    // Returns the names in the header, at most 12, and at most one hint: another delimiter, if the header has only one name, which contains that
+    // delimiter; else the name nearest to `name`, if a name is near; else an encoding, if one of the returned names isn't UTF-8.
     fn names_shown(&self, name: &str) -> Result<String, AllocError> {
         let mut text = String::new(self.alloc);
         let columns = self.record.len();
@@ -404,7 +404,7 @@ impl<'a> Sheet<'a> {
 
     /// Returns the column with this name in the header. Call it before the first [`Sheet::read`], which replaces the header.
     pub fn column<'n>(&self, name: &'n str) -> Result<Column<'n>, SheetError>
-        // The column's field, and no other, is this name. The error is that no field is, that more than one is, or `Memory`.
+        // Only the column's field of the header is `name`. The error says that no field is `name`, or that several fields are; or it is `Memory`.
         ensures column { IfOk result (λ column. IsOnlyAt name.now (read_last self.now) (place column)) }
         ensures fault { IfErr result (λ e. IsColumnError name.now (read_last self.now) e) }
     {
@@ -431,7 +431,7 @@ impl<'a> Sheet<'a> {
     /// Returns the column with this name in the header. If the header lacks it, returns a column whose field is empty in each record. Call
     /// it before the first [`Sheet::read`], which replaces the header.
     pub fn column_or_empty<'n>(&self, name: &'n str) -> Result<Column<'n>, SheetError>
-        // `place_of` is the index of the first field equal to `name` in the record read last, here the header; the number of its fields if none is.
+        // `place_of` is the index of the first field of the header that is `name`, or the header's number of fields if no field is.
         ensures { IfOk result (λ column. place column ≡ place_of (read_last self.now) name.now) }
     {
         match self.column(name) {

@@ -30,7 +30,7 @@ static GROUP_MARKS: [&str; 5] = [".", ",", "'", "space", " "];
 
 static FORMS: [&str; 3] = ["table", "csv", "json"];
 
-// The options that name columns.
+// Adds the options that name columns, and the options that decide how lines, fields of numbers and fields of articles are read.
 fn with_columns<'a>(alloc: Global, command: CommandResult<'a>) -> CommandResult<'a> {
     let key = Arg::new(alloc, "key")
         .short('k')
@@ -119,7 +119,7 @@ fn with_key_form<'a>(alloc: Global, command: CommandResult<'a>) -> CommandResult
     with(with(command, trim), fold)
 }
 
-// The options that say what is written to standard error.
+// Adds the options that decide what is written to standard error.
 fn with_messages<'a>(alloc: Global, command: CommandResult<'a>) -> CommandResult<'a> {
     let max_errors = Arg::new(alloc, "max-errors")
         .long("max-errors")
@@ -132,7 +132,7 @@ fn with_messages<'a>(alloc: Global, command: CommandResult<'a>) -> CommandResult
     with_progress(alloc, with(command, max_errors), help)
 }
 
-// Adds the options for DELIVERED.csv, if it isn't written as ORDERED.csv is.
+// Adds the delimiter and the mark before decimals of DELIVERED.csv, which may differ from ORDERED.csv.
 fn with_delivered_form<'a>(alloc: Global, command: CommandResult<'a>) -> CommandResult<'a> {
     let delimiter = Arg::new(alloc, "delivered-delimiter")
         .long("delivered-delimiter")
@@ -156,7 +156,7 @@ fn with_encodings<'a>(alloc: Global, command: CommandResult<'a>) -> CommandResul
     with(with(command, both), delivered)
 }
 
-// The options that say what is written.
+// Adds the options that decide what is written, also to standard error.
 fn with_writing<'a>(alloc: Global, command: CommandResult<'a>) -> CommandResult<'a> {
     let only = Arg::new(alloc, "only")
         .long("only")

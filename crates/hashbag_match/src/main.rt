@@ -20,7 +20,8 @@ use hashbag_shell::trouble::Trouble;
 use std::hash::RandomState;
 use std::process::ExitCode;
 
-// Names the bad lines of a file on standard error, each with the option that would read it. Says so if there may be more of them.
+// Names the bad lines of a file on standard error, each with the option that would read it. If `max_errors` lines are named,
+// and `max_errors` is above 1, also says that no more are named.
 fn name_lines<'a>(
     rt: &HostRuntime,
     settings: &Settings<'a>,
@@ -49,7 +50,7 @@ fn name_lines<'a>(
     }
 }
 
-// Returns the trouble. If it is about the second file alone, its message names `--delivered-encoding`.
+// Returns the trouble. If it is a bad line of the second file alone, its message names `--delivered-encoding` in place of `--encoding`.
 fn of_either<'a>(rt: &HostRuntime, settings: &Settings<'a>, trouble: Trouble<'a>) -> Trouble<'a> {
     match &trouble {
         Trouble::BadLine { file, .. }

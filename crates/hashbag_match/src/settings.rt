@@ -40,7 +40,7 @@ fn max_errors_of(given: &ArgMatches<'_>) -> usize {
     }
 }
 
-// Returns this name of the column of numbers, or `None` if each line counts as one.
+// Returns `name`, the name of the column of numbers, or `None` if each line counts as one.
 fn number_column<'a>(given: &ArgMatches<'a>, name: &'a str) -> Option<&'a str> {
     if given.get_flag("each-line") {
         return None;

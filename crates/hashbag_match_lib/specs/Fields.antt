@@ -1,4 +1,4 @@
--- Articles as the fields of their key columns.
+-- Tallies of lines whose articles are given as the bytes of their fields.
 use Rattle.std.specs.Prelude.{◌≡◌, ℕ, Bool, List, ◌++◌, map}
 use Rattle.hashbag.specs.Bag.{Bag}
 use Rattle.hashbag_csv.specs.LineColumns.{line_by, line_bytes}

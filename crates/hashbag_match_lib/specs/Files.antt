@@ -21,7 +21,7 @@ use Rattle.hashbag_match_lib.specs.declared.tally.Tally.{Tally}
 use Rattle.hashbag_match_lib.specs.declared.texts.Findings.{Findings}
 use Rattle.hashbag_match_lib.specs.declared.texts.Lists.{Lists}
 
--- what holds of the name of a file and the file's bytes
+-- a predicate on the name of a file and the bytes of the file
 abbrev pub Gives : Type 1
 Gives = List ℕ → List ℕ → Type 0
 
@@ -33,7 +33,7 @@ pub record IsListOf {A S H : Type 0} (eq : A → A → Bool) (fields : A → Rec
   pub lines : TalliesLines eq fields (lines_asked ask source.columns.now text) tally
   pub carried : AddsFirsts eq fields (carried_along ask source.columns.now text) old new
 
--- the lists of two files. The carried fields of an article are of its first line, where the lines of what was ordered come first
+-- the lists of two files. The carried fields of an article are from its first line; the lines of what was ordered come first
 pub record AreListsOf {A S H : Type 0} (eq : A → A → Bool) (fields : A → Record) (gives : Gives) (files : TwoFiles) (ask : Ask) (lists : Lists A S H) : Type 0 where
   pub first : List ℕ
   pub second : List ℕ
@@ -43,8 +43,8 @@ pub record AreListsOf {A S H : Type 0} (eq : A → A → Bool) (fields : A → R
   pub delivered_lines : TalliesLines eq fields (delivered_in ask second) lists.delivered
   pub carried : HasFirsts eq fields (carried_along ask ask.ordered first ++ carried_along ask ask.delivered second) lists.firsts
 
--- two files were read. The status is 0 exactly if their texts name the same quantity of each article, else 1. `made` also has the text that shows
--- both
+-- two files were read. `made` has the status: 0 exactly if their texts name the same quantity of each article, else 1. `made` also has the text of
+-- the rows of both lists
 pub record AreMatchedFiles (Rising : List Record → Type 0) (gives : Gives) (files : TwoFiles) (ask : Ask) (made : Vec ℕ × Findings) : Type 0 where
   pub first : List ℕ
   pub second : List ℕ

@@ -29,7 +29,7 @@ module _ {T : Type 0} where
     surplus = sum_by surplus_of rows;
   }
 
-  -- `totals` has the same sums, one in each field
+  -- `totals` is `totals_in rows`, field by field
   pub record AreTotals (rows : List (Row T)) (totals : Totals) : Type 0 where
     pub articles : totals.articles ≡ length rows
     pub differing : totals.differing ≡ count_by (λ row. not (agrees row)) rows

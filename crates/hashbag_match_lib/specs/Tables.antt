@@ -65,11 +65,11 @@ spaces n = replicate n 32
 abbrev pub gap : ℕ → List ℕ
 gap k = if k == 0 then [] else spaces 2
 
--- a cell in a column of this width: a field at the left, a number at the right
+-- a cell in a column of this width: a field is aligned left, a number right
 abbrev pub cell_text : Bool → ℕ → List ℕ → List ℕ
 cell_text is_field width cell = if is_field then cell ++ spaces (width - width_of cell) else spaces (width - width_of cell) ++ cell
 
--- the cells of a line from the column k on, and a line feed. The first columns have fields, as many as `fields` says
+-- the cells of a line from the column k on, and a line feed. The first `fields` columns have fields
 abbrev pub line_from : (ℕ → ℕ) → ℕ → ℕ → Record → List ℕ
 line_from width fields k [] = 10 ∷ []
 line_from width fields k (cell ∷ cells) = gap k ++ (cell_text (nat_lt k fields) (width k) cell ++ line_from width fields (k + 1) cells)
@@ -86,7 +86,7 @@ width_in widths k = get_or widths.items k 0
 abbrev pub AppendsLine : Vec ℕ → ℕ → Vec (String Global) → String Global → String Global → Type 0
 AppendsLine widths fields cells old new = string_bytes new ≡ string_bytes old ++ line_text (width_in widths) fields (cell_bytes cells)
 
--- a table has a line of titles, and a line of each of these cells, in columns of these widths
+-- a table is a line of titles, and a line for each record of `cells`, in columns of these widths
 abbrev pub HasLines : Vec ℕ → ℕ → Vec (String Global) → List Record → String Global → Type 0
 HasLines widths fields titles cells table = string_bytes table ≡ flat_map (line_text (width_in widths) fields) (cell_bytes titles ∷ cells)
 

@@ -23,12 +23,12 @@ use Rattle.hashbag_match_lib.specs.declared.texts.Lists.{Lists}
 abbrev pub Rise : List Record → Type 0
 Rise articles = IsStrictlySortedBy (slice_cmp (slice_cmp nat_cmp)) articles
 
--- the same by the order of the type that articles are kept as
+-- articles, as bytes, are in the ascending order `cmp` of the type A of articles
 abbrev pub RiseAs : {A : Type 0} → (A → A → Ordering) → (A → Record) → List Record → Type 0
 RiseAs {A} cmp fields articles = (kept : List A) × IsStrictlySortedBy cmp kept × (articles ≡ map fields kept)
 
 module _ (Rising : List Record → Type 0) where
-  -- the rows of the articles that lines of either list name: one row for each article, with its quantity in each list, in this order
+  -- the rows of the articles that lines of either list name: one row for each article, with its quantity in each list. `Rising` holds of the articles
   pub record AreRowsOfLines (L M : Lines) (rows : List (Row Record)) : Type 0 where
     pub rising : Rising (map (λ row. row.article) rows)
     pub ordered : All (λ row. row.ordered ≡ quantity same_article row.article L) rows

@@ -7,7 +7,7 @@ use Rattle.hashbag_csv.specs.Readers.{Record}
 abbrev pub width_of : List ℕ → ℕ
 width_of cell = str_width false (chars cell)
 
--- the width of the column k, counted from 0, of these lines: that of its widest cell
+-- the width of the column k, counted from 0, of these lines: the width of the column's widest cell
 abbrev pub column_width : List Record → ℕ → ℕ
 column_width [] k = 0
 column_width (line ∷ lines) k = max (width_of (get_or line k [])) (column_width lines k)
@@ -16,6 +16,6 @@ column_width (line ∷ lines) k = max (width_of (get_or line k [])) (column_widt
 abbrev pub AreWidths : List Record → List ℕ → Type 0
 AreWidths lines widths = (k : ℕ) → get_or widths k 0 ≡ column_width lines k
 
--- the widths that the columns have once these cells are in them, too
+-- `wide` are the widths of the columns after a line of these cells is added
 abbrev pub AreWidened : List ℕ → Record → List ℕ → Type 0
 AreWidened widths cells wide = (k : ℕ) → get_or wide k 0 ≡ max (get_or widths k 0) (width_of (get_or cells k []))

@@ -26,7 +26,7 @@ numbers_in row = row.ordered ∷ row.delivered ∷ missing_of row ∷ surplus_of
 abbrev pub number_names : Record
 number_names = codes "ordered" ∷ codes "delivered" ∷ codes "missing" ∷ codes "surplus" ∷ []
 
--- how rows are written: the names of the key columns and of those that are carried along, the scale of numbers, and what is between fields
+-- how rows are written: the names of the key columns and of the carried columns, the scale of numbers, and what is between fields
 pub record Look : Type 0 where
   pub keys : Record
   pub carried : Record
@@ -99,7 +99,7 @@ member_tokens names fields = members names (map string fields)
 abbrev pub field_tokens : List (Bor (List ℕ)) → List (String Global) → List Token
 field_tokens names fields = member_tokens (map (λ n. n.now) names) (map string_bytes fields)
 
--- a number, or the text of it if the scale has decimals
+-- a JSON number, or a JSON string with the number's text if the scale has decimals
 abbrev pub number_token : Scale → ℕ → Token
 number_token scale n = if scale.decimals == 0 then number (decimal n) else string (number_text scale n)
 
@@ -124,6 +124,6 @@ row_object layout row = object_of (look_of layout) (entry_of row)
 abbrev pub rows_tokens : Layout → List (Row Fields) → List Token
 rows_tokens layout rows = array_tokens (map (object_of (look_of layout)) (entries_of rows))
 
--- an array of an object for each row, on a line
+-- an array on one line, with an object for each row
 abbrev pub json_text : Look → List Entry → List ℕ
 json_text look rows = print (array_tokens (map (object_of look) rows)) ++ 10 ∷ []

@@ -11,7 +11,7 @@ records : records_text Comma ((codes "sku" ∷ codes "ordered" ∷ []) ∷ (code
 unfolding fields_text is_blank escaped
 records = refl
 
--- it has none between other delimiters, and a quote in it is two
+-- a field with another delimiter has no quotes, and a quote in a field is written as two
 other_records : records_text Semicolon ((codes "1,5" ∷ codes "2\"" ∷ []) ∷ []) ≡ codes "1,5;\"2\"\"\"\n"
 unfolding fields_text is_blank escaped
 other_records = refl

@@ -39,7 +39,7 @@ impl<'a> Columns<'a> {
 /// What is asked for.
 #[derive(Drop)]
 pub struct Ask<'a> {
-    /// The columns of what was ordered. The output has the same names of key columns, and the same form of numbers and of CSV.
+    /// The columns of what was ordered. The output has the names of these key columns, and the scale and the delimiter of this list.
     pub ordered: Columns<'a>,
     /// The columns of what was delivered.
     pub delivered: Columns<'a>,
@@ -51,7 +51,7 @@ pub struct Ask<'a> {
     pub only: Only,
     /// How the rows are written.
     pub form: Form,
-    /// How many bad lines of a file are named.
+    /// At most this many bad lines of a file are named.
     pub max_errors: usize,
     /// Whether articles that are perhaps the same (`alike`) are left out of the messages.
     pub quiet: bool,

@@ -105,8 +105,8 @@ fn errors_in<A: Article + Drop>(
     }
 }
 
-// Returns `read`. If it is the error that the header lacks a column, and each line counts as one, the message also names `--no-header`: the text may
-// be a list without a header.
+// Returns `read`. If the error is that the header lacks a column, each line counts as one, and lists have headers, the message also names
+// `--no-header`: the list may have no header.
 fn with_cure<T: Drop>(
     alloc: Global,
     columns: &Columns<'_>,
@@ -229,7 +229,7 @@ fn match_as<'a, A: Article + Drop, S: BuildHasher + Copy + Drop, I: Inputs>(
 ///
 /// # Errors
 ///
-/// What is wrong with the first bad file; what was ordered is read first. `Memory` if an allocation fails.
+/// What is wrong with the first bad file; the file of what was ordered is read first. `Memory` if an allocation fails.
 ///
 /// # Complexity
 ///

@@ -1,4 +1,4 @@
-//! For a line that was rejected: the option that would read it, as messages name it.
+//! The option that would read a line that was rejected, as messages name the option.
 use hashbag_csv::fault::{Fault, SheetError};
 use hashbag_csv::line_form::LineForm;
 use hashbag_csv::scale::Mark;

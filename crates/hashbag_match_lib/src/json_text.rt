@@ -80,7 +80,7 @@ fn write_rows(
     writer.end_array()
 }
 
-/// Returns the rows as a JSON array of an object for each row, on a line.
+/// Returns the rows as a JSON array on one line, with an object for each row.
 ///
 /// # Errors
 ///

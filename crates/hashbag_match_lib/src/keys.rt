@@ -1,4 +1,4 @@
-//! Articles by the fields of their key columns.
+//! Names of columns.
 use std::alloc::{AllocError, Global};
 
 /// Splits names of columns at commas.
@@ -6,7 +6,7 @@ pub fn names_in(alloc: Global, text: &str) -> Result<Vec<&str>, AllocError> {
     text.split(',').collect(alloc)
 }
 
-/// Returns the first name that occurs twice.
+/// Returns the first name that repeats a name before it, or `None`.
 pub fn repeated<'n>(names: &[&'n str]) -> Option<&'n str> {
     for (index, name) in names.iter().enumerate() {
         let before = names.get(..index).unwrap_or(&[]);

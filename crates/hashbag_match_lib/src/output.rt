@@ -23,12 +23,12 @@ pub enum Form {
     Table,
     /// As CSV, with a header and the delimiter of the input.
     Csv,
-    /// As a JSON array of an object for each row.
+    /// As a JSON array that has an object for each row.
     Json,
 }
 
 impl Form {
-    /// Returns the form of one of the names `table`, `csv` and `json`, and a table for another name.
+    /// Returns the form with this name: `table`, `csv` or `json`. Returns `Table` for any other name.
     pub fn named(name: &str) -> Form {
         match name {
             "csv" => Form::Csv,
@@ -54,7 +54,7 @@ pub struct Layout<'a> {
 // The names of the columns of numbers.
 pub(crate) static NUMBERS: [&str; 4] = ["ordered", "delivered", "missing", "surplus"];
 
-/// Returns whether a name is that of a column of numbers, which no key column may have.
+/// Returns whether a column of numbers has this name. No key column of the output, and no carried column, may have such a name.
 pub fn is_reserved(name: &str) -> bool {
     NUMBERS.iter().any(|number| *number == name)
 }

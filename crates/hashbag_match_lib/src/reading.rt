@@ -57,9 +57,9 @@ fn add_lines<A: Article + Drop, S: BuildHasher + Drop>(
     Ok(())
 }
 
-/// Returns the tally of the lines of a text, which are read in this form, under this hash state. An article is the fields of the columns that `keys`
-/// names, and may be on more than one line; its numbers add up. Numbers are in units of the scale. Their sum is at most `scale.most`. If `number` is
-/// `None`, each line counts as one.
+/// Returns the tally of the lines of a text. Lines are read in the form `form`, and the tally's bags hash by `state`. An article is the fields of the
+/// columns that `keys` names, and may be on more than one line; its numbers add up. Numbers are in units of the scale. Their sum is at most
+/// `scale.most`. If `number` is `None`, each line counts as one.
 ///
 /// # Errors
 ///
@@ -67,8 +67,8 @@ fn add_lines<A: Article + Drop, S: BuildHasher + Drop>(
 ///
 /// # Complexity
 ///
-/// Allocates the article of each line: a vector, and a text for each field. Keeps those of new articles, and drops the others. Hashes
-/// the article of each line once, and one that is carried into a larger table once more.
+/// Allocates the article of each line, keeps it if it is new, and else drops it. Hashes it once, and once more each time that it is carried into
+/// another table.
 pub fn read_tally<A: Article + Drop, S: BuildHasher + Copy + Drop>(
     alloc: Global,
     state: S,
@@ -78,11 +78,11 @@ pub fn read_tally<A: Article + Drop, S: BuildHasher + Copy + Drop>(
     reading: Reading,
     form: LineForm,
 ) -> Result<Tally<A, S>, SheetError>
-    // `counts` has each article as often as the sum of its numbers in the text's lines, and `zeros` once for each of its lines with the number 0. A line is
-    // an article and a number, from the columns that `keys` and `number` name.
+    // `counts` has each article as often as the sum of its numbers in the text's lines. `zeros` has it as often as it has a line with the number 0.
+    // A line is an article and a number, from the columns that `keys` and `number` name.
     ensures lines { IfOk result (TalliesLines A.eq A.fields (lines_named reading form keys.now number.entry text.now)) }
 
-    // Each record has as many fields as the header, or as the first record of a list without one, or fewer if the form allows it.
+    // Each record has as many fields as the header, or as the first record of a list without a header, or fewer if the form allows it.
     ensures fits { IfOk result (λ tally. FitHeader form.allows_short (list_in reading.delimiter form text.now)) }
 
     // No slot of an older table waits in either bag.

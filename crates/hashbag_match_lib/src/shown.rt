@@ -23,7 +23,7 @@ pub enum Only {
 }
 
 impl Only {
-    /// Returns the choice of one of the names `missing`, `surplus`, `differing` and `all`, and all for another name.
+    /// Returns the choice with this name: `missing`, `surplus`, `differing` or `all`. Returns `All` for any other name.
     pub fn named(name: &str) -> Only {
         match name {
             "missing" => Only::Missing,
@@ -77,15 +77,15 @@ fn fields_along<'f, A: Article + Drop, S: BuildHasher + Drop>(
 ///
 /// # Complexity
 ///
-/// Copies no field. Hashes the article of each row that is written once, if fields are carried along.
+/// Copies no field. If fields are carried along, hashes once the article of each row that is written.
 pub fn shown_rows<'a, A: Article + Drop, S: BuildHasher + Drop>(
     alloc: Global,
     only: Only,
     rows: &[Row<&'a A>],
     firsts: &'a HashMap<A, Vec<String>, S>,
 ) -> Result<Vec<Row<Fields<'a>>>, AllocError>
-    // If `firsts` has the first carried fields of some lines, `shown` are the rows that `only` shows, in order, each with its article's fields and
-    // those that the first of these lines with the article carries.
+    // If `firsts` has exactly the articles of lines K, each with the carried fields of its first line, `shown` are the rows that `only` shows, in
+    // order. Each has its article's fields, and the carried fields of the first line of K with the article.
     ensures { IfOk result (λ shown. AreShownRows A.eq A.fields firsts.now only rows.now shown.items) }
 {
     let mut shown = Vec::new(alloc);

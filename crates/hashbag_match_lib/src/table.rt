@@ -41,7 +41,7 @@ fn push_texts(alloc: Global, cells: &mut Vec<String>, texts: &[&str]) -> Result<
     Ok(())
 }
 
-// Returns the titles: the names of the key columns in capitals, then those of the columns that are carried along, then those of the numbers.
+// Returns the titles: the names of the key columns and of the carried columns, in capitals, then the titles of the columns of numbers.
 fn titles_of(alloc: Global, layout: Layout<'_>) -> Result<Vec<String>, AllocError>
     ensures { IfOk result (λ titles. cell_bytes titles ≡ titles_in (look_of layout.entry)) }
 {
@@ -78,7 +78,7 @@ fn push_numbers<T>(
     Ok(())
 }
 
-// Returns the cells of a row: the fields of its article, and those that are carried along, then its numbers.
+// Returns the cells of a row: the article's fields, its carried fields, and the row's numbers.
 fn cells_of(alloc: Global, row: &Row<Fields<'_>>, scale: Scale) -> Result<Vec<String>, AllocError>
     ensures { IfOk result (λ cells. cell_bytes cells ≡ cells_in scale (entry_of row.now)) }
 {
@@ -89,7 +89,7 @@ fn cells_of(alloc: Global, row: &Row<Fields<'_>>, scale: Scale) -> Result<Vec<St
     Ok(cells)
 }
 
-// Returns the width of a cell, and 0 if there is none.
+// Returns the width of the cell at this index, or 0 if there is no cell.
 fn width_at(cells: &Vec<String>, index: usize) -> usize
     ensures { result ≡ width_of (get_or (cell_bytes cells.now) index []) }
 {
@@ -99,7 +99,7 @@ fn width_at(cells: &Vec<String>, index: usize) -> usize
     0
 }
 
-// Returns the widths that the columns have once these cells are in them, too.
+// Returns the widths of the columns after a line of these cells is added.
 fn widened(
     alloc: Global,
     widths: &Vec<usize>,
@@ -115,7 +115,7 @@ fn widened(
     Ok(wide)
 }
 
-// Returns the widths of the columns of the titles and of these rows, of which one row's cells are in memory at a time.
+// Returns the widths of the columns of a table with these titles and rows. One row's cells are in memory at a time.
 fn widths_of(
     alloc: Global,
     titles: &Vec<String>,
@@ -155,7 +155,7 @@ fn push_gap(table: &mut String, column: usize) -> Result<(), AllocError>
     push_spaces(table, 2)
 }
 
-// Appends a cell in a column of this width: a field at the left, a number at the right.
+// Appends a cell in a column of this width: a field is aligned left, a number right.
 fn push_cell(table: &mut String, cell: &str, width: usize, is_field: bool) -> Result<(), AllocError>
     ensures { OnOk result (string_bytes table.new ≡ string_bytes table.old ++ cell_text is_field width cell.now) }
 {
@@ -168,7 +168,7 @@ fn push_cell(table: &mut String, cell: &str, width: usize, is_field: bool) -> Re
     table.push_str(cell)
 }
 
-// Appends a line: the first cells, which are fields, at the left of their columns, the others at the right.
+// Appends a line. The first `fields` cells are fields, aligned left; the other cells are numbers, aligned right.
 fn push_line(
     table: &mut String,
     cells: &Vec<String>,
@@ -185,7 +185,7 @@ fn push_line(
     table.push('\n')
 }
 
-// Returns the last line.
+// Returns the last line of a table: how many articles differ, and the sums.
 fn sums_of(alloc: Global, totals: &Totals, scale: Scale) -> Result<String, AllocError>
     ensures { IfOk result (λ text. string_bytes text ≡ sums_text scale totals.now) }
 {
@@ -201,7 +201,7 @@ fn sums_of(alloc: Global, totals: &Totals, scale: Scale) -> Result<String, Alloc
     format!(in alloc; "{differing} articles differ: {missing} missing, {surplus} surplus\n")
 }
 
-// Returns the text of the titles and of the rows, whose first cells are fields. One row's cells are in memory at a time.
+// Returns the lines of the titles and of the rows. The first `fields` cells of each line are fields. One row's cells are in memory at a time.
 fn lines_text(
     alloc: Global,
     titles: &Vec<String>,
@@ -221,7 +221,7 @@ fn lines_text(
     Ok(table)
 }
 
-/// Returns the rows in columns, articles and what is carried along at the left, and the sums of all rows below them.
+/// Returns the rows as a table. Fields are aligned left, numbers right. The last line has the sums `totals`.
 ///
 /// # Errors
 ///

@@ -11,7 +11,7 @@ use std::hash::{BuildHasher, Hash};
 pub struct Tally<T: Eq + Hash + Drop, S: BuildHasher + Drop> {
     /// Each article, as often as the sum of the numbers of its lines.
     pub counts: HashBag<T, S>,
-    /// The articles of the lines with the number 0, each once for each of these lines.
+    /// Each article, as often as it has a line with the number 0.
     pub zeros: HashBag<T, S>,
 }
 
@@ -40,7 +40,7 @@ impl<T: Eq + Hash + Drop, S: BuildHasher + Drop> Tally<T, S> {
             let _len = self.counts.len();
             return match self.zeros.insert(article) {
                 Ok(_) => Ok(()),
-                // `TooMany` can't be: no file has as many lines.
+                // `TooMany` can't occur: no file has that many lines.
                 Err(_) => Err(BagError::Memory),
             };
         }

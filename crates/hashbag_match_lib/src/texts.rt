@@ -39,8 +39,8 @@ pub fn carry_lines<A: Article + Drop, S: BuildHasher + Drop>(
     ask: &Ask<'_>,
     firsts: &mut HashMap<A, Vec<String>, S>,
 ) -> Result<(), SheetError>
-    // If `firsts` had exactly the articles of lines K, with the carried fields of each one's first line, it now has those of K followed by the text's
-    // lines, or of K alone if no columns are carried.
+    // If `firsts` had exactly the articles of some lines K, each with the carried fields of its first line in K, it now has the articles of K
+    // followed by the text's lines, in the same way. If no columns are carried, it still has the articles of K.
     ensures { OnOk result (AddsFirsts A.eq A.fields (carried_along ask.now columns.now text.now) firsts.old firsts.new) }
 {
     if ask.carried.is_empty() {

@@ -23,7 +23,7 @@ IsMostCommon {T} eq cmp k bag P = (W : List (T × ℕ)) × IsSetWalkOf eq bag W 
 abbrev pub comes_first : {T : Type 0} → (T → T → Ordering) → T × ℕ → T × ℕ → Bool
 comes_first cmp x y = is_lt (rank cmp x y)
 
--- H are k of P, or all if there are fewer, and none that is left out comes before one of them
+-- H are k items of P, or all if P has fewer. No other item of P comes before an item of H
 pub record IsFirstOf {X : Type 0} (lt : X → X → Bool) (k : ℕ) (P H : List X) : Type 0 where
   pub rest : List X
   pub parts : IsPermutation P (H ++ rest)

@@ -13,8 +13,8 @@ use std::iter::ExactSizeIterator;
 
 /// Adds all occurrences of `from` to `into`: each count is then the sum of both.
 ///
-/// Everything is added, or nothing. If a value is in both bags, the instance stored in `into` stays. The limit of `into` stays, and that of
-/// `from` doesn't matter.
+/// Everything is added, or nothing. If a value is in both bags, the instance stored in `into` stays. The limit of `into` stays, and the limit
+/// of `from` doesn't matter.
 ///
 /// If `into` has room for the values that it lacks, its slots stay. Else it gets a table of slots that has room for the distinct values of both bags.
 /// If that table can't be allocated, `into` gets one with room for the values that it lacks.
@@ -313,7 +313,8 @@ pub fn take_away<T: Eq + Hash + Drop, S: BuildHasher + Drop, S2: BuildHasher + D
 ///
 /// # Complexity
 ///
-/// Each distinct value of `from` is hashed at most three times; each of `into` once if it grows.
+/// Each distinct value of `from` is hashed at most three times. Each of `into` is hashed once if `into` has fewer distinct values than `from`, and
+/// once more if `into` grows.
 ///
 /// # Examples
 ///

@@ -5,11 +5,11 @@ ghost use Rattle.hashbag_core.specs.Occurrences.{count};
 use hashbag_core::HashBag;
 use std::hash::{BuildHasher, Hash};
 
-/// Returns whether a bag has of each value at least as many as `other` has.
+/// Returns whether each value occurs in `bag` at least as often as in `other`.
 ///
 /// # Complexity
 ///
-/// It hashes each distinct value of `other` at most once, stops at the first value of which there are too few, and doesn't allocate.
+/// It hashes each distinct value of `other` at most once, stops at the first value of which `bag` has too few, and doesn't allocate.
 ///
 /// # Examples
 ///

@@ -65,7 +65,7 @@ pub fn sum<
 ///
 /// # Complexity
 ///
-/// It clones both bags. Each distinct value of `a` is hashed once, and again if the union grows; each of `b` at most four times.
+/// It clones both bags. Each distinct value of `a` is hashed at most three times, and each of `b` at most four times.
 ///
 /// # Examples
 ///

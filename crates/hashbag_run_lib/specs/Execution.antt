@@ -1,5 +1,5 @@
--- What a run over a reader and a writer did, if the contracts of these know their bytes: `before` and `after` are what the reader still has,
--- `old` and `new` what the writer has.
+-- What a run over a reader and a writer did, if their contracts know their bytes. `before` and `after` are the bytes that the reader still has;
+-- `old` and `new` are the bytes that the writer has.
 use Rattle.std.specs.Prelude.{◌≡◌, ◌⊎◌, ℕ, List, ◌++◌, Option}
 use Rattle.std.specs.Io.KnownBytes.{Consumes, IsAtEnd, Appends, Keeps}
 use Rattle.hashbag_run_lib.specs.Lines.{no_memory}

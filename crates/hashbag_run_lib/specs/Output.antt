@@ -8,7 +8,7 @@ use Rattle.hashbag_run_lib.specs.Format.{AreStepsOf}
 use Rattle.hashbag_run_lib.specs.Joined.{IsRising}
 use Rattle.hashbag_run_lib.specs.Lines.{output, join_lines}
 
--- `rising` is a list for which `Is` holds, in ascending order of values
+-- `rising` has the items of a list for which `Is` holds, in ascending order of values
 pub record IsByValue {X : Type 0} (value : X → ℕ) (Is : List X → Type 0) (rising : List X) : Type 0 where
   pub listed : List X
   pub is : Is listed

@@ -59,12 +59,12 @@ fn copied<T: Copy + Drop>(alloc: Global, joins: &Joins<'_, T>) -> Result<JoinLis
     })
 }
 
-/// Runs steps on two bags, all steps of the first bag before those of the second. Appends a reply for each step, and returns the joins of
-/// the bags that the steps leave.
+/// Runs steps on two bags: first all steps of the first bag, then all steps of the second. Appends a reply for each step, and returns the joins
+/// of the bags that the steps leave.
 ///
 /// # Errors
 ///
-/// `Memory` if an allocation fails. Then no joins are returned. If [`run_pair`] failed, the runs are as it leaves them; else both are done.
+/// `Memory` if an allocation fails. Then no joins are returned. If [`run_pair`] failed, the runs are as it leaves them; else both runs are done.
 pub fn run_and_join<T: Eq + Hash + Copy + Drop, S: BuildHasher + Drop, S2: BuildHasher + Drop>(
     alloc: Global,
     a: &mut HashBag<T, S>,
@@ -74,8 +74,8 @@ pub fn run_and_join<T: Eq + Hash + Copy + Drop, S: BuildHasher + Drop, S2: Build
     replies_a: &mut Vec<Reply<T>>,
     replies_b: &mut Vec<Reply<T>>,
 ) -> Result<JoinLists<T>, BagError>
-    // Whatever lists the bags meant, each step replies as a plain list replies, each bag means what its list has become, and the four lists are
-    // the joins of the two.
+    // Whatever lists the bags meant, each step replies as a plain list replies, and each bag means what its list has become. The four results are
+    // the joins of what the two lists have become.
     ensures whole { IfOk result (λ joins. IsRunAndJoined T.eq
         (ran a.old a.new steps_a.items replies_a.old.items replies_a.new.items)
         (ran b.old b.new steps_b.items replies_b.old.items replies_b.new.items)
@@ -86,7 +86,7 @@ pub fn run_and_join<T: Eq + Hash + Copy + Drop, S: BuildHasher + Drop, S2: Build
     // Only an allocation can fail.
     ensures memory { IfErr result (λ e. e ≡ BagError.Memory) }
 
-    // The runs stopped before the first step, since replies had no room, or at a step of either bag; or both runs are done.
+    // The runs stopped before the first step, since a list of replies had no room for all replies; or at a step of either bag; or both runs are done.
     ensures stopped { OnErr result (AreStoppedRunsOrRest T.eq a.old a.new steps_a replies_a.old replies_a.new
         b.old b.new steps_b replies_b.old replies_b.new) }
 {

@@ -1,4 +1,4 @@
-//! The program's text format: lines in, replies out.
+//! The program `hashbag_run` without its `main`: it reads a step in each line, and writes the replies, the joins and the trees.
 #![tactic(auto)]
 
 pub mod answer;

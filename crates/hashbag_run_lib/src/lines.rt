@@ -39,7 +39,7 @@ fn is_digits(word: &[u8]) -> bool
     word.iter().all(|byte| byte.is_ascii_digit())
 }
 
-// Returns the number of a word, or `None` unless the word is 1 to 20 decimal digits of a `u64`.
+// Returns the number of a word of 1 to 20 decimal digits. Returns `None` for any other word, or if the number isn't a `u64`.
 fn number(word: &[u8]) -> Option<u64>
     ensures { result ≡ number_in word.now }
 {
@@ -131,7 +131,7 @@ pub struct Scripts {
 }
 
 impl Scripts {
-    // Appends the step of a line, and returns `true`. If the line is no step, returns whether it is empty.
+    // Appends the step of a line, and returns `true`. If the line is no step, returns whether the line is empty.
     fn push(&mut self, alloc: Global, line: &[u8]) -> Result<bool, AllocError>
         ensures a { OnOk result (AppendsCommand (codes "a") line.now self.old.a.items self.new.a.items) }
         ensures b { OnOk result (AppendsCommand (codes "b") line.now self.old.b.items self.new.b.items) }
@@ -151,8 +151,8 @@ impl Scripts {
     }
 }
 
-// Returns the number of the line after `passed` lines, or `Memory` if no `u64` is that number. A slice never has so many lines, but no
-// contract says so.
+// Returns the number of the line after `passed` lines, or `Memory` if the number isn't a `u64`. A slice can't have that many lines, but no
+// contract says that.
 fn line_after(passed: u64) -> Result<u64, LinesError>
     ensures next { IfOk result (λ number. number ≡ passed + 1) }
     ensures memory { IfErr result (λ e. e ≡ LinesError.Memory) }

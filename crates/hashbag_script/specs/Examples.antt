@@ -129,13 +129,13 @@ twice_in_reserved_room : IsRoomy same_key greatest_total [] (Insert (1, 10) ∷ 
 unfolding arrivals
 twice_in_reserved_room = record { calls = refl; enough = omega arith }
 
--- ---- what a step leaves of the tables
+-- ---- how a step changes the tables
 
 -- 32 slots, all of them Empty, and 17 of an older table that wait
 abbrev carrying : Tables (ℕ × ℕ)
 carrying = record { newer = replicate 32 Empty; waiting = replicate 17 Empty; older = 32; built = 48 }
 
--- 1 arrived in the first slot. Its insertion carried the next 16 slots, so that one waits
+-- 1 arrived in the first slot. Its insertion carried the next 16 slots, so one slot still waits
 abbrev carried : Tables (ℕ × ℕ)
 carried = record { newer = Live (1, 10) 1 ∷ replicate 31 Empty; waiting = Empty ∷ []; older = 32; built = 48 }
 

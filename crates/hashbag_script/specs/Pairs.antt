@@ -17,7 +17,7 @@ pub record Ran (T S : Type 0) : Type 0 where
 abbrev pub ran : {T S : Type 0} → Bag T S → Bag T S → List (Step T) → List (Reply T) → List (Reply T) → Ran T S
 ran before after steps replies_before replies_after = record { before = before; after = after; steps = steps; replies_before = replies_before; replies_after = replies_after }
 
--- v has no room for as many more items as w has
+-- v must allocate to append the items of w: its capacity is less than both lengths together
 abbrev pub HasNoRoom : {X Y Z W : Type 0} → Vec X Z → Vec Y W → Type 0
 HasNoRoom v w = vec_capacity v < vec_len v + vec_len w
 
@@ -45,20 +45,20 @@ module _ {T : Type 0} (eq : T → T → Bool) where
   abbrev pub IsDone : {S : Type 0} → Ran T S → Type 0
   IsDone r = (X : List T) → Means r.before X → IsDoneFrom X r
 
-  -- memory stopped the run, whichever list the bag meant
+  -- a failed allocation stopped the run at a step, whichever list the bag meant
   abbrev pub IsCutOff : {S : Type 0} → Ran T S → Type 0
   IsCutOff r = (X : List T) → Means r.before X → IsStopped eq r.before.most X r.steps r.replies_before r.replies_after r.after
 
-  -- memory stopped the run: before the first step, since there was no room for the replies; or at a step
+  -- a failed allocation stopped the run: before the first step, since there was no room for the replies; or at a step
   abbrev pub IsRunCutOff : {S : Type 0} → Type 0 → Ran T S → Type 0
   IsRunCutOff NoRoom r = IsNotBegun NoRoom r ⊎ IsCutOff r
 
-  -- memory stopped the runs of two bags: before the first step, since there was no room for the replies; or in the first
+  -- a failed allocation stopped the runs of two bags: before the first step, since there was no room for the replies; or in the first
   -- run, and the second bag is untouched; or in the second run, and the first was done
   abbrev pub IsPairCutOff : {S S2 : Type 0} → Type 0 → Ran T S → Ran T S2 → Type 0
   IsPairCutOff NoRoom r q = IsPairNotBegun NoRoom r q ⊎ ((IsCutOff r × IsUntouched q) ⊎ (IsDone r × IsCutOff q))
 
-  -- memory stopped the runs of two bags; or both were done, and memory stopped what comes after them
+  -- a failed allocation stopped the runs of two bags; or both were done, and a failed allocation stopped what comes after them
   abbrev pub IsCutOffAfter : {S S2 : Type 0} → Type 0 → Ran T S → Ran T S2 → Type 0
   IsCutOffAfter NoRoom r q = IsPairCutOff NoRoom r q ⊎ (IsDone r × IsDone q)
 

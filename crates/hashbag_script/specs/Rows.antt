@@ -1,5 +1,4 @@
--- The table of steps: what each call that a script may have leaves of the plain list X of a bag's occurrences, and what it
--- replies.
+-- The table of steps: how each call that a script may have changes the plain list X of a bag's occurrences, and what it replies.
 use Rattle.std.specs.Prelude.{ℕ, ◌+◌, ◌-◌, min, nat_lt, ◌==◌, if◌then◌else◌, Bool, List, [], ◌∷◌, length, unwrap_or, find, option_map}
 use Rattle.hashbag_script.specs.declared.script.Reply.{Reply}
 use Rattle.hashbag_script.specs.declared.script.Reply.TheVariants.{Count, Left, Taken, Absent, Done, TooMany, BelowTotal}
@@ -12,7 +11,7 @@ module _ {T : Type 0} (eq : T → T → Bool) where
       if nat_lt most (length X + n) then (X, TooMany)
       else (add eq v n X, Count (count eq v X))
 
-  -- replace: v itself, once, for all that are equal to it, unless the total would pass the limit `most`; the count before
+  -- replace: v itself, once, in the place of all items that are equal to v, unless the total would pass the limit `most`; the count before
   abbrev pub replace_row : ℕ → T → List T → List T × Reply T
   replace_row most v X =
       if nat_lt most (length X - count eq v X + 1) then (X, TooMany)
@@ -22,7 +21,7 @@ module _ {T : Type 0} (eq : T → T → Bool) where
   abbrev pub remove_row : T → List T → List T × Reply T
   remove_row v X = (less eq v 1 X, Count (count eq v X))
 
-  -- remove_up_to: q fewer of v, or none if there were fewer than q; the count after
+  -- remove_up_to: q fewer of v, or none left if there were fewer than q; the count after
   abbrev pub remove_up_to_row : T → ℕ → List T → List T × Reply T
   remove_up_to_row v q X = (less eq v q X, Count (count eq v X - min q (count eq v X)))
 

@@ -1,4 +1,4 @@
--- What whole runs of steps reply and leave, on the plain list of a bag's occurrences.
+-- The replies of whole runs of steps, and the list and the limit after them, on the plain list of a bag's occurrences.
 use Rattle.std.specs.Prelude.{◌≡◌, ◌≢◌, ℕ, ◌+◌, ◌-◌, ◌*◌, ◌<◌, ◌≤◌, ◌==◌, max, nat_lt, if◌then◌else◌, Bool, true, false, List, [], ◌∷◌, ◌++◌, length}
 use Rattle.std.specs.List.{list_any}
 use Rattle.hashbag_table.specs.Tables.{Tables, room, IsLeast}
@@ -55,7 +55,7 @@ module _ {T : Type 0} where
   ShrinksSlots s before after = is_about_room s ≡ true → is_reserve s ≡ false → length after.tables.newer ≤ length before.tables.newer
 
 module _ {T : Type 0} (eq : T → T → Bool) where
-  -- the list that a step leaves of X, in a bag with the limit `most`, and its reply
+  -- the list that X becomes by a step, in a bag with the limit `most`, and the step's reply
   abbrev pub step : ℕ → List T → Step T → List T × Reply T
   step most X (Insert v) = insert_row eq most v 1 X
   step most X (InsertMany v n) = insert_row eq most v n X
@@ -73,7 +73,7 @@ module _ {T : Type 0} (eq : T → T → Bool) where
   step most X ShrinkToFit = shrink_to_fit_row eq X
   step most X (Limit n) = limit_row eq n X
 
-  -- the limit that a step leaves: n if the step is `Limit n` and n isn't below the total, else the limit before
+  -- the limit after a step: n if the step is `Limit n` and n isn't below the total, else the limit before
   abbrev pub limit_after : ℕ → List T → Step T → ℕ
   limit_after most X (Insert v) = most
   limit_after most X (InsertMany v n) = most
@@ -91,7 +91,7 @@ module _ {T : Type 0} (eq : T → T → Bool) where
   limit_after most X ShrinkToFit = most
   limit_after most X (Limit n) = if nat_lt n (length X) then most else n
 
-  -- what steps leave of the list X, one after the other, in a bag with the limit `most`; and their replies
+  -- the list that X becomes by steps, one after the other, in a bag with the limit `most`; and their replies
   unfoldable pub run : ℕ → List T → List (Step T) → List T × List (Reply T)
   run most X [] = (X, [])
   run most X (s ∷ steps) =
@@ -99,36 +99,36 @@ module _ {T : Type 0} (eq : T → T → Bool) where
       let rest = run (limit_after most X s) one.0 steps in
       (rest.0, one.1 ∷ rest.1)
 
-  -- what a step on a bag leaves of its list, and replies
+  -- the list that a bag's list becomes by a step, and the reply
   abbrev pub step_in : {S : Type 0} → Step T → Bag T S → List T × Reply T
   step_in s bag = step bag.most bag.items s
 
-  -- what `EntryOr v n` on a bag leaves of its list, and replies
+  -- the list that a bag's list becomes by `EntryOr v n`, and the reply
   abbrev pub entry_or_in : {S : Type 0} → T → ℕ → Bag T S → List T × Reply T
   entry_or_in v n bag = entry_or_row eq bag.most v n bag.items
 
-  -- the limit that steps on the list X leave, one after the other, in a bag with the limit `most`
+  -- the limit after steps on the list X, one after the other, in a bag with the limit `most` before
   unfoldable pub limit_left : ℕ → List T → List (Step T) → ℕ
   limit_left most X [] = most
   limit_left most X (s ∷ steps) = limit_left (limit_after most X s) (step most X s).0 steps
 
-  -- for each list that the bag meant: the replies that were appended are those of these steps on that list
+  -- for each list that the bag meant: the appended replies are the replies of these steps on that list
   abbrev pub AppendsReplies : {S : Type 0} → Bag T S → List (Step T) → List (Reply T) → List (Reply T) → Type 0
   AppendsReplies bag steps old new = (X : List T) → Means bag X → new ≡ old ++ (run bag.most X steps).1
 
-  -- for each list that the bag meant before: it now means what these steps leave of that list
+  -- for each list that the bag meant before: it now means the list that this list becomes by the steps
   abbrev pub LeavesRun : {S : Type 0} → Bag T S → List (Step T) → Bag T S → Type 0
   LeavesRun before steps after = (X : List T) → Means before X → Means after (run before.most X steps).0
 
-  -- for each list that the bag meant before: it now has the limit that these steps on that list leave
+  -- for each list that the bag meant before: it now has the limit after these steps on that list
   abbrev pub LeavesLimit : {S : Type 0} → Bag T S → List (Step T) → Bag T S → Type 0
   LeavesLimit before steps after = (X : List T) → Means before X → after.most ≡ limit_left before.most X steps
 
-  -- the list that the steps leave of an empty list, in a bag for which no limit is set
+  -- the list that an empty list becomes by the steps, in a bag for which no limit is set
   abbrev pub left_by : Steps T → List T
   left_by steps = (run greatest_total [] steps).0
 
-  -- the limit that the steps leave of an empty bag for which no limit is set
+  -- the limit after the steps on an empty bag for which no limit is set
   abbrev pub limit_by : Steps T → ℕ
   limit_by steps = limit_left greatest_total [] steps
 
@@ -169,9 +169,9 @@ module _ {T : Type 0} (eq : T → T → Bool) where
   abbrev pub IfRoomy : {S : Type 0} → Bag T S → List (Step T) → Type 0 → Type 0
   IfRoomy bag steps P = (X : List T) → Means bag X → IsRoomy bag.most X steps bag.tables → P
 
-  -- What a run from no slots leaves. With no `Reserve` the greatest number of distinct values at any time (`peak`) bounds the slots. Fewer
-  -- slots wait than the newer table has. With no `ShrinkToFit` either, the values that arrived (`arrivals`) bound the slots of all tables
-  -- that were built.
+  -- The tables after a run on an empty bag without slots. With no `Reserve` the greatest number of distinct values at any time (`peak`) bounds the
+  -- slots. Fewer slots wait than the newer table has. With no `ShrinkToFit` either, the values that arrived (`arrivals`) bound the slots of all
+  -- tables that were built.
   pub record IsBounded (most : ℕ) (steps : List (Step T)) (old new : Tables T) : Type 0 where
     pub slots : list_any is_reserve steps ≡ false → 3 * length new.newer ≤ max 48 (16 * peak most [] steps)
     pub smaller : 0 < length new.waiting → length new.waiting + 16 ≤ length new.newer

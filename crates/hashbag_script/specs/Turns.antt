@@ -1,4 +1,4 @@
--- What the steps of a run leave of a bag's tables, one after another.
+-- How each step of a run changes a bag's tables.
 use Rattle.std.specs.Prelude.{◌≡◌, ℕ, ◌-◌, ◌<◌, ◌⊎◌, Bool, List, [], ◌∷◌, length, take}
 use Rattle.std.specs.List.Sorted.{IsPermutation}
 use Rattle.hashbag_table.specs.Tables.{Tables, values, Arrives, ReservesOrStays, ShrinksOrStays}
@@ -16,7 +16,7 @@ abbrev pub answered : {T S : Type 0} → Ran T S → List (Step T)
 answered r = take (length r.replies_after - length r.replies_before) r.steps
 
 module _ {T : Type 0} where
-  -- What a step on one value leaves of the tables, if the value's count was c before and is d after. If the value was absent and is present, it
+  -- How a step on one value changes the tables, if the value's count was c before and is d after. If the value was absent and is present, it
   -- arrived: the next 16 waiting slots were carried. If it was absent and is so still, the tables are unchanged. If it was present, they are as
   -- `InPlace` says.
   pub record LeavesValue (c d : ℕ) (InPlace : Type 0) (old new : Tables T) : Type 0 where
@@ -33,12 +33,12 @@ module _ {T : Type 0} (eq : T → T → Bool) where
   abbrev pub StoresValue : T → ℕ → ℕ → Tables T → Tables T → Type 0
   StoresValue v c d old new = LeavesValue c d (StoresOver eq v old new) old new
 
-  -- what `shrink_to_fit` leaves of the tables of a bag that means X
+  -- how `shrink_to_fit` changes the tables of a bag that means X
   pub record Shrinks (X : List T) (old new : Tables T) : Type 0 where
     pub none : X ≡ [] → new ≡ no_slots old.built
     pub shrinks : ShrinksOrStays (distinct_count eq X) old new
 
-  -- What a step leaves of the tables, if it turned the list X into Y. A step on a value changes the tables for that value alone. `Retain` changes
+  -- How a step changes the tables, if it turned the list X into Y. A step on a value changes the tables for that value alone. `Retain` changes
   -- counts in place, and `Clear` empties the slots. `Reserve n` makes room for n more values if there isn't that room, and `ShrinkToFit` builds a
   -- smaller table if one is enough. If one of the two changes the tables, no slot waits then. The other steps change none.
   abbrev pub LeavesTables : List T → List T → Step T → Tables T → Tables T → Type 0
@@ -58,7 +58,7 @@ module _ {T : Type 0} (eq : T → T → Bool) where
   LeavesTables X Y ShrinkToFit old new = Shrinks X old new
   LeavesTables X Y (Limit n) old new = new ≡ old
 
-  -- what a step leaves of the tables of a bag, which means a list before and after it
+  -- how a step changes the tables of a bag: `LeavesTables` for the bag's lists and tables before and after the step
   abbrev pub LeavesTablesOf : {S : Type 0} → Step T → Bag T S → Bag T S → Type 0
   LeavesTablesOf s before after = LeavesTables before.items after.items s before.tables after.tables
 

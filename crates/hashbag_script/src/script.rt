@@ -38,8 +38,8 @@ pub enum Step<T> {
     EntrySet(T, usize),
     /// [`HashBag::entry`] with `or_insert_many`, or `TooMany` if the total would pass the limit.
     EntryOr(T, usize),
-    /// [`HashBag::retain`]: a value keeps at most as many as the number of the first value in the list that is equal to it. If there is
-    /// none, it is removed.
+    /// [`HashBag::retain`] with a number for each value: the number of the first equal value in the list, or 0 if the list has no equal
+    /// value.
     Retain(Vec<(T, usize)>),
     /// [`HashBag::clear`].
     Clear,
@@ -245,7 +245,7 @@ fn apply<T: Eq + Hash + Drop, S: BuildHasher + Drop>(
     bag: &mut HashBag<T, S>,
     step: Step<T>,
 ) -> Result<Reply<T>, BagError>
-    // The reply, the occurrences and the limit are those of a step on a plain list.
+    // The step has the reply of a step on a plain list, and leads to the same occurrences and the same limit.
     ensures reply { IfOk result (λ reply. reply ≡ (step_in T.eq step bag.old).1) }
     ensures left { OnOk result (Means bag.new (step_in T.eq step bag.old).0) }
     ensures limit { OnOk result (bag.new.most ≡ limit_after T.eq bag.old.most bag.old.items step) }
@@ -257,7 +257,7 @@ fn apply<T: Eq + Hash + Drop, S: BuildHasher + Drop>(
     ensures asked { OnErr result (AsksForMemory T.eq bag.old.most bag.old.items bag.old.tables step) }
     ensures err { OnErr result (bag.new ≡ bag.old) }
 
-    // `takes`: if there is room for what a step inserts, the step can't fail, unless it is `Reserve` or `ShrinkToFit`. `turns`: what a step leaves of
+    // `takes`: if there is room for what a step inserts, the step can't fail, unless it is `Reserve` or `ShrinkToFit`. `turns`: how a step changes
     // the tables. `fewer`: `ShrinkToFit` makes no larger table.
     ensures takes { is_about_room step ≡ false → HasRoomFor T.eq bag.old (step_in T.eq step bag.old).0 → IsOk result }
     ensures turns { OnOk result (LeavesTablesOf T.eq step bag.old bag.new) }
@@ -331,8 +331,8 @@ pub fn run<T: Eq + Hash + Drop, S: BuildHasher + Drop>(
     steps: Vec<Step<T>>,
     replies: &mut Vec<Reply<T>>,
 ) -> Result<(), BagError>
-    // Each step replies as a plain list of the bag's occurrences would, whatever the order of the list. The bag then has the occurrences that the
-    // list has become.
+    // Each reply is the one that the step gives on a plain list of the bag's occurrences, whatever the order of the list. After the run the bag has
+    // the occurrences of that list.
     ensures replies { OnOk result (AppendsReplies T.eq bag.old steps.items replies.old.items replies.new.items) }
     ensures means { OnOk result (LeavesRun T.eq bag.old steps.items bag.new) }
     ensures limit { OnOk result (LeavesLimit T.eq bag.old steps.items bag.new) }

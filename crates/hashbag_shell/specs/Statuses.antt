@@ -5,7 +5,7 @@ use Rattle.std.specs.declared.io.ErrorKind.TheVariants.{BrokenPipe}
 use Rattle.hashbag_shell.specs.declared.trouble.Trouble.{Trouble}
 use Rattle.hashbag_shell.specs.declared.trouble.Trouble.TheVariants.{Printed, NotText, Arguments, File, BadLine, Other, Memory, MemoryIn, Random, Write}
 
--- 2: a word or a line is bad; 3: an allocation failed; 4: the system failed; 5: a total is too large; `Printed` and `Other` have their own
+-- 2: an argument or a line is bad; 3: an allocation failed; 4: the system failed; 5: a total is too large; `Printed` and `Other` have their own
 abbrev pub status_of : Trouble → ℕ
 status_of (Printed status) = status
 status_of NotText = 2

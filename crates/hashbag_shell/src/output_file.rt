@@ -71,8 +71,8 @@ fn open_existing<R: Files<File = File> + AllocGlobal>(
     }
 }
 
-// Returns the path to which the symbolic link `link` points. The link contains `text`, a path from the link's folder, or from `/` if it begins
-// so.
+// Returns the path to which the symbolic link `link` points. The link contains `text`: an absolute path, if it begins with `/`, or a path from the
+// link's folder.
 fn target_of(alloc: Global, link: &str, text: &str) -> Result<String, AllocError> {
     match link.rsplit_once('/') {
         Some((folder, _)) if !text.starts_with('/') => format!(in alloc; "{folder}/{text}"),

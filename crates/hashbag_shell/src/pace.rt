@@ -4,8 +4,8 @@ ghost use Rattle.hashbag_shell.specs.Paces.{share};
 
 /// Returns `n * part / whole`, rounded down, or `None` if `whole` is 0.
 ///
-/// If `n` is 100, `part` the work done and `whole` all work, that is the percentage done. If `n` is the seconds so far, `part` the work
-/// left and `whole` the work done, that is the seconds left.
+/// If `n` is 100, `part` the work done and `whole` all work, the result is the percentage done. If `n` is the seconds so far, `part` the work
+/// left and `whole` the work done, the result is the seconds left.
 pub fn share_of(n: u64, part: u64, whole: u64) -> Option<u128>
     ensures { result ≡ share n part whole }
 {

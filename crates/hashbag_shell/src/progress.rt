@@ -122,9 +122,9 @@ impl Progress {
         format!(in alloc; "{done} of {whole}, {percent}%")
     }
 
-    // Returns how much was read, and at which rate. If the whole is known, also returns the seconds left; but in the first second only how much was
-    // read. `works` says that nothing more is read until the bytes read so far are processed. How long that takes isn't known, so then neither the
-    // rate nor the seconds left are returned.
+    // Returns how much was read, and the rate. If the whole is known, also returns the seconds left, but in the first second neither the rate nor
+    // these seconds. If the whole was read, or if `works`, the text says in their place that the bytes are being processed: how long that takes isn't
+    // known. If `works`, nothing more is read until the bytes read so far are processed.
     fn text(&self, alloc: Global, seconds: u64, works: bool) -> Result<String, AllocError> {
         let read = self.read_text(alloc)?;
         let left = self.whole.map(|whole| whole.saturating_sub(self.done));
@@ -159,7 +159,7 @@ impl Progress {
     }
 
     /// Adds bytes that were read from the input of this name. Reports the progress if the last report is at least a second old. On a
-    /// terminal the first two seconds aren't reported.
+    /// terminal nothing is reported in the first two seconds.
     pub fn tell(&mut self, rt: &HostRuntime, name: &str, bytes: usize) {
         self.done = self.done.saturating_add(bytes as u64);
         let Some((start, last)) = self.times else {

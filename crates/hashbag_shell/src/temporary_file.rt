@@ -14,7 +14,7 @@ const NAMES: u32 = 1000;
 ///
 /// # Errors
 ///
-/// The system's error: the folder doesn't exist or may not be written, or too many files are open.
+/// The system's error: the folder doesn't exist or may not be written, or too many files are open. `AlreadyExists` if all names are in use.
 pub fn create_unnamed<R: Files + AllocGlobal>(
     rt: &R,
     folder: &str,

@@ -12,8 +12,8 @@ use std::alloc::Global;
 /// The message for a file that is read as Latin-1 or Windows-1252, but begins with the byte order mark of UTF-8.
 pub const MARKED: &str = "UTF-8, by its byte order mark; `--encoding UTF-8` reads it";
 
-// Returns the number of the first line that shows that these bytes aren't text, and what they are, or `None` if they may be text. Returns `None` also
-// for UTF-16 with a byte order mark, since the code that reads the text then rejects it with its own message.
+// Returns `None` if these bytes may be text. Else returns the number of the first line that shows that they aren't, and what they are. Returns `None`
+// also for UTF-16 with a byte order mark: the code that reads the text then rejects it with its own message.
 fn no_text(bytes: &[u8]) -> Option<(u64, &'static str)> {
     if bytes.starts_with(b"\x1f\x8b") {
         return Some((1, "gzip; `zcat` makes it text"));
@@ -29,8 +29,8 @@ fn no_text(bytes: &[u8]) -> Option<(u64, &'static str)> {
     ))
 }
 
-/// Returns whether the encoding is Latin-1 or Windows-1252, and the bytes begin with the byte order mark of UTF-8. No text in these encodings
-/// begins so.
+/// Returns whether the encoding is Latin-1 or Windows-1252, and the bytes begin with the byte order mark of UTF-8. In these encodings the mark would
+/// be three letters and signs, so the bytes are taken for UTF-8.
 pub fn is_marked_utf8(encoding: Encoding, bytes: &[u8]) -> bool {
     matches!(encoding, Encoding::Latin1 | Encoding::Windows1252)
         && bytes.starts_with(b"\xef\xbb\xbf")
@@ -46,7 +46,7 @@ fn checked<'a>(alloc: Global, file: &'a str, bytes: Vec<u8>) -> Result<Vec<u8>, 
     }
 }
 
-/// Returns the trouble, with `option` in place of `--encoding` if its message names that.
+/// Returns the trouble. If it is a bad line whose message names `--encoding`, the message names `option` instead.
 pub fn with_option<'a>(alloc: Global, trouble: Trouble<'a>, option: &str) -> Trouble<'a> {
     if let Trouble::BadLine {
         file,

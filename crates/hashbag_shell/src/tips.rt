@@ -9,8 +9,8 @@ fn quoted(text: &str) -> Option<&str> {
     Some(name)
 }
 
-// Returns how many changes of characters turn a word into a name, if these are at most a third of the word's characters. Two characters in
-// the wrong order are one change. Hyphens at the beginning of either don't count.
+// Returns how many changes of characters turn a word into a name, or `None` if the changes are more than a third of the word's characters. Two
+// characters in the wrong order are one change. Hyphens at the beginning of either text don't count.
 fn changes_if_near(alloc: Global, word: &str, name: &str) -> Result<Option<usize>, AllocError> {
     let (word, name) = (word.trim_start_matches('-'), name.trim_start_matches('-'));
     let changes = osa_distance(alloc, word, name)?;
@@ -18,7 +18,7 @@ fn changes_if_near(alloc: Global, word: &str, name: &str) -> Result<Option<usize
 }
 
 /// Returns whether changes to at most a third of a word's characters turn the word into the name. Two characters in the wrong order are one
-/// change. Hyphens at the beginning of either don't count.
+/// change. Hyphens at the beginning of either text don't count.
 ///
 /// # Errors
 ///
@@ -27,7 +27,7 @@ pub fn is_near(alloc: Global, word: &str, name: &str) -> Result<bool, AllocError
     Ok(changes_if_near(alloc, word, name)?.is_some())
 }
 
-/// Of the names that are offered, the one that is nearest to a word: a name that [`is_near`], with the fewest changes. Of several, the first.
+/// A search for the name nearest to a word. Among the offered names that are near ([`is_near`]), it finds the first with the fewest changes.
 #[derive(Drop)]
 pub struct Nearest<'w, 'n> {
     word: &'w str,
@@ -35,7 +35,7 @@ pub struct Nearest<'w, 'n> {
 }
 
 impl<'w, 'n> Nearest<'w, 'n> {
-    /// Makes a search for the name nearest to this word. No name is offered yet.
+    /// Returns a search for the name nearest to this word. No name has been offered yet.
     pub fn new(word: &'w str) -> Self {
         Nearest { word, found: None }
     }

@@ -114,7 +114,7 @@ impl<'a> Trouble<'a> {
 
     /// Returns the exit status of a program that ends for this reason:
     ///
-    /// - 2: a word or a line is bad;
+    /// - 2: an argument or a line is bad;
     /// - 3: an allocation failed;
     /// - 4: a file wasn't opened, read or written, or the system gives no random numbers;
     /// - 5: a total is too large;

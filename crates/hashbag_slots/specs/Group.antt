@@ -17,17 +17,17 @@ IsMaskOf test from until bits = (i : ℕ) → bit_at bits i ≡ (if nat_lt (from
 abbrev pub IsMaskFrom : (ℕ → Bool) → ℕ → ℕ → ℕ → ℕ → Type 0
 IsMaskFrom test from at until bits = IsMaskOf (from_place_on test at) from until bits
 
--- p is the place of the lowest set bit, if bit 0 is of the place `from`. By tests: let the bits be the mask of any test, at the places from any `at`
--- to before any `until`. Then p is the first of these places that passes the test
+-- p is the place of the lowest set bit, if bit 0 is of the place `from`. This is stated by masks: if the bits are the mask of a test, at the places
+-- from some `at` to before some `until`, then p is the first of these places that passes the test
 abbrev pub IsLowestOf : ℕ → ℕ → ℕ → Type 0
 IsLowestOf from bits p = (test : ℕ → Bool) (at until : ℕ) → from ≤ at → IsMaskFrom test from at until bits → IsFirstPlace test at until p
 
--- let the bits be the mask of any test, at the places from any `at` to before any `until`. Then p is before `until`
+-- if the bits are the mask of a test, at the places from some `at` to before some `until`, then p is before `until`
 abbrev pub IsWithinMask : ℕ → ℕ → ℕ → Type 0
 IsWithinMask from bits p = (test : ℕ → Bool) (at until : ℕ) → IsMaskFrom test from at until bits → p < until
 
--- `rest` are the bits without the bit of the place p. By tests: let the bits be the mask of any test. Then `rest` is the mask of the same test at the
--- places after p
+-- `rest` are the bits without the bit of the place p. This is stated by masks: if the bits are the mask of a test, then `rest` is the mask of the
+-- same test at the places after p
 abbrev pub IsRestAfter : ℕ → ℕ → ℕ → ℕ → Type 0
 IsRestAfter from bits p rest = (test : ℕ → Bool) (at until : ℕ) → IsMaskFrom test from at until bits → IsMaskFrom test from (p + 1) until rest
 

@@ -158,7 +158,7 @@ module _ {T : Type 0} where
   PlacesAll hash [] old new = new ≡ old
   PlacesAll hash (e ∷ es) old new = (next : List (Slot T)) × PlacesFirst hash e.0 e.1 old next × PlacesAll hash es next new
 
-  -- what a carry leaves of a slot
+  -- how a carry changes a slot
   abbrev pub carried : Slot T → Slot T
   carried Empty = Empty
   carried Removed = Removed

@@ -37,7 +37,7 @@ abbrev pub turns : ℕ → List ℕ → List ℕ → List (ℕ × ℕ)
 turns zero newer older = []
 turns (suc turn) newer older = turn_places turn 0 newer older ++ turns turn newer older
 
--- the Live places that a walk still gives, each with its turn: in this turn those from the place `next` on, and then those of the later turns
+-- the Live places that a walk still gives, each with its turn: the places of this turn from `next` on, and then the places of the later turns
 abbrev pub places_left : ℕ → ℕ → List ℕ → List ℕ → List (ℕ × ℕ)
 places_left turn next newer older = turn_places turn next newer older ++ turns turn newer older
 

@@ -145,7 +145,7 @@ pub fn next_on_course(newer: &[u8], older: &[u8], course: Course) -> Option<(usi
     requires older { length older.now % 16 ≡ 0 }
     requires course { IsCourse newer.now older.now course }
 
-    // The place is the first of those that are left, and the returned course has left the places after it. `None`: no place is left.
+    // The place is the first of the places that are left, and the returned course has the places after it left. `None`: no place is left.
     ensures some { IfSome result (λ r. IsNextOn newer.now older.now course.turn course.next r.0 r.1) }
     ensures none { IfNone result (places_left course.turn course.next newer.now older.now ≡ []) }
 {

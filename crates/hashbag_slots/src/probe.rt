@@ -236,7 +236,7 @@ fn find_at_home<T: Eq + Hash, Q: Key<T>>(
 /// Most values are in their home slot, the first one of their path. In a large table, whose cells aren't in the cache, the home slot is tried first.
 /// Its cell then loads without waiting for the other tags. In a small table a wrong guess costs more than it saves.
 ///
-/// Of the first 16 slots only those before the first Empty one are read. The value can't be after the Empty slot, so a cell there with the same
+/// Of the first 16 slots only the slots before the first Empty one are read. The value can't be after the Empty slot, so a cell there with the same
 /// fingerprint would be read for nothing.
 #[inline(always)]
 pub fn find_place<T: Eq + Hash, S: BuildHasher, Q: Key<T>>(

@@ -217,7 +217,7 @@ impl<T: Eq> Slots<T> {
         ensures former { slot_at self.old.slots place ≡ Slot.Live result (count_in (slot_at self.old.slots place)) }
         ensures after { self.new.slots ≡ slice_set self.old.slots place (with_value value (slot_at self.old.slots place)) }
 
-        // Let equal values have one `hash` (`IsAlike`). If a probe found each value by it before, it still does.
+        // If equal values have one `hash` (`IsAlike`), and a probe found each value by its `hash` before, a probe still does.
         ensures reached { (hash : T → ℕ) → IsAlike T.eq hash → IsReached hash self.old → IsReached hash self.new }
     {
         let (former, count) = self.cells.take(place);

@@ -8,8 +8,8 @@
 //! places, the first half of the walk would fill the smaller table from end to end, and the second half would probe through full slots. A block is so
 //! large that a pass reads the memory of its own blocks alone.
 //!
-//! In clauses `YieldsFirst (λ s. s)` says that a walk is its list of what is left, and `next` gives the first of it. `lower` and `upper` are the
-//! clauses of the trait: the bounds hold of the number of items left.
+//! In clauses a walk is the list of the items that are left. `YieldsFirst (λ s. s)` says that `next` gives the first item of that list. `lower` and
+//! `upper` are clauses of the trait `Iterator`: the number of items left is within both bounds.
 ghost use Rattle.std.specs.Prelude.{◌≡◌, ℕ, length, Some, IfSome, ⊤};
 ghost use Rattle.std.specs.Iterator.{YieldsFirst, YieldsFirstBy, item_count, at_most, UpTo};
 ghost use Rattle.std.specs.Iterator.SizeHint.{IsWithinCount};

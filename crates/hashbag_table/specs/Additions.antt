@@ -1,4 +1,4 @@
--- What an addition leaves of a map and of its slots, and when one may fail.
+-- How an addition changes a map and its slots, and when an addition may fail.
 use Rattle.std.specs.Prelude.{◌≡◌, ℕ, ◌+◌, ◌<◌, Bool, List, length, None, IsTrue, Result, OnErr, IsOk}
 use Rattle.hashbag_slots.specs.declared.slots.Slot.{Slot}
 use Rattle.hashbag_slots.specs.declared.slots.Slot.TheVariants.{Live}

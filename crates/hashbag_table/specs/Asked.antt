@@ -1,4 +1,4 @@
--- Calls of a closure with the entries of a map, one after another, and what the returned numbers leave of the map.
+-- Calls of a closure with the entries of a map, one after another, and how the returned numbers change the map.
 use Rattle.std.specs.Prelude.{◌≡◌, ℕ, min, nat_lt, if◌then◌else◌, List, [], ◌∷◌, ◌++◌}
 use denote.Ref.{Bor}
 use denote.Param.Members.{Mut}
@@ -22,8 +22,8 @@ module _ {F T : Type 0} (g : Mut F (Bor T × (ℕ × Unit {0})) ℕ) where
     pub shows : value.now ≡ e.0
     pub called : Called g f (value, (e.1, tt)) a f'
 
-  -- calls with each entry in turn, from f on, may return these numbers, and turn the closure into f'. Each call gets the closure that the call before
-  -- left
+  -- calls with each entry in turn, from f on, may return these numbers, and turn the closure into f'. Each call gets the closure as the
+  -- previous call left it
   abbrev pub AnswersInTurn : F → List (T × ℕ) → List ℕ → F → Type 0
   AnswersInTurn f [] [] f' = f ≡ f'
   AnswersInTurn f [] (a ∷ answers) f' = ⊥

@@ -1,4 +1,4 @@
--- What the numbers returned by a closure leave of slots.
+-- How slots change by the numbers that a closure returns.
 use Rattle.std.specs.Prelude.{◌≡◌, ℕ, ◌<◌, min, nat_lt, if◌then◌else◌, List, [], ◌∷◌, drop, length}
 use denote.Ref.{Bor}
 use denote.Param.Members.{Mut}
@@ -8,24 +8,24 @@ use Rattle.hashbag_slots.specs.Slots.{slot_at}
 use Rattle.hashbag_table.specs.Asked.{MayAnswer}
 use Rattle.hashbag_table.specs.Tables.{Tables}
 
--- what the returned number a leaves of a Live slot: the lesser of its count and a, and Removed if that is 0
+-- a Live slot with the value v and the count n, after a was returned for v: the count is the lesser of n and a, or the slot is Removed if that is 0
 abbrev pub slot_left : {T : Type 0} → T → ℕ → ℕ → Slot T
 slot_left v n a = if nat_lt 0 (min a n) then Live v (min a n) else Removed
 
 module _ {T : Type 0} where
-  -- what the returned number a leaves of a slot. A slot that is not Live is unchanged
+  -- how the returned number a changes a slot. A slot that is not Live is unchanged
   abbrev pub slot_kept : ℕ → Slot T → Slot T
   slot_kept a Empty = Empty
   slot_kept a Removed = Removed
   slot_kept a Moved = Moved
   slot_kept a (Live v n) = slot_left v n a
 
-  -- each slot is what some number leaves of the slot at the same place: no value is in another slot than before
+  -- each slot follows by `slot_kept` from the slot at the same place, with some number. So no value is in another slot than before
   pub record RetainsSlots (old new : List (Slot T)) : Type 0 where
     pub same_length : length new ≡ length old
     pub each : (p : ℕ) → (a : ℕ) × (slot_at new p ≡ slot_kept a (slot_at old p))
 
-  -- each newer slot, and each waiting slot, is what some number leaves of the slot at the same place. No table was built
+  -- `RetainsSlots` holds of the newer slots and of the waiting slots. No table was built
   pub record RetainsTables (old new : Tables T) : Type 0 where
     pub newer : RetainsSlots old.newer new.newer
     pub waiting : RetainsSlots old.waiting new.waiting
@@ -39,7 +39,8 @@ module _ {F T : Type 0} (g : Mut F (Bor T × (ℕ × Unit {0})) ℕ) where
   LeavesSlot f Moved t f' = (t ≡ Moved) × (f ≡ f')
   LeavesSlot f (Live v n) t f' = (a : ℕ) × MayAnswer g f (v, n) a f' × (t ≡ slot_left v n a)
 
-  -- f, called with the entry of each Live slot in turn, may leave these slots, and become f'. Each call gets the closure that the call before left
+  -- f, called with the entry of each Live slot in turn, may leave these slots, and become f'. Each call gets the closure as the previous call
+  -- left it
   abbrev pub LeavesSlots : F → List (Slot T) → List (Slot T) → F → Type 0
   LeavesSlots f [] [] f' = f ≡ f'
   LeavesSlots f [] (t ∷ ts) f' = ⊥

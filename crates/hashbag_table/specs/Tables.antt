@@ -10,7 +10,7 @@ use Rattle.hashbag_table.specs.declared.table.Spot.TheVariants.{Newer, Waiting}
 use Rattle.hashbag_table.specs.Entries.{IsCounted}
 
 -- two tables. `newer`: the slots of the newer table in the order of places. `waiting`: the slots of the older table that wait to be carried. `older`:
--- how many slots the older table has. `built`: how many slots all tables had that ever were the newer one
+-- how many slots the older table has. `built`: the sum of the slots of all tables that were ever the newer one
 pub record Tables (T : Type 0) : Type 0 where
   pub newer : List (Slot T)
   pub waiting : List (Slot T)
@@ -59,9 +59,9 @@ module _ {T : Type 0} where
   abbrev pub entries_of : List (Slot T) → List (Slot T) → List (T × ℕ)
   entries_of newer waiting = entries newer ++ entries waiting
 
-  -- two tables; the first `carried_to` slots of the older one were carried. Values are found in both tables. No value is Live in both. No slot of the
-  -- newer table is Moved. No carried slot is Live. The values of both tables and the Removed slots of the newer one are together at most its
-  -- `most_used`
+  -- two tables; the first `carried_to` slots of the older one were carried. A probe of a table finds each of its values. No value is Live in both. No
+  -- slot of the newer table is Moved. No carried slot is Live. The values of both tables and the Removed slots of the newer one are together at most
+  -- its `most_used`
   pub record AreTables (eq : T → T → Bool) (hash : T → ℕ) (newer older : Columns T) (carried_to : ℕ) : Type 0 where
     pub newer_reached : IsReached hash newer
     pub older_reached : IsReached hash older
@@ -80,9 +80,9 @@ module _ {T : Type 0} where
     pub smaller : (drop carried_to older.slots ≡ []) ⊎ (16 + length (drop carried_to older.slots) ≤ length newer.slots)
     pub freed : length older.slots ≤ carried_to → length older.slots ≡ 0
 
-  -- the table `newer` may become the newer one. Then the slots `former` are the older table, whose first `many` slots are carried at once. Values are
-  -- found in `newer`. No more of its slots are used than `most_used` allows. The slots that wait then are at most 16 times the room, and there are
-  -- none or at least 16 fewer than slots of `newer`
+  -- the table `newer` may become the newer one. Then the slots `former` are the older table, whose first `many` slots are carried at once. A probe
+  -- of `newer` finds each of its values. No more of its slots are used than `most_used` allows, with the values of `former`. The slots that wait then
+  -- are at most 16 times the room, and there are none or at least 16 fewer than slots of `newer`
   pub record MayAdopt (eq : T → T → Bool) (hash : T → ℕ) (newer : Columns T) (former : List (Slot T)) (many : ℕ) : Type 0 where
     pub reached : IsReached hash newer
     pub apart : AreApart eq former newer.slots
@@ -100,7 +100,7 @@ module _ {T : Type 0} where
     pub live : live_count newer_after + live_count waiting_after ≡ live_count newer + live_count waiting
     pub removed : removed_count newer_after ≤ removed_count newer
 
-  -- `Carried` for two tables, before and after: first the older table's slots from the place `from` on wait, and then those from the place `to` on
+  -- `Carried` for two tables. The older table's slots from the place `from` on wait before, and its slots from the place `to` on wait after
   abbrev pub CarriedOn : ℕ → ℕ → ℕ → Columns T → Columns T → Columns T → Columns T → Type 0
   CarriedOn k from to newer older newer' older' = Carried k newer.slots (drop from older.slots) newer'.slots (drop to older'.slots)
 

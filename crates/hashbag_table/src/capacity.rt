@@ -48,7 +48,7 @@ pub fn most_used(slots: usize) -> usize
     3 * slots / 4
 }
 
-// Returns whether at most three eighths of `slots` slots are Live. Then a new table with as many slots has room for as many values more.
+// Returns whether at most three eighths of `slots` slots are Live. A new table with as many slots then has room for at least `live` more values.
 fn is_sparse(slots: usize, live: usize) -> bool
     requires count { slots ≤ 2 ^ 59 }
     requires live { live ≤ slots }
@@ -57,8 +57,8 @@ fn is_sparse(slots: usize, live: usize) -> bool
     8 * live <= 3 * slots
 }
 
-/// Returns the number of slots of the table that follows one of `slots` slots with `live` values: 16 if `slots` is 0, `slots` if at most three
-/// eighths are Live, else `2 * slots`.
+/// Returns how many slots a growth makes, if the table has `slots` slots and `live` values: 16 if `slots` is 0, `slots` if at most three eighths of
+/// them are Live, else `2 * slots`.
 ///
 /// # Errors
 ///

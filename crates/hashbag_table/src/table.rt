@@ -54,7 +54,7 @@ pub enum Spot {
 /// Distinct values, each stored once with its count, a `usize` of at least 1. Values that `==` calls equal are one value.
 ///
 /// Contracts see a table as the list of its entries, in an order that means nothing, and the state that hashes its values. They also see
-/// the slots of the newer table, and those of the older one that wait to be carried.
+/// the slots of the newer table, and the slots of the older one that wait to be carried.
 #[derive(Drop)]
 pub struct Table<T: Eq + Hash + Drop, S: BuildHasher + Drop> {
     newer: Slots<T>,
@@ -65,7 +65,7 @@ pub struct Table<T: Eq + Hash + Drop, S: BuildHasher + Drop> {
     hasher: S,
     // The allocator of the table and of its copies.
     alloc: Global,
-    // How many slots were ever built: those of all tables that were the newer one. For contracts only.
+    // How many slots were ever built: the slots of all tables that were the newer one, together. For contracts only.
     built: Built,
     // A drain borrows this empty field: while the drain lives, the table is borrowed.
     lent: [usize; 0],
@@ -243,7 +243,7 @@ impl<T: Eq + Hash + Drop, S: BuildHasher + Drop> Table<T, S> {
     pub fn remove<Q: Key<T>>(&mut self, key: Q) -> Option<(T, usize)>
         ensures taken { result ≡ named_entry (Q.names key) self.old.entries }
 
-        // The entries are those before, without the value that the key names: `v` is any value that it names.
+        // The entries are the entries before, without the value that the key names: `v` is any value that it names.
         ensures left { (v : T) → IsTrue (Q.names key v) → IsMapOf T.eq self.old (without T.eq v self.old.entries) self.new }
         ensures slot { IsSome result → Rewrites (Q.names key) (λ _. Slot.Removed) self.old.tables self.new.tables }
         ensures none { result ≡ None → self.new ≡ self.old }

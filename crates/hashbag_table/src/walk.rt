@@ -1,7 +1,8 @@
 //! Walks over a table: its entries one after another, each once.
 //!
-//! The entries come in no particular order, as [`hashbag_slots::walk`] says. In clauses `YieldsFirst` says that a walk is its list of what is left,
-//! and `next` gives the first of it. `lower` and `upper` are the clauses of the trait: the bounds hold of the number of items left.
+//! The entries come in no particular order, as [`hashbag_slots::walk`] says. In clauses a walk has the list of the items that are left, and
+//! `YieldsFirst` says that `next` gives the first of them. `lower` and `upper` are clauses of the trait `Iterator`: the number of items left is
+//! within both bounds.
 ghost use Rattle.std.specs.Prelude.{◌≡◌, length, Some, IfSome};
 ghost use Rattle.std.specs.Iterator.{YieldsFirst, item_count, at_most, UpTo};
 ghost use Rattle.std.specs.Iterator.SizeHint.{IsWithinCount};

@@ -7,7 +7,7 @@ use Rattle.hashbag_text.specs.declared.bad_bytes.DecodeError.{DecodeError}
 use Rattle.hashbag_text.specs.declared.bad_bytes.DecodeError.TheVariants.{Line}
 use Rattle.hashbag_text.specs.declared.decoder.Decoder.{Decoder}
 
--- if the error is that of a line, P holds
+-- if the error is `Line`, P holds
 abbrev pub IfLine : DecodeError → Type 0 → Type 0
 IfLine e P = (line : ℕ) → (bad_bytes : BadBytes) → e ≡ Line line bad_bytes → P
 

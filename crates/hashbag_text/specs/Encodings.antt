@@ -34,7 +34,7 @@ middle = 0x20AC ∷ 0 ∷ 0x201A ∷ 0x0192 ∷ 0x201E ∷ 0x2026 ∷ 0x2020 ∷
 abbrev pub unless_zero : ℕ → Option ℕ
 unless_zero c = if c == 0 then None else Some c
 
--- the character of a byte in Windows-1252: for the bytes 0x80 to 0x9F that of `middle`, else the one with the number of the byte
+-- the character of a byte in Windows-1252: its character in `middle` if the byte is from 0x80 to 0x9F, else the character with the byte's number
 abbrev pub windows_1252 : ℕ → Option ℕ
 windows_1252 b = if nat_le 0x80 b && nat_lt b 0xA0 then unless_zero (get_or middle (b - 0x80) 0) else Some b
 

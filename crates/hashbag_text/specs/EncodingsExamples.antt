@@ -5,7 +5,7 @@ use Rattle.std.proofs.Math.Utf8.{encode}
 use Rattle.core.specs.Char.Utf16.{utf16_chars}
 use Rattle.hashbag_text.specs.declared.encoding.Encoding.TheVariants.{Utf16, Utf16Le, Utf16Be, Latin1, Windows1252}
 
--- `ä` and a euro sign
+-- the bytes 0xE4 and 0x80: `ä` and U+0080 in Latin-1, `ä` and a euro sign in Windows-1252
 latin : decoded Latin1 (0xE4 ∷ 0x80 ∷ []) ≡ Some (0xC3 ∷ 0xA4 ∷ 0xC2 ∷ 0x80 ∷ [])
 unfolding encode
 latin = refl

@@ -42,7 +42,7 @@ fn put(text: &mut String, c: Option<char>) -> Result<(), DecodeError>
 impl Decoder {
     /// Returns a decoder that was given nothing.
     pub fn new(encoding: Encoding) -> Decoder
-        // Whatever bytes come next, the text is that of these bytes in the encoding, or `None` if they aren't text in it.
+        // For any bytes that come next, the text is what these bytes mean in the encoding, or `None` if they aren't text in it.
         ensures { (bytes : List ℕ) → left_of result bytes ≡ decoded encoding bytes }
     {
         Decoder {
@@ -58,8 +58,8 @@ impl Decoder {
     /// `Line` if the bytes so far can't be text, whatever bytes follow. The text then has the characters before the bad bytes. `Memory` if an
     /// allocation fails. After an error the decoder is of no use.
     pub fn push(&mut self, block: &[u8], text: &mut String) -> Result<(), DecodeError>
-        // Whatever bytes follow: the old text, then the text of `block` and these bytes by the old decoder, is the new text, then the text of these
-        // bytes by the new decoder.
+        // For any bytes that follow, two texts are the same: the old text with what the old decoder gives for `block` and these bytes, and the new
+        // text with what the new decoder gives for these bytes.
         ensures text { OnOk result (DecodesTo self.old block.now (string_bytes text.old) self.new (string_bytes text.new)) }
 
         // If the error is `Line`, what the decoder kept and `block` aren't text, whatever bytes follow.

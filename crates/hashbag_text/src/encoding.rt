@@ -26,7 +26,7 @@ pub enum Encoding {
 }
 
 impl Encoding {
-    /// Returns the encoding with this name of [`NAMES`], in upper or lower case, and `None` for UTF-8.
+    /// Returns the encoding with this name of [`NAMES`], in upper or lower case, and `None` for UTF-8 and for any other name.
     pub fn named(name: &str) -> Option<Encoding> {
         let is = |other: &str| name.eq_ignore_ascii_case(other);
         if is("UTF-16") {

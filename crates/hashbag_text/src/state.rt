@@ -25,7 +25,7 @@ pub enum State {
 impl State {
     /// Returns the state before any byte.
     pub fn new(encoding: Encoding) -> State
-        // `left` is the text of what the state keeps and then of these bytes: here, of these bytes in the encoding, or `None` if they aren't text.
+        // `left` is the text of the bytes that the state keeps and of `bytes`. A new state keeps none: `left` is the text of `bytes` in the encoding.
         ensures { (bytes : List ℕ) → left result bytes ≡ decoded encoding bytes }
     {
         match encoding {

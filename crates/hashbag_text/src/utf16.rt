@@ -71,8 +71,8 @@ fn lone_char(unit: u16) -> Option<char>
 ///
 /// `LoneSurrogate` if there is a first unit `high` and this unit isn't a second one, or if this is a second unit without a first one.
 pub fn after_unit(high: Option<High>, unit: u16) -> Result<(Option<High>, Option<char>), BadBytes>
-    // Whatever units follow, the text of `high`, `unit` and them is the returned character, if any, and then the text of the returned unit, if any,
-    // and them.
+    // For any `units` that follow, the text of `high`, `unit` and `units` is the returned character, if any, and then the text of the returned unit,
+    // if any, and `units`.
     ensures character { IfOk result (EndsUnit high unit) }
 
     // Whatever units follow, there is no text.

@@ -85,7 +85,7 @@ impl<T: Eq + Hash + Drop, S: BuildHasher + Drop> HashBag<T, S> {
         self.table.waiting()
     }
 
-    /// Carries all slots of the older table that aren't carried yet, so that a look-up then probes one table alone. The occurrences stay,
+    /// Carries all slots of the older table that aren't carried yet. A look-up then probes one table alone. The occurrences stay,
     /// and no room is lost.
     ///
     /// Otherwise only an insertion of an absent value carries slots. So a bag that is filled once and then only looked up is faster after this call.

@@ -157,8 +157,8 @@ impl<T: Eq + Hash + Drop, S: BuildHasher + Drop> HashBag<T, S> {
         ensures hasher { IfOk result (λ bag. S.is_default bag.hasher) }
         ensures limit { IfOk result (λ bag. bag.most ≡ greatest_total) }
 
-        // If it fails, an item was that error, or its value failed in a bag that began empty, and into which the values before it were inserted. That
-        // bag is dropped.
+        // If it fails, an item was the returned error, or the insertion of its value failed. The values before that item were inserted into a bag
+        // that began empty. That bag is dropped.
         ensures refused { IfErr result (StopsBuilding S T.eq I.next_gives OkOnce (EndsTry T.eq) items) }
     {
         let mut bag = HashBag::default_in(alloc);
@@ -193,7 +193,7 @@ impl<T: Eq + Hash + Drop, S: BuildHasher + Drop> HashBag<T, S> {
         requires can { I.can_next items }
         requires ends { IsFinite (I.remaining items) }
 
-        // All items were inserted in turn, or those before one that failed.
+        // All items were inserted in turn, or the items before one that failed.
         ensures all { OnOk result (InsertsAll T.eq I.next_gives Once items self.old self.new) }
         ensures refused { IfErr result (InsertsUpTo T.eq I.next_gives Once (RefusesOne T.eq) items self.old self.new) }
     {
@@ -235,8 +235,8 @@ impl<T: Eq + Hash + Drop, S: BuildHasher + Drop> HashBag<T, S> {
         requires can { I.can_next items }
         requires ends { IsFinite (I.remaining items) }
 
-        // `Ok`: no item was an error, and all values were inserted in turn. `Err`: an item was the error, or failed, and the values before it were
-        // inserted.
+        // `Ok`: no item was an error, and all values were inserted in turn. `Err`: an item was the returned error, or the insertion of its value
+        // failed, and the values before that item were inserted.
         ensures all { OnOk result (InsertsAll T.eq I.next_gives OkOnce items self.old self.new) }
         ensures refused { IfErr result (InsertsUpTo T.eq I.next_gives OkOnce (EndsTry T.eq) items self.old self.new) }
     {
@@ -274,7 +274,7 @@ impl<T: Eq + Hash + Drop, S: BuildHasher + Drop> HashBag<T, S> {
         requires can { I.can_next pairs }
         requires ends { IsFinite (I.remaining pairs) }
 
-        // All pairs were inserted in turn, or those before one that failed.
+        // All pairs were inserted in turn, or the pairs before one that failed.
         ensures all { OnOk result (InsertsAll T.eq I.next_gives AsItIs pairs self.old self.new) }
         ensures refused { IfErr result (InsertsUpTo T.eq I.next_gives AsItIs (RefusesPair T.eq) pairs self.old self.new) }
     {
@@ -316,8 +316,8 @@ impl<T: Eq + Hash + Drop, S: BuildHasher + Drop> HashBag<T, S> {
         requires can { I.can_next items }
         requires ends { IsFinite (I.remaining items) }
 
-        // Clones of all items were inserted in turn, or clones of those before one that failed. It failed with `Memory` only if the item's clone may
-        // fail (it isn't infallible), or if an insertion of the clone may fail.
+        // Clones of all items were inserted in turn, or clones of the items before one that failed. That item failed with `Memory` only if its clone
+        // may fail (isn't infallible), or if an insertion of the clone may fail.
         ensures all { OnOk result (InsertsAll T.eq I.next_gives (CloneOnce T.is_clone) items self.old self.new) }
         ensures refused { IfErr result (ClonesUpTo T.eq T.is_clone T.is_infallible I.next_gives items self.old self.new) }
     {
@@ -359,7 +359,7 @@ impl<T: Eq + Hash + Drop, S: BuildHasher + Drop> HashBag<T, S> {
         requires can { I.can_next pairs }
         requires ends { IsFinite (I.remaining pairs) }
 
-        // Clones of all pairs were inserted in turn, or of those before one that failed.
+        // Clones of all pairs were inserted in turn, or clones of the pairs before one that failed.
         ensures all { OnOk result (InsertsAll T.eq I.next_gives (CloneAsOften T.is_clone) pairs self.old self.new) }
         ensures refused { IfErr result (ClonesManyUpTo T.eq T.is_clone T.is_infallible I.next_gives pairs self.old self.new) }
     {

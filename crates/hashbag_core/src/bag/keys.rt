@@ -1,6 +1,6 @@
 //! Insertions by keys, for callers that have no value but a key that names it, as a text names a `String`.
 //!
-//! In the Rust crate, look-ups and removals take the borrowed form of a value. Here they take a `Key`. The insertions of this file take a
+//! In Rust's `hashbag` crate, look-ups and removals take the borrowed form of a value. Here they take a `Key`. The insertions of this file take a
 //! [`ToValue`], from which the value is built only if it is absent.
 ghost use Rattle.std.specs.Prelude.{◌≡◌, ◌+◌, ◌<◌, ◌≤◌, ◌↔◌, length, IsOk, IfOk, IfErr, OnOk, OnErr};
 ghost use Rattle.std.specs.Iterator.{IsFinite};
@@ -138,7 +138,7 @@ impl<T: Eq + Hash + Drop, S: BuildHasher + Drop> HashBag<T, S> {
         requires can { I.can_next keys }
         requires ends { IsFinite (I.remaining keys) }
 
-        // Values of all keys were inserted in turn, or of those before one that failed.
+        // Values of all keys were inserted in turn, or values of the keys before one that failed.
         ensures all { OnOk result (InsertsAll T.eq I.next_gives (NamedOnce Q.names) keys self.old self.new) }
         ensures refused { IfErr result (KeysUpTo T.eq Q.names I.next_gives keys self.old self.new) }
     {

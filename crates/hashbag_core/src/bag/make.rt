@@ -72,7 +72,7 @@ impl<T: Eq + Hash + Drop> HashBag<T, FixedState> {
         // The newer table has the least number of slots that gives room for `n` values. The `0` sets no lower bound.
         ensures least { IfOk result (λ bag. IsLeast 0 n (length bag.tables.newer)) }
 
-        // It is the only table: no slot of an older one waits, room is its own, and no other was built.
+        // It is the only table: no slot of an older table waits, all room is in it, and no other table was built.
         ensures packed { IfOk result (λ bag. IsPacked bag.tables) }
         ensures room { IfOk result (λ bag. n ≤ room bag.tables) }
         ensures built { IfOk result (λ bag. bag.tables.built ≡ length bag.tables.newer) }
@@ -170,7 +170,7 @@ impl<T: Eq + Hash + Drop, S: BuildHasher + Drop> HashBag<T, S> {
         // The newer table has the least number of slots that gives room for `n` values. The `0` sets no lower bound.
         ensures least { IfOk result (λ bag. IsLeast 0 n (length bag.tables.newer)) }
 
-        // It is the only table: no slot of an older one waits, room is its own, and no other was built.
+        // It is the only table: no slot of an older table waits, all room is in it, and no other table was built.
         ensures packed { IfOk result (λ bag. IsPacked bag.tables) }
         ensures room { IfOk result (λ bag. n ≤ room bag.tables) }
         ensures built { IfOk result (λ bag. bag.tables.built ≡ length bag.tables.newer) }

@@ -85,8 +85,8 @@ impl<T: Eq + Hash + Drop, S: BuildHasher + Drop> HashBag<T, S> {
     /// Removes one occurrence of a value. If it was the last one, returns the stored instance in `Ok`. Else it returns in `Err` the stored
     /// instance, which stays in the bag, with the count before, or `Err(None)` if the value is absent.
     ///
-    /// A caller's proof learns only what was removed; from [`HashBag::take_one`] it also learns what the bag then is. `take_one` lends nothing, so it
-    /// can be called in a loop.
+    /// A caller's proof can use what is returned, but not what the bag is after the call; it can use both with [`HashBag::take_one`]. `take_one`
+    /// returns no reference, so it can be called in a loop.
     ///
     /// # Complexity
     ///

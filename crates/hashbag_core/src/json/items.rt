@@ -1,4 +1,4 @@
-//! Numbers and texts as items: a number in its range as a whole number, a text as a string.
+//! `u64`, `i64` and `String` as items: a number is written as a JSON number, a text as a JSON string.
 ghost use Rattle.std.specs.Prelude.{◌≡◌, Some, is_some, string_bytes, refl};
 ghost use Rattle.serde_json.specs.Data.{number, string, unsigned};
 ghost use Rattle.serde_json.specs.Find.{as_str, of_integer};

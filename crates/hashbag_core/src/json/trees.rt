@@ -104,12 +104,12 @@ impl<T: JsonItem + Hash + Drop, S: BuildHasher + Drop> HashBag<T, S> {
         ensures tree { IfOk result (λ v. IsTreeOfCounts T.eq T.cmp T.tree_of self.now.items self.now.most (view v)) }
         ensures items { OnOk result (All T.is_item self.now.items) }
 
-        // The tree has no fault. Every list of pairs as which it is read has the counts of the bag. Its limit is that of the bag.
+        // The tree has no fault. Every list of pairs that it is read as has the counts of the bag. Its limit is the bag's.
         ensures no_fault { IfOk result (λ v. fault greatest_total T.has_item (view v) ≡ None) }
         ensures counts { IfOk result (λ v. ReadsBack T.eq T.reads self.now.items (view v)) }
         ensures limit { IfOk result (λ v. limit_of (view v) ≡ self.now.most) }
 
-        // For any other bag: it has the same counts and the same limit exactly if its tree is this one.
+        // Any other bag has the same counts and the same limit exactly if its tree is this one.
         ensures same { IfOk result (λ v. TellsApart T.eq T.cmp T.tree_of T.is_item self.now.items self.now.most (view v)) }
         ensures no_float { IfOk result (λ v. has_float (view v) ≡ false) }
         ensures memory { IfErr result (λ e. e ≡ BagError.Memory) }

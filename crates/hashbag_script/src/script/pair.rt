@@ -8,13 +8,13 @@ use crate::script::{Reply, Step, run};
 use hashbag_core::{BagError, HashBag};
 use std::hash::{BuildHasher, Hash};
 
-/// Does the steps of two bags, those of the first before those of the second, and appends a reply for each. The states of the bags may be
-/// of different types.
+/// Does the steps of two bags, all steps of the first bag first, and appends a reply for each. The states of the bags may be of different
+/// types.
 ///
 /// # Errors
 ///
-/// `Memory` if an allocation fails. The replies are allocated first: if that fails, nothing changes. Else both runs are done as [`run`] does one, and
-/// the same steps can stop them. If the first run is stopped, the second bag and its replies are unchanged. If the second run is stopped, the first
+/// `Memory` if an allocation fails. The replies are allocated first: if that fails, nothing changes. Else each run is done as by [`run`], and can
+/// stop at the same steps. If the first run is stopped, the second bag and its replies are unchanged. If the second run is stopped, the first
 /// run was done. So the replies show how far each run was done.
 ///
 /// # Examples
@@ -36,8 +36,8 @@ pub fn run_pair<T: Eq + Hash + Drop, S: BuildHasher + Drop, S2: BuildHasher + Dr
     replies_a: &mut Vec<Reply<T>>,
     replies_b: &mut Vec<Reply<T>>,
 ) -> Result<(), BagError>
-    // `ran` is one run: its bag and its replies, before and after. Each step replies as a plain list of its bag's occurrences would. The bag then has
-    // the occurrences that the list has become.
+    // `ran` is one run: its bag and its replies, before and after. Each reply is the one that the step gives on a plain list of the bag's
+    // occurrences. After the run the bag has the occurrences of that list.
     ensures first { OnOk result (IsDone T.eq (ran a.old a.new steps_a.items replies_a.old.items replies_a.new.items)) }
     ensures second { OnOk result (IsDone T.eq (ran b.old b.new steps_b.items replies_b.old.items replies_b.new.items)) }
     ensures first_hasher { a.new.hasher ≡ a.old.hasher }

@@ -72,7 +72,7 @@ impl<T: Eq + Hash + Drop, S: BuildHasher + Drop> Table<T, S> {
         );
     }
 
-    /// Carries all slots that wait, so that a look-up then probes one table alone. The entries stay. If no slot waits, it does nothing.
+    /// Carries all slots that wait. A look-up then probes one table alone. The entries stay. If no slot waits, it does nothing.
     ///
     /// # Complexity
     ///

@@ -17,7 +17,7 @@ impl<T: Eq + Hash + Drop, S: BuildHasher + Drop> Table<T, S> {
     ///
     /// `AllocError` if the allocation fails, or if there would be more than [`MOST_VALUES`].
     pub fn spare(&self, n: usize) -> Result<Spare<T>, AllocError>
-        // In clauses a spare is the number of its slots: the least, not below that of the newer slots, of which the entries and `n` more may be Live.
+        // In clauses a spare is the number of its slots: the least with room for the entries and `n` more, and not below the number of newer slots.
         ensures least { IfOk result (λ spare. IsLeast (length self.now.tables.newer) (length self.now.entries + n) spare) }
         ensures beyond { MOST_VALUES < length self.now.entries + n → IsErr result }
     {
