@@ -56,6 +56,8 @@ shapes() {
       if (match(text, /^(OnOk|IfOk|IfSome|OnSome) result /)) return shape(substr(text, RLENGTH + 1))
       if (match(text, /^(OnErr|IfErr) result /)) return "onErr " shape(substr(text, RLENGTH + 1))
       if (match(text, /^IfNone result /)) return "P → fact"
+      # the total of the greater counts of two bags
+      if (match(text, /^IfUnion T\.eq [a-z.]+ [a-z.]+ /)) return shape(substr(text, RLENGTH + 1))
       # what C gets: the bag behind a handle, and a number in the place of a result
       if (match(text, /^(If|Has)(Numbers|Texts) (\(Some [a-z.]+\)|[a-z.]+) /)) return shape(substr(text, RLENGTH + 1))
       if (is_code && match(text, /^result ≡ 0 → /)) return shape(substr(text, RLENGTH + 1))

@@ -1,3 +1,4 @@
+pub mod Bags
 pub mod Deliveries
 pub mod Ledger
 pub mod Parts

@@ -1,5 +1,5 @@
--- How transfers, removals and runs change counts.
-use Rattle.std.specs.Prelude.{ℕ, ◌+◌, ◌-◌, Bool, List, [], ◌∷◌}
+-- How transfers, removals, joins and runs change counts.
+use Rattle.std.specs.Prelude.{ℕ, ◌+◌, ◌-◌, min, Bool, List, [], ◌∷◌}
 use Rattle.hashbag.specs.Bag.{Bag}
 use Rattle.hashbag.specs.Held.{Recounts}
 use Rattle.hashbag.specs.Occurrences.{count}
@@ -7,6 +7,10 @@ use Rattle.hashbag.specs.Occurrences.{count}
 -- how often a value occurs in two bags together
 abbrev pub count_together : {T S S2 : Type 0} → (T → T → Bool) → T → Bag T S → Bag T S2 → ℕ
 count_together eq v a b = count eq v a.items + count eq v b.items
+
+-- the lesser of the counts of a value in two bags
+abbrev pub lesser_count : {T S S2 : Type 0} → (T → T → Bool) → T → Bag T S → Bag T S2 → ℕ
+lesser_count eq v a b = min (count eq v a.items) (count eq v b.items)
 
 -- in the slots the count of v is less by n, or 0 if it was below n
 abbrev pub LowersCount : {T S : Type 0} → (T → T → Bool) → T → ℕ → Bag T S → Bag T S → Type 0

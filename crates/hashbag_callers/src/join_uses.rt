@@ -1,6 +1,7 @@
 //! Callers to copy: uses of the contracts of the joins.
-ghost use Rattle.std.specs.Prelude.{◌≡◌, ◌+◌, min};
+ghost use Rattle.std.specs.Prelude.{◌≡◌, ◌+◌};
 ghost use Rattle.hashbag.specs.Occurrences.{count};
+ghost use Rattle.hashbag_callers.specs.Transfers.{lesser_count};
 
 use hashbag::HashBag;
 use std::hash::{BuildHasher, Hash};
@@ -12,7 +13,7 @@ pub fn excess_of<T: Eq + Hash + Drop, S: BuildHasher + Drop, S2: BuildHasher + D
     b: &HashBag<T, S2>,
     value: &T,
 ) -> usize
-    ensures { count T.eq value.now a.now.items ≡ min (count T.eq value.now a.now.items) (count T.eq value.now b.now.items) + result }
+    ensures { count T.eq value.now a.now.items ≡ lesser_count T.eq value.now a.now b.now + result }
 {
     match a.difference(b).find(|entry| *entry.0 == *value) {
         Some((_, excess)) => excess,

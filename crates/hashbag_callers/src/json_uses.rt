@@ -1,7 +1,8 @@
 //! Callers to copy: uses of the contracts of trees.
 ghost use Rattle.std.specs.Prelude.{◌≡◌, ◌↔◌, true, IfOk, IfErr};
 ghost use Rattle.serde_json.specs.View.{view};
-ghost use Rattle.hashbag.specs.Equality.{same_counts, bag_eq};
+ghost use Rattle.hashbag.specs.Equality.{same_counts};
+ghost use Rattle.hashbag_callers.specs.Bags.{AreSameBags};
 
 use hashbag::{BagError, HashBag, JsonError, JsonItem};
 use serde_json::Value;
@@ -31,7 +32,7 @@ pub fn both_trees<T: JsonItem + Ord + Hash + Drop, S: BuildHasher + Drop>(
     a: &HashBag<T, S>,
     b: &HashBag<T, S>,
 ) -> Result<(Value, Value), BagError>
-    ensures same_trees { IfOk result (λ trees. ((bag_eq T.eq a.now b.now ≡ true) × (a.now.most ≡ b.now.most)) ↔ (view trees.0 ≡ view trees.1)) }
+    ensures same_trees { IfOk result (λ trees. AreSameBags T.eq a.now b.now ↔ (view trees.0 ≡ view trees.1)) }
     ensures memory { IfErr result (λ e. e ≡ BagError.Memory) }
 {
     // The clause `same` of `a.to_value` is about the tree of any second bag. The contract of `len` states `IsBag` of `b`.

@@ -3,6 +3,7 @@ ghost use Rattle.std.specs.Prelude.{◌≡◌, ◌+◌, ◌-◌, ◌<◌, ◌≤
 ghost use Rattle.hashbag.specs.Bag.{IsBagOf, IsPresent};
 ghost use Rattle.hashbag.specs.Occurrences.{count, less};
 ghost use Rattle.hashbag.specs.Tables.{room};
+ghost use Rattle.hashbag_callers.specs.Bags.{KeepsSlots};
 ghost use Rattle.hashbag_callers.specs.Transfers.{LowersCount};
 
 use hashbag::{BagError, HashBag};
@@ -20,7 +21,7 @@ pub fn take_some<T: Eq + Hash + Drop, S: BuildHasher + Drop>(
     // If the value was present, only its slot changed: its count is less by `n`, or the slot is Removed if none is left.
     ensures slot { 0 < count T.eq value.now bag.old.items → LowersCount T.eq value.now n bag.old bag.new }
     ensures none { count T.eq value.now bag.old.items ≡ 0 → bag.new ≡ bag.old }
-    ensures slots { length bag.new.tables.newer ≡ length bag.old.tables.newer }
+    ensures slots { KeepsSlots bag.old.tables bag.new.tables }
     ensures room { room bag.old.tables ≤ room bag.new.tables }
     ensures built { bag.new.tables.built ≡ bag.old.tables.built }
 {
@@ -33,9 +34,9 @@ pub fn put_in<T: Eq + Hash + Drop, S: BuildHasher + Drop>(
     value: T,
 ) -> Result<usize, BagError>
     // With room, the number of slots is the same, and room is at most 1 less. If the value was present, the number is the same, and room isn't less.
-    ensures slots { OnOk result (0 < room bag.old.tables → length bag.new.tables.newer ≡ length bag.old.tables.newer) }
+    ensures slots { OnOk result (0 < room bag.old.tables → KeepsSlots bag.old.tables bag.new.tables) }
     ensures room { OnOk result (0 < room bag.old.tables → room bag.old.tables ≤ room bag.new.tables + 1) }
-    ensures same_slots { OnOk result (IsPresent T.eq value bag.old → length bag.new.tables.newer ≡ length bag.old.tables.newer) }
+    ensures same_slots { OnOk result (IsPresent T.eq value bag.old → KeepsSlots bag.old.tables bag.new.tables) }
     ensures same_room { OnOk result (IsPresent T.eq value bag.old → room bag.old.tables ≤ room bag.new.tables) }
 {
     bag.insert(value)
@@ -61,9 +62,9 @@ pub fn put_in_place<T: Eq + Hash + Drop, S: BuildHasher + Drop>(
     value: T,
 ) -> Result<usize, BagError>
     // With room, the number of slots is the same, and room is at most 1 less. If the value was present, the number is the same, and room isn't less.
-    ensures slots { OnOk result (0 < room bag.old.tables → length bag.new.tables.newer ≡ length bag.old.tables.newer) }
+    ensures slots { OnOk result (0 < room bag.old.tables → KeepsSlots bag.old.tables bag.new.tables) }
     ensures room { OnOk result (0 < room bag.old.tables → room bag.old.tables ≤ room bag.new.tables + 1) }
-    ensures same_slots { IfOk result (λ before. 0 < before → length bag.new.tables.newer ≡ length bag.old.tables.newer) }
+    ensures same_slots { IfOk result (λ before. 0 < before → KeepsSlots bag.old.tables bag.new.tables) }
     ensures same_room { IfOk result (λ before. 0 < before → room bag.old.tables ≤ room bag.new.tables) }
 {
     bag.replace(value)

@@ -3,6 +3,7 @@ ghost use Rattle.std.specs.Prelude.{◌≡◌, ◌+◌, ◌<◌, ◌≤◌, ◌�
 ghost use Rattle.hashbag.specs.Occurrences.{count};
 ghost use Rattle.hashbag.specs.Tables.{room};
 ghost use Rattle.hashbag.specs.Unions.{IsSumOf};
+ghost use Rattle.hashbag_callers.specs.Bags.{KeepsSlots};
 
 use hashbag::{BagError, HashBag};
 use std::hash::{BuildHasher, Hash};
@@ -20,7 +21,7 @@ pub fn insert_all<T: Eq + Hash + Drop, S: BuildHasher + Drop>(
     ensures len { OnOk result (length bag.new.items ≡ length bag.old.items + length values.items) }
 
     // If there was room for all values, the number of slots is the same.
-    ensures slots { OnOk result (length values.items ≤ room bag.old.tables → length bag.new.tables.newer ≡ length bag.old.tables.newer) }
+    ensures slots { OnOk result (length values.items ≤ room bag.old.tables → KeepsSlots bag.old.tables bag.new.tables) }
     ensures none_lost { OnErr result ((v : T) → count T.eq v bag.old.items ≤ count T.eq v bag.new.items) }
     ensures full { result ≡ Err BagError.TooMany → length bag.new.items ≡ bag.old.most }
     ensures past { result ≡ Err BagError.TooMany → bag.old.most < length bag.old.items + length values.items }
@@ -44,7 +45,7 @@ pub fn extend_all<T: Eq + Hash + Drop, S: BuildHasher + Drop>(
     ensures len { OnOk result (length bag.new.items ≡ length bag.old.items + length values.items) }
 
     // If there was room for all values, the number of slots is the same, and no table was built.
-    ensures slots { OnOk result (length values.items ≤ room bag.old.tables → length bag.new.tables.newer ≡ length bag.old.tables.newer) }
+    ensures slots { OnOk result (length values.items ≤ room bag.old.tables → KeepsSlots bag.old.tables bag.new.tables) }
     ensures built { OnOk result (length values.items ≤ room bag.old.tables → bag.new.tables.built ≡ bag.old.tables.built) }
     ensures err { OnErr result (bag.new ≡ bag.old) }
     ensures too_many { (result ≡ Err BagError.TooMany) ↔ (bag.old.most < length bag.old.items + length values.items) }

@@ -28,7 +28,7 @@ pub fn insert_and_count<T: Eq + Hash + Copy, S: BuildHasher + Drop>(
     requires { length bag.old.items + 1 ≤ bag.old.most }
 
     // The replies are `Count n` and `Count (n + 1)`, where n is the count before.
-    ensures replies { IfOk result (λ replies. replies.items ≡ n_then_one_more Reply.Count (count T.eq value bag.old.items)) }
+    ensures replies { IfOk result (λ list. list.items ≡ n_then_one_more Reply.Count (count T.eq value bag.old.items)) }
 
     // The bag means its list with one more of the value.
     ensures left { OnOk result (Means bag.new (add T.eq value 1 bag.old.items)) }

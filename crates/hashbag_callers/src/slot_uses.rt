@@ -1,8 +1,9 @@
 //! A caller that speaks of the slots behind a bag, in words that `hashbag` re-exports.
-ghost use Rattle.std.specs.Prelude.{◌≡◌, ◌+◌, ℕ, false, length};
+ghost use Rattle.std.specs.Prelude.{◌≡◌, ◌+◌, ℕ, length};
 ghost use Rattle.hashbag.specs.Growths.{GrowAsListed};
-ghost use Rattle.hashbag.specs.Slots.{IsSlotCount, is_live, live_count, slot_at};
+ghost use Rattle.hashbag.specs.Slots.{IsSlotCount, live_count, slot_at};
 ghost use Rattle.hashbag.specs.SlotWords.{Slot};
+ghost use Rattle.hashbag_callers.specs.Bags.{IsDeadAt};
 
 use hashbag::HashBag;
 use std::hash::{BuildHasher, Hash};
@@ -15,7 +16,7 @@ pub fn keep_one_of_each<T: Eq + Hash + Drop, S: BuildHasher + Drop>(
     // The number of slots is 0, or a power of two from 16 to 2^59.
     ensures count { IsSlotCount (length bag.new.tables.newer) }
     ensures live { result ≡ live_count bag.new.tables.newer + live_count bag.new.tables.waiting }
-    ensures dead { (p : ℕ) (s : Slot T) → slot_at bag.old.tables.newer p ≡ s → is_live s ≡ false → slot_at bag.new.tables.newer p ≡ s }
+    ensures dead { (p : ℕ) (s : Slot T) → IsDeadAt bag.old.tables.newer p s → slot_at bag.new.tables.newer p ≡ s }
 {
     bag.retain(|_value: &T, _count: usize| 1);
     let _slots = bag.slots();

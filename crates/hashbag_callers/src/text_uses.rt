@@ -1,7 +1,7 @@
 //! Callers to copy: the words of a text, counted and looked up as `&str`. A `String` is allocated only for each distinct word.
 ghost use Rattle.std.specs.Prelude.{◌≡◌, ◌-◌, length, string_bytes, string_eq, IfOk};
 ghost use Rattle.hashbag.specs.Occurrences.{count};
-ghost use Rattle.hashbag_callers.specs.Texts.{text_count};
+ghost use Rattle.hashbag_callers.specs.Texts.{text_count, ForText};
 
 use hashbag::{BagError, HashBag};
 use std::alloc::Global;
@@ -23,7 +23,7 @@ pub fn count_texts(alloc: Global, words: &[&str]) -> Result<HashBag<String>, Bag
 /// Returns how often a word was counted.
 pub fn how_often<S: BuildHasher + Drop>(bag: &HashBag<String, S>, word: &str) -> usize
     // v is any `String` with the bytes of `word`.
-    ensures { (v : _) → string_bytes v ≡ word.now → result ≡ count string_eq v bag.now.items }
+    ensures { ForText word.now (λ v. result ≡ count string_eq v bag.now.items) }
 {
     bag.contains(word)
 }
@@ -35,8 +35,8 @@ pub fn strike_out<S: BuildHasher + Drop>(
     n: usize,
 ) -> usize
     // v is any `String` with the bytes of `word`.
-    ensures counts { (v : _) → string_bytes v ≡ word.now → count string_eq v bag.new.items ≡ count string_eq v bag.old.items - n }
-    ensures left { (v : _) → string_bytes v ≡ word.now → result ≡ count string_eq v bag.new.items }
+    ensures counts { ForText word.now (λ v. count string_eq v bag.new.items ≡ count string_eq v bag.old.items - n) }
+    ensures left { ForText word.now (λ v. result ≡ count string_eq v bag.new.items) }
 {
     bag.remove_up_to(word, n)
 }

@@ -1,6 +1,7 @@
 -- What a `Drain` still gives, and what becomes of the bag that it empties.
-use Rattle.std.specs.Prelude.{ℕ, List, [], Bool}
+use Rattle.std.specs.Prelude.{ℕ, List, []}
 use Rattle.std.specs.Borrow.{Fml, GName, RattleType, MutBor, Array, usize, follows}
+use Rattle.std.specs.HashMap.Lent.{HashMembers}
 use Rattle.std.specs.declared.hash.Hasher as hasher
 use Rattle.std.specs.declared.hash.BuildHasher as builder
 use Rattle.hashbag_table.specs.DrainWalk as table
@@ -21,6 +22,6 @@ module _ {T : Type 0} where
 abbrev pub emptied : {T S : Type 0} → Bag T S → Bag T S
 emptied b = record { items = []; hasher = b.hasher; tables = record { newer = []; waiting = []; older = 0; built = b.tables.built }; most = b.most }
 
--- once the loan named r has ended, the bag behind b is empty
-abbrev pub follows_drain : (T S H : RattleType) (g : record { eq : T.Denot → T.Denot → Bool; hash_input : T.Denot → List (List ℕ) }) (s : builder.Ghosts S.Denot H.Denot) (w : hasher.Ghosts H.Denot) → MutBor (Bag T.Denot S.Denot) → GName → Fml
-follows_drain T S H g s w b r = follows (the_row T S H (record { eq = g.eq }) (record { hash_input = g.hash_input }) s w) (Array usize 0) b.ghost_name r (λ _. emptied b.now)
+-- once the loan of the drain d has ended, the bag behind b is empty
+abbrev pub empties : (T S H : RattleType) (key : HashMembers T.Denot) (s : builder.Ghosts S.Denot H.Denot) (w : hasher.Ghosts H.Denot) → MutBor (Bag T.Denot S.Denot) → Drain T.Denot → Fml
+empties T S H key s w b d = follows (the_row T S H (record { eq = key.eq }) (record { hash_input = key.hash_input }) s w) (Array usize 0) b.ghost_name (drain_name d) (λ _. emptied b.now)

@@ -1,8 +1,10 @@
 -- Why a tree isn't read as a bag. Pairs are numbered from 0.
-use Rattle.std.specs.Prelude.{◌≡◌, ◌≢◌, ℕ, ◌+◌, ◌≤◌, ◌&&◌, ◌||◌, nat_lt, min, if◌then◌else◌, Bool, true, List, [], ◌∷◌, ◌++◌, length, Option, Some, None, option_map, option_and_then, unwrap_or, Result, Ok, Err, codes}
+use Rattle.std.specs.Prelude.{◌≡◌, ◌≢◌, ℕ, ◌+◌, ◌≤◌, ◌&&◌, ◌||◌, nat_lt, min, if◌then◌else◌, Bool, true, List, [], ◌∷◌, ◌++◌, length, map, Vec, Option, Some, None, option_map, option_and_then, unwrap_or, Result, Ok, Err, codes}
 use Rattle.std.specs.Option.{option_or}
 use Rattle.std.specs.Str.{bytes_eq}
 use Rattle.serde_json.specs.Data.{Data, null, boolean, number, string, array, object, Items, no_items, item, Members, no_members, member}
+use Rattle.serde_json.specs.View.{view}
+use Rattle.serde_json.specs.declared.value.Value.{Value}
 use Rattle.serde_json.specs.Find.{as_array, get_member}
 use Rattle.hashbag_core.specs.Bag.{Bag}
 use Rattle.hashbag_core.specs.JsonItems.{u64_of, u64_item}
@@ -18,6 +20,10 @@ list_of (item d ds) = d ∷ list_of ds
 -- the trees in an array, none if a tree is no array
 abbrev pub array_of : Data → Option (List Data)
 array_of d = option_map list_of (as_array d)
+
+-- the trees of the values of a list
+abbrev pub trees_in : {A : Type 0} → Vec Value A → List Data
+trees_in list = map view list.items
 
 -- ---- the limit of a tree, and the trees of its pairs
 

@@ -17,10 +17,10 @@ module _ (T S H : RattleType) (key : HashMembers T.Denot) (build : builder.Ghost
   abbrev pub bag_row : RattleType
   bag_row = the_row T S H (record { eq = key.eq }) (record { hash_input = key.hash_input }) build hash
 
-  -- once the loan is over, the bag that b borrows has lost one occurrence that passes the test `names`, if there was one
-  abbrev pub ends_taking : MutBor (Bag T.Denot S.Denot) → (T.Denot → Bool) → Fml
-  ends_taking b names = follows_so bag_row bag_row b.ghost_name none (λ _ _. ⊤) (HasFewer key.eq names 1 b.now)
+  -- once the loan is over, the bag that b borrows has lost one occurrence that passes the test of the key q, if there was one
+  abbrev pub loses_one : {Q : Type 0} → MutBor (Bag T.Denot S.Denot) → (Q → T.Denot → Bool) → Q → Fml
+  loses_one b names q = follows_so bag_row bag_row b.ghost_name none (λ _ _. ⊤) (HasFewer key.eq (names q) 1 b.now)
 
-  -- if the call returns `Ok`, the entry goes on with the loan of b; if `Err`, the bag that b borrows is unchanged when the loan ends
-  abbrev pub rests_if_refused : MutBor (Bag T.Denot S.Denot) → Result (Entry T.Denot S.Denot H.Denot) BagError → Fml
-  rests_if_refused b r = RestsIfErr bag_row b (λ e. e.bag.ghost_name) r (λ n. n ≡ b.now)
+  -- if the call returns `Ok`, the returned entry goes on with the loan of e; if `Err`, the bag that e borrows is unchanged when the loan ends
+  abbrev pub stays_if_err : Entry T.Denot S.Denot H.Denot → Result (Entry T.Denot S.Denot H.Denot) BagError → Fml
+  stays_if_err e r = RestsIfErr bag_row e.bag (λ next. next.bag.ghost_name) r (λ n. n ≡ e.bag.now)

@@ -52,7 +52,7 @@ impl<T: Eq + Hash + Drop, S: BuildHasher + Drop> HashBag<T, S> {
 
 impl<'a, T: Eq + Hash + Drop, S: BuildHasher + Drop> Entry<'a, T, S> {
     ghost use Rattle.hashbag_core.specs.EntryCalls.{KeepsOccupied, FillsVacant, IsVacantPast, RecountsOccupied, KeepsOthers, ChangesCount, FailsPastLimit};
-    ghost use Rattle.hashbag_core.specs.Lending.{rests_if_refused};
+    ghost use Rattle.hashbag_core.specs.Lending.{stays_if_err};
 
     /// Returns the stored instance if the entry is occupied, else the given value.
     ///
@@ -121,7 +121,7 @@ impl<'a, T: Eq + Hash + Drop, S: BuildHasher + Drop> Entry<'a, T, S> {
         ensures room { IfOk result (λ e. KeepsRoom 0 self.entry.bag.now.tables e.bag.now.tables) }
 
         // If it failed, the bag is unchanged once the loan is over.
-        ensures* stays { sem 𝓛 (rests_if_refused T.row S.row S.Hasher.row T.Hash S.BuildHasher S.Hasher.Hasher self.entry.bag result) }
+        ensures* stays { sem 𝓛 (stays_if_err T.row S.row S.Hasher.row T.Hash S.BuildHasher S.Hasher.Hasher self.entry result) }
     {
         let Entry { bag, value } = self;
         let before = bag.contains(&value);

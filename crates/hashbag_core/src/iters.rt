@@ -8,7 +8,7 @@ ghost use Rattle.std.specs.Prelude.{◌≡◌, length, Some, IfSome, ⊤};
 ghost use Rattle.std.specs.Borrow.{sem};
 ghost use Rattle.std.specs.Iterator.{YieldsFirst, YieldsFirstBy, YieldsFirstRef, item_count, at_most, UpTo};
 ghost use Rattle.std.specs.Iterator.SizeHint.{IsWithinCount};
-ghost use Rattle.hashbag_core.specs.Drain.{drain_rest, drain_name, follows_drain};
+ghost use Rattle.hashbag_core.specs.Drain.{drain_rest, empties};
 ghost use Rattle.hashbag_core.specs.Walks.{IsSetWalkOf, IsWalkOf};
 
 use crate::bag::HashBag;
@@ -408,7 +408,7 @@ impl<T: Eq + Hash + Drop, S: BuildHasher + Drop> HashBag<T, S> {
     /// ```
     pub fn drain(&mut self) -> Drain<'_, T>
         // Once the loan is over, the bag has no occurrences and no slots. It has the same state and limit as before.
-        ensures* ends_empty { sem 𝓛 (follows_drain T.row S.row S.Hasher.row T.Hash S.BuildHasher S.Hasher.Hasher self.entry (drain_name result)) }
+        ensures* ends_empty { sem 𝓛 (empties T.row S.row S.Hasher.row T.Hash S.BuildHasher S.Hasher.Hasher self.entry result) }
 
         // The walk gives each value that was in the bag once, with its count.
         ensures set_walk { IsSetWalkOf T.eq self.old (drain_rest result) }

@@ -6,7 +6,7 @@ ghost use Rattle.serde_json.specs.View.{view, members_view};
 ghost use Rattle.serde_json.specs.declared.value.Value.{Value};
 ghost use Rattle.serde_json.specs.Written.{has_float};
 ghost use Rattle.hashbag_core.specs.Inserts.{Inserts};
-ghost use Rattle.hashbag_core.specs.JsonFaults.{has_no_other, opened, limit_of, pair_of, first_fault, fault, fault_after, IsFault, IsCountedItem, MayRunOut, MayRunOutAmong};
+ghost use Rattle.hashbag_core.specs.JsonFaults.{has_no_other, opened, trees_in, limit_of, pair_of, first_fault, fault, fault_after, IsFault, IsCountedItem, MayRunOut, MayRunOutAmong};
 ghost use Rattle.hashbag_core.specs.JsonTrees.{IsPair, IsMadeOfTree, IsMadeOfTrees};
 ghost use Rattle.hashbag_core.specs.Occurrences.{greatest_total, IsBag};
 
@@ -280,15 +280,15 @@ impl<T: JsonItem + Hash + Drop, S: BuildHasher + Drop> HashBag<T, S> {
         most: usize,
         list: &Vec<Value>,
     ) -> Result<HashBag<T, S>, JsonError>
-        ensures no_fault { OnOk result (first_fault most T.has_item 0 0 (map view list.now.items) ≡ None) }
-        ensures read { IfOk result (IsMadeOfTrees T.eq T.reads (map view list.now.items)) }
+        ensures no_fault { OnOk result (first_fault most T.has_item 0 0 (trees_in list.now) ≡ None) }
+        ensures read { IfOk result (IsMadeOfTrees T.eq T.reads (trees_in list.now)) }
         ensures limit { IfOk result (λ bag. bag.most ≡ most) }
         ensures bag { IfOk result (λ bag. IsBag T.eq bag.most bag.items) }
         ensures hasher { IfOk result (λ bag. bag.hasher ≡ state) }
 
         // An error is the first fault, or `Memory`. `Memory` is returned only at a pair with a count and an item, if no pair before has a fault.
-        ensures fault { IfErr result (IsFault (first_fault most T.has_item 0 0 (map view list.now.items))) }
-        ensures may_run_out { IfErr result (λ e. e ≡ JsonError.Memory → MayRunOutAmong most T.has_item (map view list.now.items)) }
+        ensures fault { IfErr result (IsFault (first_fault most T.has_item 0 0 (trees_in list.now))) }
+        ensures may_run_out { IfErr result (λ e. e ≡ JsonError.Memory → MayRunOutAmong most T.has_item (trees_in list.now)) }
     {
         let mut bag = HashBag::with_limit(alloc, state, most);
         for (number, pair) in list.iter().enumerate() {

@@ -5,7 +5,7 @@ ghost use Rattle.hashbag_core.specs.Occurrences.{count, distinct_count};
 ghost use Rattle.hashbag_table.specs.Tables.{most_used, room};
 ghost use Rattle.hashbag_core.specs.Held.{FitsLimit};
 ghost use Rattle.hashbag_ops.specs.Lacked.{HasRoomForLacked, HasRoomForBag, IfRoomForWalk, LacksMoreThan};
-ghost use Rattle.hashbag_ops.specs.Unions.{IsUnion, IsSumOf, IsIntersection};
+ghost use Rattle.hashbag_ops.specs.Unions.{IsUnion, IfUnion, IsSumOf, IsIntersection};
 
 use hashbag_core::{BagError, HashBag, Spare};
 use std::hash::{BuildHasher, Hash};
@@ -342,11 +342,9 @@ pub fn keep_most<T: Eq + Hash + Drop, S: BuildHasher + Drop, S2: BuildHasher + D
     // If both totals together fit, only an allocation can fail.
     ensures fits { FitsLimit (length from.items) into.old → IfErr result (λ e. e ≡ BagError.Memory) }
 
-    // Z is any list with the greater counts: all of these are equally long.
-    ensures too_many { (Z : List T) → IsUnion T.eq into.old.items from.items Z
-        → (result ≡ Err BagError.TooMany) ↔ (into.old.most < length Z) }
-    ensures only_memory { (Z : List T) → IsUnion T.eq into.old.items from.items Z → length Z ≤ into.old.most
-        → IfErr result (λ e. e ≡ BagError.Memory) }
+    // n is the total of the greater counts.
+    ensures too_many { IfUnion T.eq into.old from (λ n. (result ≡ Err BagError.TooMany) ↔ (into.old.most < n)) }
+    ensures only_memory { IfUnion T.eq into.old from (λ n. n ≤ into.old.most → IfErr result (λ e. e ≡ BagError.Memory)) }
 {
     take_away(&mut from, into);
     merge(into, from)

@@ -1,7 +1,7 @@
 //! Two runs of steps, and the joins of the bags that they leave.
-ghost use Rattle.std.specs.Prelude.{◌≡◌, IfOk, IfErr, OnErr};
-ghost use Rattle.hashbag.specs.Pairs.{ran, AreStoppedRunsOrRest};
-ghost use Rattle.hashbag_run_lib.specs.RunAndJoin.{AreCopiesOf, AreJoinCopiesOf, IsRunAndJoined};
+ghost use Rattle.std.specs.Prelude.{◌≡◌, IfOk, IfErr, OnOk, OnErr};
+ghost use Rattle.hashbag.specs.Pairs.{ran, IsDone, AreStoppedRunsOrRest};
+ghost use Rattle.hashbag_run_lib.specs.RunAndJoin.{AreCopiesOf, AreJoinCopiesOf, AreJoinsAfter};
 
 use hashbag::script::{Joins, Reply, Step, joins_of, run_pair};
 use hashbag::{BagError, HashBag};
@@ -74,12 +74,11 @@ pub fn run_and_join<T: Eq + Hash + Copy + Drop, S: BuildHasher + Drop, S2: Build
     replies_a: &mut Vec<Reply<T>>,
     replies_b: &mut Vec<Reply<T>>,
 ) -> Result<JoinLists<T>, BagError>
-    // Whatever lists the bags meant, each step replies as a plain list replies, and each bag means what its list has become. The four results are
-    // the joins of what the two lists have become.
-    ensures whole { IfOk result (λ joins. IsRunAndJoined T.eq
-        (ran a.old a.new steps_a.items replies_a.old.items replies_a.new.items)
-        (ran b.old b.new steps_b.items replies_b.old.items replies_b.new.items)
-        joins.outer.items joins.difference.items joins.signed.items joins.not_in.items) }
+    // Whatever lists the bags meant, each step replies as a plain list replies, each bag means what its list has become, and the four results
+    // are the joins of what the two lists have become.
+    ensures first { OnOk result (IsDone T.eq (ran a.old a.new steps_a.items replies_a.old.items replies_a.new.items)) }
+    ensures second { OnOk result (IsDone T.eq (ran b.old b.new steps_b.items replies_b.old.items replies_b.new.items)) }
+    ensures joined { IfOk result (λ joins. AreJoinsAfter T.eq a.old steps_a.items b.old steps_b.items joins) }
     ensures first_hasher { a.new.hasher ≡ a.old.hasher }
     ensures second_hasher { b.new.hasher ≡ b.old.hasher }
 

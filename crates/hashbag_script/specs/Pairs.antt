@@ -68,9 +68,13 @@ module _ {T : Type 0} (eq : T → T → Bool) where
 abbrev pub IsUnbegunRun : {T S A B : Type 0} → Bag T S → Bag T S → Vec (Step T) A → Vec (Reply T) B → Vec (Reply T) B → Type 0
 IsUnbegunRun before after steps old new = IsNotBegun (HasNoRoom old steps) (ran before after steps.items old.items new.items)
 
--- an allocation for the replies of two runs failed, and no step was done
-abbrev pub AreUnbegunRuns : {T S S2 A A2 B B2 : Type 0} → Bag T S → Bag T S → Vec (Step T) A → Vec (Reply T) B → Vec (Reply T) B → Bag T S2 → Bag T S2 → Vec (Step T) A2 → Vec (Reply T) B2 → Vec (Reply T) B2 → Type 0
-AreUnbegunRuns before after steps old new before2 after2 steps2 old2 new2 = IsPairNotBegun (HasNoRoom old steps ⊎ HasNoRoom old2 steps2) (ran before after steps.items old.items new.items) (ran before2 after2 steps2.items old2.items new2.items)
+-- the replies of one of two runs have no room for a reply to each of its steps
+abbrev pub LackRoom : {T A A2 B B2 : Type 0} → Vec (Reply T) B → Vec (Step T) A → Vec (Reply T) B2 → Vec (Step T) A2 → Type 0
+LackRoom replies steps replies2 steps2 = HasNoRoom replies steps ⊎ HasNoRoom replies2 steps2
+
+-- a bag and its replies are as they were
+abbrev pub Stays : {T S B : Type 0} → Bag T S → Bag T S → Vec (Reply T) B → Vec (Reply T) B → Type 0
+Stays before after old new = (after ≡ before) × (new.items ≡ old.items)
 
 module _ {T : Type 0} (eq : T → T → Bool) where
   -- a failed allocation stopped a run: the allocation for the replies, or one in a step
@@ -79,8 +83,8 @@ module _ {T : Type 0} (eq : T → T → Bool) where
 
   -- a failed allocation stopped two runs, one after the other: one for the replies, or one in a step of the first run or of the second
   abbrev pub AreStoppedRuns : {S S2 A A2 B B2 : Type 0} → Bag T S → Bag T S → Vec (Step T) A → Vec (Reply T) B → Vec (Reply T) B → Bag T S2 → Bag T S2 → Vec (Step T) A2 → Vec (Reply T) B2 → Vec (Reply T) B2 → Type 0
-  AreStoppedRuns before after steps old new before2 after2 steps2 old2 new2 = IsPairCutOff eq (HasNoRoom old steps ⊎ HasNoRoom old2 steps2) (ran before after steps.items old.items new.items) (ran before2 after2 steps2.items old2.items new2.items)
+  AreStoppedRuns before after steps old new before2 after2 steps2 old2 new2 = IsPairCutOff eq (LackRoom old steps old2 steps2) (ran before after steps.items old.items new.items) (ran before2 after2 steps2.items old2.items new2.items)
 
   -- a failed allocation stopped two runs as `AreStoppedRuns` says, or stopped what comes after both
   abbrev pub AreStoppedRunsOrRest : {S S2 A A2 B B2 : Type 0} → Bag T S → Bag T S → Vec (Step T) A → Vec (Reply T) B → Vec (Reply T) B → Bag T S2 → Bag T S2 → Vec (Step T) A2 → Vec (Reply T) B2 → Vec (Reply T) B2 → Type 0
-  AreStoppedRunsOrRest before after steps old new before2 after2 steps2 old2 new2 = IsCutOffAfter eq (HasNoRoom old steps ⊎ HasNoRoom old2 steps2) (ran before after steps.items old.items new.items) (ran before2 after2 steps2.items old2.items new2.items)
+  AreStoppedRunsOrRest before after steps old new before2 after2 steps2 old2 new2 = IsCutOffAfter eq (LackRoom old steps old2 steps2) (ran before after steps.items old.items new.items) (ran before2 after2 steps2.items old2.items new2.items)

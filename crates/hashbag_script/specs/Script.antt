@@ -1,5 +1,5 @@
 -- The replies of whole runs of steps, and the list and the limit after them, on the plain list of a bag's occurrences.
-use Rattle.std.specs.Prelude.{◌≡◌, ◌≢◌, ℕ, ◌+◌, ◌-◌, ◌*◌, ◌<◌, ◌≤◌, ◌==◌, max, nat_lt, if◌then◌else◌, Bool, true, false, List, [], ◌∷◌, ◌++◌, length}
+use Rattle.std.specs.Prelude.{◌≡◌, ◌≢◌, ℕ, ◌+◌, ◌-◌, ◌*◌, ◌<◌, ◌≤◌, ◌==◌, max, nat_lt, if◌then◌else◌, Bool, true, false, List, [], ◌∷◌, ◌++◌, length, Vec, Result, OnErr}
 use Rattle.std.specs.List.{list_any}
 use Rattle.hashbag_table.specs.Tables.{Tables, room, IsLeast}
 use Rattle.hashbag_script.specs.declared.script.Step.{Step}
@@ -168,6 +168,14 @@ module _ {T : Type 0} (eq : T → T → Bool) where
   -- P holds if no step is about room and the bag has room for all values that arrive in the run, whichever list the bag means
   abbrev pub IfRoomy : {S : Type 0} → Bag T S → List (Step T) → Type 0 → Type 0
   IfRoomy bag steps P = (X : List T) → Means bag X → IsRoomy bag.most X steps bag.tables → P
+
+  -- P holds if a run of these steps fails though it is roomy, as `IfRoomy` says
+  abbrev pub OnRoomyErr : {S A B E : Type 0} → Bag T S → Vec (Step T) A → Result B E → Type 0 → Type 0
+  OnRoomyErr bag steps result P = IfRoomy bag steps.items (OnErr result P)
+
+  -- P holds if a run of steps on two bags fails though the run on each bag is roomy, as `IfRoomy` says
+  abbrev pub OnRoomy : {S S2 A A2 B E : Type 0} → Bag T S → Vec (Step T) A → Bag T S2 → Vec (Step T) A2 → Result B E → Type 0 → Type 0
+  OnRoomy bag steps bag2 steps2 result P = IfRoomy bag steps.items (IfRoomy bag2 steps2.items (OnErr result P))
 
   -- The tables after a run on an empty bag without slots. With no `Reserve` the greatest number of distinct values at any time (`peak`) bounds the
   -- slots. Fewer slots wait than the newer table has. With no `ShrinkToFit` either, the values that arrived (`arrivals`) bound the slots of all

@@ -4,7 +4,7 @@ ghost use Rattle.hashbag_core.specs.Bag.{Means, IsBagOf, limited};
 ghost use Rattle.hashbag_core.specs.Occurrences.{IsBag};
 ghost use Rattle.hashbag_script.specs.Pairs.{ran, IsUnbegunRun, IsStoppedRun};
 ghost use Rattle.hashbag_script.specs.Rows.{insert_row, replace_row, try_take_row, take_all_row, entry_set_row, retain_row, limit_row, quota as quota_of};
-ghost use Rattle.hashbag_script.specs.Script.{step_in, entry_or_in, is_about_room, ShrinksSlots, AppendsReplies, LeavesRun, LeavesLimit, HasRoomFor, IfRoomy, NeedsMemory, AsksForMemory, limit_after};
+ghost use Rattle.hashbag_script.specs.Script.{step_in, entry_or_in, is_about_room, ShrinksSlots, AppendsReplies, LeavesRun, LeavesLimit, HasRoomFor, IfRoomy, OnRoomyErr, NeedsMemory, AsksForMemory, limit_after};
 ghost use Rattle.hashbag_script.specs.Turns.{LeavesTablesOf, AreTablesInTurn, IsBoundedRun};
 ghost use Rattle.hashbag_table.specs.Retained.{RetainsTables};
 
@@ -345,7 +345,7 @@ pub fn run<T: Eq + Hash + Drop, S: BuildHasher + Drop>(
     // If there is room for all values that arrive, and no step is `Reserve` or `ShrinkToFit`, there are as many slots as before. Then only the
     // allocation of the replies can fail.
     ensures slots { IfRoomy T.eq bag.old steps.items (length bag.new.tables.newer ≡ length bag.old.tables.newer) }
-    ensures roomy { IfRoomy T.eq bag.old steps.items (OnErr result (IsUnbegunRun bag.old bag.new steps replies.old replies.new)) }
+    ensures roomy { OnRoomyErr T.eq bag.old steps result (IsUnbegunRun bag.old bag.new steps replies.old replies.new) }
 
     // `ran` is this run: the bag and the replies, before and after. If the bag was empty and had no slots: the greatest number of distinct values at
     // any time of the run bounds the slots, and the values that arrived bound the slots that were built.

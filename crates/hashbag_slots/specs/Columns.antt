@@ -1,6 +1,10 @@
 -- How a table of slots is stored: a tag for each slot, which is a byte, and a row of cells. This file says which slots the tags and the cells stand
 -- for, and what a probe relies on.
 use Rattle.std.specs.Prelude.{◌≡◌, ◌≢◌, ℕ, ◌+◌, ◌/◌, ◌^◌, ◌<◌, ◌≤◌, Bool, true, List, [], ◌∷◌, length, Option, Some, None, if◌then◌else◌, nat_eq, slice_index_or}
+use Rattle.std.specs.HashMap.Lent.{HashMembers}
+use Rattle.std.specs.declared.hash.Hasher as hasher
+use Rattle.std.specs.declared.hash.BuildHasher as builder
+use Rattle.hashbag_slots.specs.Hashing.{hash_under}
 use Rattle.hashbag_slots.specs.declared.slots.Slot.{Slot}
 use Rattle.hashbag_slots.specs.declared.slots.Slot.TheVariants.{Empty, Removed, Moved, Live}
 use Rattle.hashbag_slots.specs.Cells.{cell_at}
@@ -93,6 +97,10 @@ module _ {T : Type 0} where
     pub slots : length newer'.slots ≡ length newer.slots
     pub reached : IsReached hash newer'
     pub older_reached : (h : T → ℕ) → IsReached h older → IsReached h older'
+
+  -- `CarriesInto` by the equality and the hash of a key's members, the hash under the state s
+  abbrev pub CarriesUnder : {S H : Type 0} → HashMembers T → builder.Ghosts S H → hasher.Ghosts H → S → ℕ → ℕ → Columns T → Columns T → Columns T → Columns T → Type 0
+  CarriesUnder key b h s from many newer older newer' older' = CarriesInto key.eq (hash_under key.hash_input b h s) from many newer older newer' older'
 
   -- equal values have one hash
   abbrev pub IsAlike : (T → T → Bool) → (T → ℕ) → Type 0

@@ -1,5 +1,9 @@
 -- Two tables of slots as one map: the newer one, and the slots of the older one that wait to be carried.
 use Rattle.std.specs.Prelude.{◌≡◌, ◌≢◌, ℕ, ◌+◌, ◌-◌, ◌*◌, ◌/◌, ◌<◌, ◌≤◌, Bool, true, false, List, [], ◌∷◌, ◌++◌, Option, Some, None, drop, length, replicate, if◌then◌else◌, nat_eq, nat_le, ◌⊎◌, slice_index, slice_set}
+use Rattle.std.specs.HashMap.Lent.{HashMembers}
+use Rattle.std.specs.declared.hash.Hasher as hasher
+use Rattle.std.specs.declared.hash.BuildHasher as builder
+use Rattle.hashbag_slots.specs.Hashing.{hash_under}
 use Rattle.hashbag_slots.specs.declared.slots.Slot.{Slot}
 use Rattle.hashbag_slots.specs.declared.slots.Slot.TheVariants.{Empty, Moved}
 use Rattle.hashbag_slots.specs.Slots.{IsSlotCount, is_live, live_count, removed_count, slot_at, entries, AreApart, HoldsAt, slot_entry}
@@ -91,6 +95,14 @@ module _ {T : Type 0} where
     pub fits : live_count newer.slots + removed_count newer.slots + live_count former ≤ most_used (length newer.slots)
     pub carries : length former - many ≤ 16 * room_of newer.slots former
     pub smaller : (length former ≤ many) ⊎ (16 + (length former - many) ≤ length newer.slots)
+
+  -- `AreTables` by the equality and the hash of a key's members, the hash under the state s
+  abbrev pub AreTablesUnder : {S H : Type 0} → HashMembers T → builder.Ghosts S H → hasher.Ghosts H → S → Columns T → Columns T → ℕ → Type 0
+  AreTablesUnder key b h s newer older carried_to = AreTables key.eq (hash_under key.hash_input b h s) newer older carried_to
+
+  -- `MayAdopt` by the equality and the hash of a key's members, the hash under the state s
+  abbrev pub MayAdoptUnder : {S H : Type 0} → HashMembers T → builder.Ghosts S H → hasher.Ghosts H → S → Columns T → List (Slot T) → ℕ → Type 0
+  MayAdoptUnder key b h s newer former many = MayAdopt key.eq (hash_under key.hash_input b h s) newer former many
 
   -- the next k waiting slots were carried: the values of the Live ones are now in slots of the newer table that were not Live
   pub record Carried (k : ℕ) (newer waiting newer_after waiting_after : List (Slot T)) : Type 0 where

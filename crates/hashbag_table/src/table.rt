@@ -86,7 +86,7 @@ impl<T: Eq + Hash + Drop, S: BuildHasher + Drop> Model for Table<T, S> {
 
 impl<T: Eq + Hash + Drop, S: BuildHasher + Drop> Table<T, S> {
     ghost use Rattle.std.specs.Prelude.{◌≢◌, IfErr};
-    ghost use Rattle.hashbag_table.specs.DrainWalk.{drain_rest, drain_name, follows_drain};
+    ghost use Rattle.hashbag_table.specs.DrainWalk.{drain_rest, empties};
 
     /// Returns the number of slots of the newer table. None of them is Moved.
     pub fn slots(&self) -> usize
@@ -483,7 +483,7 @@ impl<T: Eq + Hash + Drop, S: BuildHasher + Drop> Table<T, S> {
     /// walk.
     pub fn drain(&mut self) -> DrainWalk<'_, T>
         // Once the loan is over, the table is empty.
-        ensures* ends_empty { sem 𝓛 (follows_drain T.row S.row S.Hasher.row T.Hash S.BuildHasher S.Hasher.Hasher self.entry (drain_name result)) }
+        ensures* ends_empty { sem 𝓛 (empties T.row S.row S.Hasher.row T.Hash S.BuildHasher S.Hasher.Hasher self.entry result) }
         ensures entries { IsPermutation self.old.entries (drain_rest result) }
         ensures counted { IsCounted T.eq self.old.entries }
         ensures fits { length (drain_rest result) < 2 ^ 63 }

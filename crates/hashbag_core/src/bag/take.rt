@@ -10,7 +10,7 @@ use hashbag_table::Key;
 use std::hash::{BuildHasher, Hash};
 
 impl<T: Eq + Hash + Drop, S: BuildHasher + Drop> HashBag<T, S> {
-    ghost use Rattle.hashbag_core.specs.Lending.{ends_taking};
+    ghost use Rattle.hashbag_core.specs.Lending.{loses_one};
 
     /// Removes one occurrence of a value, if there is one, and returns the count before. With the last occurrence the stored instance is
     /// dropped.
@@ -104,7 +104,7 @@ impl<T: Eq + Hash + Drop, S: BuildHasher + Drop> HashBag<T, S> {
     /// ```
     pub fn try_take<Q: Key<T>>(&mut self, key: Q) -> Result<T, Option<(&T, usize)>>
         // Once the loan is over, one occurrence of the value is gone, if there was one.
-        ensures* left { sem 𝓛 (ends_taking T.row S.row S.Hasher.row T.Hash S.BuildHasher S.Hasher.Hasher self.entry (Q.names key)) }
+        ensures* left { sem 𝓛 (loses_one T.row S.row S.Hasher.row T.Hash S.BuildHasher S.Hasher.Hasher self.entry Q.names key) }
         ensures last { IfOk result (λ instance. stored_named (Q.names key) self.old.items ≡ Some (instance, 1)) }
         ensures others { IfErr result (LendsNotOne (Q.names key) self.old.items) }
     {

@@ -1,7 +1,7 @@
 //! Runs of steps on two bags, one after the other.
 ghost use Rattle.std.specs.Prelude.{◌≡◌, length, IfErr, OnOk, OnErr};
-ghost use Rattle.hashbag_script.specs.Pairs.{ran, IsDone, AreUnbegunRuns, AreStoppedRuns};
-ghost use Rattle.hashbag_script.specs.Script.{IfRoomy};
+ghost use Rattle.hashbag_script.specs.Pairs.{ran, IsDone, LackRoom, Stays, AreStoppedRuns};
+ghost use Rattle.hashbag_script.specs.Script.{IfRoomy, OnRoomy};
 ghost use Rattle.hashbag_script.specs.Turns.{AreTablesInTurn, IsBoundedRun};
 
 use crate::script::{Reply, Step, run};
@@ -49,11 +49,12 @@ pub fn run_pair<T: Eq + Hash + Drop, S: BuildHasher + Drop, S2: BuildHasher + Dr
         b.old b.new steps_b replies_b.old replies_b.new) }
 
     // If the tables have room for all values that arrive, and no step is `Reserve` or `ShrinkToFit`, each run keeps its slots. Then only the
-    // allocation of the replies can fail, before any step.
+    // allocation of the replies can fail, before any step: if the call fails, they lacked room, and both bags and their replies are unchanged.
     ensures first_slots { IfRoomy T.eq a.old steps_a.items (length a.new.tables.newer ≡ length a.old.tables.newer) }
     ensures second_slots { IfRoomy T.eq b.old steps_b.items (length b.new.tables.newer ≡ length b.old.tables.newer) }
-    ensures roomy { IfRoomy T.eq a.old steps_a.items (IfRoomy T.eq b.old steps_b.items (OnErr result
-        (AreUnbegunRuns a.old a.new steps_a replies_a.old replies_a.new b.old b.new steps_b replies_b.old replies_b.new))) }
+    ensures roomy { OnRoomy T.eq a.old steps_a b.old steps_b result (LackRoom replies_a.old steps_a replies_b.old steps_b) }
+    ensures first_roomy { OnRoomy T.eq a.old steps_a b.old steps_b result (Stays a.old a.new replies_a.old replies_a.new) }
+    ensures second_roomy { OnRoomy T.eq a.old steps_a b.old steps_b result (Stays b.old b.new replies_b.old replies_b.new) }
 
     // The tables of each bag follow from the tables before, as in one run. If the bag was empty and had no slots, they are bounded.
     ensures first_tables { AreTablesInTurn T.eq (ran a.old a.new steps_a.items replies_a.old.items replies_a.new.items) }

@@ -3,7 +3,7 @@ ghost use Rattle.std.specs.Prelude.{◌≡◌, ℕ, ◌+◌, ◌<◌, ◌≤◌,
 ghost use Rattle.hashbag_slots.specs.Group.{IsMaskOf};
 ghost use Rattle.hashbag_slots.specs.Hashing.{hash_under};
 ghost use Rattle.hashbag_slots.specs.Slots.{is_live, live_count, slot_at, IsSet, AreApart};
-ghost use Rattle.hashbag_slots.specs.Columns.{IsReached, CarriesInto};
+ghost use Rattle.hashbag_slots.specs.Columns.{IsReached, CarriesUnder};
 
 use crate::group::{GROUP_WIDTH, match_live, take_lowest};
 use crate::slots::Slots;
@@ -39,7 +39,7 @@ impl<T: Eq + Hash> Slots<T> {
         requires apart { AreApart T.eq older.old.slots self.old.slots }
         requires room { live_count self.old.slots + live_count older.old.slots ≤ length self.old.slots }
         requires reached { IsReached (hash_under T.hash_input S.BuildHasher S.Hasher.Hasher state.now) self.old }
-        ensures { CarriesInto T.eq (hash_under T.hash_input S.BuildHasher S.Hasher.Hasher state.now) at 1 self.old older.old self.new older.new }
+        ensures { CarriesUnder T.Hash S.BuildHasher S.Hasher.Hasher state.now at 1 self.old older.old self.new older.new }
     {
         if older.is_live_at(at) {
             let (value, n) = older.take_leaving(at, MOVED);
@@ -55,7 +55,7 @@ impl<T: Eq + Hash> Slots<T> {
         requires apart { AreApart T.eq older.old.slots self.old.slots }
         requires room { live_count self.old.slots + live_count older.old.slots ≤ length self.old.slots }
         requires reached { IsReached (hash_under T.hash_input S.BuildHasher S.Hasher.Hasher state.now) self.old }
-        ensures { CarriesInto T.eq (hash_under T.hash_input S.BuildHasher S.Hasher.Hasher state.now) from 16 self.old older.old self.new older.new }
+        ensures { CarriesUnder T.Hash S.BuildHasher S.Hasher.Hasher state.now from 16 self.old older.old self.new older.new }
     {
         // Only for the proof: it uses the clauses `value` and `bound` of `slots`.
         let _slots = older.slots();
@@ -86,7 +86,7 @@ impl<T: Eq + Hash> Slots<T> {
         requires reached { IsReached (hash_under T.hash_input S.BuildHasher S.Hasher.Hasher state.now) self.old }
 
         // The slots were carried as said above. Then no value is Live in both tables. A probe finds each value here, and in `older` if it did before.
-        ensures { CarriesInto T.eq (hash_under T.hash_input S.BuildHasher S.Hasher.Hasher state.now) from many self.old older.old self.new older.new }
+        ensures { CarriesUnder T.Hash S.BuildHasher S.Hasher.Hasher state.now from many self.old older.old self.new older.new }
     {
         // Only for the proof: it uses the clauses `value` and `bound` of `slots`.
         let _slots = older.slots();

@@ -1,12 +1,11 @@
 //! Room: a table that grows, carries what waits, or gets other slots on request.
 ghost use Rattle.std.specs.Prelude.{◌≡◌, ◌++◌, ◌+◌, ◌-◌, ◌*◌, ◌<◌, ◌≤◌, ℕ, [], length, replicate, OnOk, OnErr, IsOk, IsErr};
 ghost use Rattle.std.specs.List.Sorted.{IsPermutation};
-ghost use Rattle.hashbag_slots.specs.Hashing.{hash_under};
 ghost use Rattle.hashbag_slots.specs.Slots.{entries};
 ghost use Rattle.hashbag_slots.specs.Columns.{IsReached};
 ghost use Rattle.hashbag_table.specs.Entries.{IsCounted};
 ghost use Rattle.hashbag_table.specs.Table.{IsMapOf};
-ghost use Rattle.hashbag_table.specs.Tables.{most_used, room, values, IfNoLarger, AreTables, HasLeast, IsPacked, KeepsRoom, ReservesOrStays, ShrinksOrStays, Carried, CarriedOn, CarriesNext, IsReady, MayAdopt};
+ghost use Rattle.hashbag_table.specs.Tables.{most_used, room, values, IfNoLarger, AreTablesUnder, HasLeast, IsPacked, KeepsRoom, ReservesOrStays, ShrinksOrStays, Carried, CarriedOn, CarriesNext, IsReady, MayAdoptUnder};
 
 use crate::capacity::{grown_slots, least_slots, no_slots};
 use crate::table::{MOST_VALUES, Table};
@@ -30,8 +29,8 @@ fn carry_next<T: Eq + Hash + Drop, S: BuildHasher>(
     hasher: &S,
     alloc: Global,
 ) -> usize
-    requires tables { AreTables T.eq (hash_under T.hash_input S.BuildHasher S.Hasher.Hasher hasher.now) newer.old older.old carried_to }
-    ensures tables { AreTables T.eq (hash_under T.hash_input S.BuildHasher S.Hasher.Hasher hasher.now) newer.new older.new result }
+    requires tables { AreTablesUnder T.Hash S.BuildHasher S.Hasher.Hasher hasher.now newer.old older.old carried_to }
+    ensures tables { AreTablesUnder T.Hash S.BuildHasher S.Hasher.Hasher hasher.now newer.new older.new result }
     ensures carried { CarriedOn most carried_to result newer.old older.old newer.new older.new }
     ensures freed { length older.new.slots ≤ result → length older.new.slots ≡ 0 }
 {
@@ -104,7 +103,7 @@ impl<T: Eq + Hash + Drop, S: BuildHasher + Drop> Table<T, S> {
     // count as built. It doesn't allocate.
     fn adopt(&mut self, newer: Slots<T>, many: usize)
         requires none_waits { self.old.tables.waiting ≡ [] }
-        requires may { MayAdopt T.eq (hash_under T.hash_input S.BuildHasher S.Hasher.Hasher self.old.hasher) newer self.old.tables.newer many }
+        requires may { MayAdoptUnder T.Hash S.BuildHasher S.Hasher.Hasher self.old.hasher newer self.old.tables.newer many }
         ensures carried { Carried many newer.slots self.old.tables.newer self.new.tables.newer self.new.tables.waiting }
         ensures built { self.new.tables.built ≡ self.old.tables.built + length newer.slots }
         ensures entries { IsPermutation (entries newer.slots ++ self.old.entries) self.new.entries }

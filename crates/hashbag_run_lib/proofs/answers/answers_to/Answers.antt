@@ -23,18 +23,18 @@ tree_of X items most limit d tree means same =
 
 pub returns-clause-answers : goal.returns-clause-answers
 returns-clause-answers c =
-    let whole = c.in_ok-joins.ensures.whole in
+    let ran = c.in_ok-joins.ensures in
     let empty_a = empty_means _ c.new-a.ensures.empty in
     let empty_b = empty_means _ c.new-b.ensures.empty in
-    let left_a = whole.first [] empty_a in
-    let left_b = whole.second [] empty_b in
+    let left_a = ran.first [] empty_a in
+    let left_b = ran.second [] empty_b in
     record {
       replies_a = rw (c.new-replies_a.ensures.items, c.new-a.ensures.limit) at left_a.replies;
       replies_b = rw (c.new-replies_b.ensures.items, c.new-b.ensures.limit) at left_b.replies;
-      outer = rw (c.new-a.ensures.limit, c.new-b.ensures.limit) at (whole.outer [] [] empty_a empty_b);
-      difference = rw (c.new-a.ensures.limit, c.new-b.ensures.limit) at (whole.difference [] [] empty_a empty_b);
-      signed = rw (c.new-a.ensures.limit, c.new-b.ensures.limit) at (whole.signed [] [] empty_a empty_b);
-      not_in = rw (c.new-a.ensures.limit, c.new-b.ensures.limit) at (whole.not_in [] [] empty_a empty_b);
+      outer = rw (c.new-a.ensures.limit, c.new-b.ensures.limit) at (ran.joined.outer [] [] empty_a empty_b);
+      difference = rw (c.new-a.ensures.limit, c.new-b.ensures.limit) at (ran.joined.difference [] [] empty_a empty_b);
+      signed = rw (c.new-a.ensures.limit, c.new-b.ensures.limit) at (ran.joined.signed [] [] empty_a empty_b);
+      not_in = rw (c.new-a.ensures.limit, c.new-b.ensures.limit) at (ran.joined.not_in [] [] empty_a empty_b);
       tree_a = tree_of _ _ _ _ _ c.in_ok-to_value.ensures.tree (rw c.new-a.ensures.limit at left_a.means) (rw c.new-a.ensures.limit at left_a.limit);
       tree_b = tree_of _ _ _ _ _ c.in_ok-to_value-2.ensures.tree (rw c.new-b.ensures.limit at left_b.means) (rw c.new-b.ensures.limit at left_b.limit);
     }

@@ -16,6 +16,20 @@ returns-clause-roomy g c X means_a roomy_a Y means_b roomy_b =
     let room = c.in_ok-reserve-2.ensures.ok in let many = c.len-2.ensures in
     absurd (omega arith)) (c.run-2.ensures.roomy Y means_b roomy_b)
 
+pub returns-clause-first_roomy : goal.returns-clause-first_roomy
+returns-clause-first_roomy g c X means_a roomy_a Y means_b roomy_b =
+    on_err_weaker c.run-2.result (λ h.
+    let short : vec_capacity c.reserve-2.new.self < vec_len c.reserve-2.new.self + vec_len c.args.steps_b = h.0 in
+    let room = c.in_ok-reserve-2.ensures.ok in let many = c.len-2.ensures in
+    absurd (omega arith)) (c.run-2.ensures.roomy Y means_b roomy_b)
+
+pub returns-clause-second_roomy : goal.returns-clause-second_roomy
+returns-clause-second_roomy g c X means_a roomy_a Y means_b roomy_b =
+    on_err_weaker c.run-2.result (λ h.
+    let short : vec_capacity c.reserve-2.new.self < vec_len c.reserve-2.new.self + vec_len c.args.steps_b = h.0 in
+    let room = c.in_ok-reserve-2.ensures.ok in let many = c.len-2.ensures in
+    absurd (omega arith)) (c.run-2.ensures.roomy Y means_b roomy_b)
+
 pub returns-in_err-run-clause-roomy : goal.returns-in_err-run-clause-roomy
 returns-in_err-run-clause-roomy g c X means_a roomy_a Y means_b roomy_b =
     let none = c.in_err-run.ensures.roomy X means_a roomy_a in
@@ -23,26 +37,48 @@ returns-in_err-run-clause-roomy g c X means_a roomy_a Y means_b roomy_b =
     let room = c.in_ok-reserve.ensures.ok in let many = c.len.ensures in
     absurd (omega arith)
 
--- no run was begun, since there was no room for the replies
-not_begun : {T S S2 : Type 0} (a : Bag T S) (b : Bag T S2) (steps_a steps_b : List (Step T)) (before_a after_a before_b after_b : List (Reply T)) (NoRoom : Type 0)
-    → NoRoom → after_a ≡ before_a → after_b ≡ before_b → IsPairNotBegun NoRoom (ran a a steps_a before_a after_a) (ran b b steps_b before_b after_b)
-not_begun a b steps_a steps_b before_a after_a before_b after_b NoRoom short first second = (short, record { bag = refl; replies = first }, record { bag = refl; replies = second })
+pub returns-in_err-run-clause-first_roomy : goal.returns-in_err-run-clause-first_roomy
+returns-in_err-run-clause-first_roomy g c X means_a roomy_a Y means_b roomy_b =
+    let none = c.in_err-run.ensures.roomy X means_a roomy_a in
+    let short : vec_capacity c.reserve.new.self < vec_len c.reserve.new.self + vec_len c.args.steps_a = none.0 in
+    let room = c.in_ok-reserve.ensures.ok in let many = c.len.ensures in
+    absurd (omega arith)
+
+pub returns-in_err-run-clause-second_roomy : goal.returns-in_err-run-clause-second_roomy
+returns-in_err-run-clause-second_roomy g c X means_a roomy_a Y means_b roomy_b =
+    let none = c.in_err-run.ensures.roomy X means_a roomy_a in
+    let short : vec_capacity c.reserve.new.self < vec_len c.reserve.new.self + vec_len c.args.steps_a = none.0 in
+    let room = c.in_ok-reserve.ensures.ok in let many = c.len.ensures in
+    absurd (omega arith)
 
 pub returns-in_err-reserve-clause-roomy : goal.returns-in_err-reserve-clause-roomy
 returns-in_err-reserve-clause-roomy g c X means_a roomy_a Y means_b roomy_b =
     let full = c.in_err-reserve.ensures.full in let many = c.len.ensures in
     let short : vec_capacity c.args.replies_a.now < vec_len c.args.replies_a.now + vec_len c.args.steps_a = omega arith in
-    let none = not_begun c.args.a.now c.args.b.now c.args.steps_a.items c.args.steps_b.items c.args.replies_a.now.items _ c.args.replies_b.now.items c.args.replies_b.now.items
-    (HasNoRoom c.args.replies_a.now c.args.steps_a ⊎ HasNoRoom c.args.replies_b.now c.args.steps_b) (inl short) c.in_err-reserve.ensures.items refl in
-    OnErr-from _ none
+    OnErr-from _ (inl short)
+
+pub returns-in_err-reserve-clause-first_roomy : goal.returns-in_err-reserve-clause-first_roomy
+returns-in_err-reserve-clause-first_roomy g c X means_a roomy_a Y means_b roomy_b = OnErr-from _ (refl, c.in_err-reserve.ensures.items)
+
+pub returns-in_err-reserve-clause-second_roomy : goal.returns-in_err-reserve-clause-second_roomy
+returns-in_err-reserve-clause-second_roomy g c X means_a roomy_a Y means_b roomy_b = OnErr-from _ (refl, refl)
 
 pub returns-in_err-reserve-2-clause-roomy : goal.returns-in_err-reserve-2-clause-roomy
 returns-in_err-reserve-2-clause-roomy g c X means_a roomy_a Y means_b roomy_b =
     let full = c.in_err-reserve-2.ensures.full in let many = c.len-2.ensures in
     let short : vec_capacity c.args.replies_b.now < vec_len c.args.replies_b.now + vec_len c.args.steps_b = omega arith in
-    let none = not_begun c.args.a.now c.args.b.now c.args.steps_a.items c.args.steps_b.items c.args.replies_a.now.items _ c.args.replies_b.now.items _
-    (HasNoRoom c.args.replies_a.now c.args.steps_a ⊎ HasNoRoom c.args.replies_b.now c.args.steps_b) (inr short) c.in_ok-reserve.ensures.items c.in_err-reserve-2.ensures.items in
-    OnErr-from _ none
+    OnErr-from _ (inr short)
+
+pub returns-in_err-reserve-2-clause-first_roomy : goal.returns-in_err-reserve-2-clause-first_roomy
+returns-in_err-reserve-2-clause-first_roomy g c X means_a roomy_a Y means_b roomy_b = OnErr-from _ (refl, c.in_ok-reserve.ensures.items)
+
+pub returns-in_err-reserve-2-clause-second_roomy : goal.returns-in_err-reserve-2-clause-second_roomy
+returns-in_err-reserve-2-clause-second_roomy g c X means_a roomy_a Y means_b roomy_b = OnErr-from _ (refl, c.in_err-reserve-2.ensures.items)
+
+-- no run was begun, since there was no room for the replies
+not_begun : {T S S2 : Type 0} (a : Bag T S) (b : Bag T S2) (steps_a steps_b : List (Step T)) (before_a after_a before_b after_b : List (Reply T)) (NoRoom : Type 0)
+    → NoRoom → after_a ≡ before_a → after_b ≡ before_b → IsPairNotBegun NoRoom (ran a a steps_a before_a after_a) (ran b b steps_b before_b after_b)
+not_begun a b steps_a steps_b before_a after_a before_b after_b NoRoom short first second = (short, record { bag = refl; replies = first }, record { bag = refl; replies = second })
 
 pub returns-in_err-reserve-2-clause-stopped : goal.returns-in_err-reserve-2-clause-stopped
 returns-in_err-reserve-2-clause-stopped g c =
