@@ -43,8 +43,8 @@ enum hashbag_error {
     HASHBAG_MEMORY = 1,
     /* The total would pass the bag's limit. */
     HASHBAG_TOO_MANY = 2,
-    /* The tree is no array and no object, or an object without a member `pairs` that is an array, or one with a member
-     * besides `limit` and `pairs`. */
+    /* The tree is neither an array nor an object. Or it is an object that has no array as its member `pairs`, or that has
+     * another member than `limit` and `pairs`. */
     HASHBAG_JSON_NOT_AN_ARRAY = 3,
     /* The pair is no array of exactly two. */
     HASHBAG_JSON_NOT_A_PAIR = 4,

@@ -22,20 +22,20 @@ name. Names such as `IsFirstPlace` and `is_default` come from std. `CALLING.md` 
 core/specs/Occurrences greatest_total count instance instance_or_itself stored add less put distinct_count SameCounts IsBag
 core/specs/Bag Bag Means IsBagOf occurrences IsTallied
 core/specs/Equality same_counts bag_eq
-core/specs/Inserts Inserts Replaces IsRefused InTurn IsMadeOf InsertsAll InsertsUpTo
-core/specs/Keys InsertsNamed RefusesNamed
+core/specs/Inserts Inserts Replaces MayFail InTurn IsMadeOf InsertsAll InsertsUpTo
+core/specs/Keys InsertsNamed MayFailNamed
 core/specs/Held HasFewer AreHeld Recounts
 table/specs/Tables Tables most_used grown_slots room KeepsRoom Arrives IsPacked IsLeast
 core/specs/Walks IsSetWalk IsWalk IsSetWalkOf IsWalkOf
 core/specs/Joins IsOuterJoin IsDifference IsNotIn IsSignedDifference saturated
 core/specs/JsonFaults fault
 core/specs/JsonTrees IsReading IsTree IsBagTree IsTreeOfCounts
-script/specs/Script step run limit_left peak arrivals IsBounded AsksForMemory IsStopped
+script/specs/Script step run limit_left peak arrivals IsBounded MayAllocate IsStoppedFrom
 script/specs/Turns LeavesTables TablesInTurn AreTablesInTurn
 ops/specs/Order rank IsMostCommon
 ops/specs/Unions IsUnion
 core/proofs/CallerLemmas count_inserted count_inserted_other count_inserted_any count_removed count_removed_other count_removed_any count_replaced count_replaced_other count_set count_set_other count_kept count_means count_extended count_listed count_once count_retained count_moved count_take_next left_after equal_from_counts excess_listed none_listed listed_exceeds text_names_one count_of_key less_of_key count_removed_key count_inserted_key
-core/proofs/InsertLemmas all_added some_added made_means longer_by_items longer_by_numbers spends_in_turn stays_within refused_past_room none_refused takes_all
+core/proofs/InsertLemmas all_added some_added made_means longer_by_items longer_by_numbers spends_in_turn stays_within fails_past_room none_fails takes_all
 core/proofs/TakeLemmas stored_count stored_some stored_absent
 core/proofs/RetainLemmas answers_are
 core/proofs/ExcessLemmas excess_law

@@ -31,7 +31,7 @@ impl JsonValue for String {
 pub enum JsonError {
     /// An allocation failed.
     Memory,
-    /// The text isn't JSON. So many bytes had been read when that was found.
+    /// The text isn't JSON. It is found after this many bytes were read.
     NotJson(usize),
     /// The tree is no array and no object of a limit and pairs.
     NotAnArray,

@@ -29,7 +29,7 @@ pub use Rattle.hashbag_script.specs.Rows
 pub use Rattle.hashbag_script.specs.Script
 pub use Rattle.hashbag_script.specs.Turns
 pub use Rattle.hashbag_table.specs.Additions
-pub use Rattle.hashbag_table.specs.Asked
+pub use Rattle.hashbag_table.specs.Returned
 pub use Rattle.hashbag_table.specs.DrainWalk
 pub use Rattle.hashbag_table.specs.Entries
 pub use Rattle.hashbag_table.specs.Named

@@ -3,7 +3,7 @@ use Rattle.std.specs.Prelude.{◌≡◌, ℕ, ◌+◌, ◌-◌, ◌<◌, ◌≤�
 use Rattle.std.specs.Str.{bytes_eq}
 use Rattle.hashbag_table.specs.Tables.{ShrinksOrStays}
 use Rattle.hashbag_core.specs.Bag.{Bag, IsBagOf}
-use Rattle.hashbag_core.specs.Held.{no_slots, HasFewer, NeedsSlots}
+use Rattle.hashbag_core.specs.Held.{no_slots_after_building, HasFewer, NeedsSlots}
 use Rattle.hashbag_core.specs.Keys.{InsertsNamed}
 use Rattle.hashbag_core.specs.Occurrences.{count_named, count, distinct_count, recount, SameCounts}
 use Rattle.hashbag_ops.specs.Unions.{IsUnion}
@@ -52,7 +52,7 @@ module _ {T S : Type 0} (eq : T → T → Bool) where
   -- slots
   pub record HasShrunk (bag after : Bag T S) : Type 0 where
     pub shrinks : ShrinksOrStays (distinct_count eq bag.items) bag.tables after.tables
-    pub freed : bag.items ≡ [] → after.tables ≡ no_slots bag.tables.built
+    pub freed : bag.items ≡ [] → after.tables ≡ no_slots_after_building bag.tables.built
 
   -- `after` has n of what the key names: what `before` lacked was inserted, or what it had above n was removed
   pub record SetsNamed (names : T → Bool) (n : ℕ) (before after : Bag T S) : Type 0 where

@@ -6,7 +6,7 @@ use Rattle.hashbag.specs.Occurrences.{count}
 use Rattle.hashbag.proofs.ContainsLemmas.{All-from_Contains}
 
 module _ {T : Type 0} (eq : T → T → Bool) (X Y : List T) where
-  -- so many more came of the value than were ordered
+  -- the number of an entry is how many occurrences of its value came beyond those ordered
   abbrev pub CameMore : T × ℕ → Type 0
   CameMore e = count eq e.0 X ≡ count eq e.0 Y + e.1
 

@@ -36,7 +36,7 @@ pub fn take_each<T: Eq + Hash + Drop, S: BuildHasher + Drop>(
 }
 
 /// Returns the most common value of a list, or `None` if the list is empty.
-pub fn commonest<T: Ord + Hash + Copy + Drop>(
+pub fn most_common_value<T: Ord + Hash + Copy + Drop>(
     alloc: Global,
     values: Vec<T>,
 ) -> Result<Option<T>, BagError>

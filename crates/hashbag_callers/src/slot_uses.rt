@@ -16,7 +16,7 @@ pub fn keep_one_of_each<T: Eq + Hash + Drop, S: BuildHasher + Drop>(
     // The number of slots is 0, or a power of two from 16 to 2^59.
     ensures count { IsSlotCount (length bag.new.tables.newer) }
     ensures live { result ≡ live_count bag.new.tables.newer + live_count bag.new.tables.waiting }
-    ensures dead { (p : ℕ) (s : Slot T) → IsDeadAt bag.old.tables.newer p s → slot_at bag.new.tables.newer p ≡ s }
+    ensures not_live { (p : ℕ) (s : Slot T) → IsDeadAt bag.old.tables.newer p s → slot_at bag.new.tables.newer p ≡ s }
 {
     bag.retain(|_value: &T, _count: usize| 1);
     let _slots = bag.slots();

@@ -20,7 +20,7 @@ use Rattle.std.proofs.lemmas.List.Sums.{length-filter, sum_by-cons, sum_by-appen
 use Rattle.std.proofs.lemmas.List.Elements.{All-drop, filter_passes}
 use Rattle.std.proofs.lemmas.List.Sorted.{IsPermutation-refl}
 use Rattle.std.proofs.lemmas.Map.Keys.{IsDistinct-tail}
-use Rattle.hashbag_table.specs.Asked.{kept}
+use Rattle.hashbag_table.specs.Returned.{retained_entries}
 use Rattle.hashbag_table.proofs.CloneLemmas.{all_to_recursion}
 use Rattle.hashbag_table.proofs.KeyLemmas.{named_is}
 use Rattle.hashbag_core.specs.declared.bag.BagError.{BagError}
@@ -29,7 +29,7 @@ use Rattle.hashbag_core.specs.Bag.{Bag, Means, occurrences, IsBagOf}
 use Rattle.hashbag_core.specs.Equality.{bag_eq}
 use Rattle.hashbag_core.specs.EqualityLaws.{count_congr, count_append, same_counts-Decides}
 use Rattle.hashbag_core.specs.Extends.{add_all, Once, AsItIs}
-use Rattle.hashbag_core.specs.Inserts.{IsRefused, InsertsAll}
+use Rattle.hashbag_core.specs.Inserts.{MayFail, InsertsAll}
 use Rattle.hashbag_core.specs.Joins.{IsDifference}
 use Rattle.hashbag_core.specs.Keys.{InsertsNamed}
 use Rattle.hashbag_core.specs.Occurrences.{count_named, less_named, alike, others, count, instance_or_itself, add, less, put, SameCounts}
@@ -70,12 +70,12 @@ none_either : (b : Bool) → ◌≡◌ {A = ℕ} 0 (cond b 0 0)
 none_either true = refl
 none_either false = refl
 
--- an insertion that the limit allows fails for memory alone: for the clauses `refused` of `insert`, `insert_many` and an entry's `or_insert`
-pub refused_for_memory : {T S A : Type 0} (eq : T → T → Bool) (bag : Bag T S) (v : T) (n : ℕ) (r : Result A BagError) → IfErr r (IsRefused eq bag v n) → length bag.items + n ≤ bag.most → IfErr r (λ e. e ≡ Memory)
-refused_for_memory eq bag v n (Ok a) refused fits = tt
-refused_for_memory eq bag v n (Err TooMany) refused fits = let over = refused.why in absurd (omega (arith, over, fits))
-refused_for_memory eq bag v n (Err Memory) refused fits = refl
-refused_for_memory eq bag v n (Err BelowTotal) refused fits = absurd refused.why
+-- an insertion that the limit allows fails for memory alone: for the clauses `fails` of `insert`, `insert_many` and an entry's `or_insert`
+pub fails_for_memory : {T S A : Type 0} (eq : T → T → Bool) (bag : Bag T S) (v : T) (n : ℕ) (r : Result A BagError) → IfErr r (MayFail eq bag v n) → length bag.items + n ≤ bag.most → IfErr r (λ e. e ≡ Memory)
+fails_for_memory eq bag v n (Ok a) fails fits = tt
+fails_for_memory eq bag v n (Err TooMany) fails fits = let over = fails.why in absurd (omega (arith, over, fits))
+fails_for_memory eq bag v n (Err Memory) fails fits = refl
+fails_for_memory eq bag v n (Err BelowTotal) fails fits = absurd fails.why
 
 -- what an iterator gave to its end is the list that it yields: for the items of `Extends` and of the clause `len` of an extend
 pub items_that_came : {S A B : Type 0} {steps : S → Option A → S → Type 0} {v : A → B} {it : S} {all : List B} → (came : List A) → Drains steps it came → YieldsList steps v it all → map v came ≡ all
@@ -223,7 +223,7 @@ module _ {T : Type 0} {eq : T → T → Bool} (laws : IsEquivalence eq) where
     count_set_other v x n h other =
         count_means v (put eq (instance_or_itself eq x before.items) n before.items) h.means ∙ count_put_instance v x n before.items ∙ ap (λ (b : Bool). cond b n (count eq v before.items)) other
 
-  -- after extends and collections (`all` by `all_added`, `refused` by `some_added`): v occurs as often as in X, and as the numbers of the
+  -- after extends and collections (`all` by `all_added`, `fails` by `some_added`): v occurs as often as in X, and as the numbers of the
   -- pairs whose value equals v add up to. X is what the bag had, [] for a collection
   pub count_extended : {S : Type 0} (v : T) (X : List T) (pairs : List (T × ℕ)) (after : Bag T S) → Means after (add_all eq X pairs) → count eq v after.items ≡ count eq v X + sum_by (λ p. cond (eq v p.0) p.1 0) pairs
   count_extended v X pairs after means = sym (count_rearranged laws v (add_all eq X pairs) after.items means) ∙ count_all_added laws v X pairs
@@ -284,7 +284,7 @@ module _ {T : Type 0} {eq : T → T → Bool} (laws : IsEquivalence eq) where
       let some = is.2 in
       omega arith
 
-  -- ---- what a closure leaves that answers by the value alone
+  -- ---- what a closure leaves that decides by the value alone
 
   set_walk_distinct : (X : List T) (W : List (T × ℕ)) → IsSetWalk eq X W → IsDistinct eq (keys_of W)
   set_walk_distinct X W walk =
@@ -318,18 +318,18 @@ module _ {T : Type 0} {eq : T → T → Bool} (laws : IsEquivalence eq) where
     none_left : (n : ℕ) → 0 ≡ min n 0
     none_left n = omega arith
 
-    count_of_kept : (v : T) (W : List (T × ℕ)) → IsDistinct eq (keys_of W) → count eq v (occurrences (kept W (map (λ e. many e.0) W))) ≡ min (many v) (count eq v (occurrences W))
+    count_of_kept : (v : T) (W : List (T × ℕ)) → IsDistinct eq (keys_of W) → count eq v (occurrences (retained_entries W (map (λ e. many e.0) W))) ≡ min (many v) (count eq v (occurrences W))
     count_of_kept v [] distinct = none_left (many v)
     count_of_kept v (e ∷ W) distinct =
-        ap (λ (l : List T). count eq v l) (entry_kept (nat_lt 0 (min (many e.0) e.1)) e.0 (min (many e.0) e.1) (kept W (map (λ e. many e.0) W)) refl)
-        ∙ kept_step v e W (kept W (map (λ e. many e.0) W)) (eq v e.0) refl (absent_later laws e W distinct) (count_of_kept v W (IsDistinct-tail eq e.0 (keys_of W) distinct))
+        ap (λ (l : List T). count eq v l) (entry_kept (nat_lt 0 (min (many e.0) e.1)) e.0 (min (many e.0) e.1) (retained_entries W (map (λ e. many e.0) W)) refl)
+        ∙ kept_step v e W (retained_entries W (map (λ e. many e.0) W)) (eq v e.0) refl (absent_later laws e W distinct) (count_of_kept v W (IsDistinct-tail eq e.0 (keys_of W) distinct))
 
     -- after `retain` (`retained`): the lesser of the count before and `many v`, if the closure returns `many` of the value alone, as
     -- `answers_are` of `RetainLemmas` shows
-    pub count_retained : {F S : Type 0} (g : Mut F (Bor T × (ℕ × Unit {0})) ℕ) (f : F) (before after : Bag T S) (done : IsRetained eq g f before after) → done.answers ≡ map (λ e. many e.0) done.walk
+    pub count_retained : {F S : Type 0} (g : Mut F (Bor T × (ℕ × Unit {0})) ℕ) (f : F) (before after : Bag T S) (done : IsRetained eq g f before after) → done.returned ≡ map (λ e. many e.0) done.walk
         → (v : T) → count eq v after.items ≡ min (many v) (count eq v before.items)
     count_retained g f before after done are v =
-        count_means before after v (occurrences (kept done.walk done.answers)) done.left.means ∙ ap (λ (a : List ℕ). count eq v (occurrences (kept done.walk a))) are
+        count_means before after v (occurrences (retained_entries done.walk done.returned)) done.left.means ∙ ap (λ (a : List ℕ). count eq v (occurrences (retained_entries done.walk a))) are
         ∙ count_of_kept v done.walk (set_walk_distinct before.items done.walk (done.set_walk.walk before.items (IsPermutation-refl _)))
         ∙ ap (λ (n : ℕ). min (many v) n) (count_rearranged laws v (occurrences done.walk) before.items done.set_walk.means)
 
@@ -337,9 +337,9 @@ module _ {T : Type 0} {eq : T → T → Bool} (laws : IsEquivalence eq) where
   pub count_listed : {S I : Type 0} {steps : I → Option T → I → Type 0} {it : I} (before after : Bag T S) (xs : List T) → InsertsAll eq steps Once it before after → YieldsList steps (λ x. x) it xs
       → (v : T) → count eq v after.items ≡ count eq v before.items + count eq v xs
   count_listed before after xs all yields v =
-      let came = sym (map-id all.items) ∙ items_that_came all.items all.came yields in
+      let came = sym (map-id all.items) ∙ items_that_came all.items all.yielded yields in
       let whole = count_extended v before.items all.pairs after (all_added laws all).means in
-      let each = count_once v all.items all.pairs all.went ∙ ap (λ (l : List T). count eq v l) came in
+      let each = count_once v all.items all.pairs all.as_pairs ∙ ap (λ (l : List T). count eq v l) came in
       omega arith
 
   moved_at : (b : Bool) (f f' t t' n : ℕ) → (b ≡ true → n ≤ f) → f' ≡ cond b (f - n) f → t' ≡ t + cond b n 0 → f' + t' ≡ f + t

@@ -7,7 +7,7 @@ use Rattle.hashbag_core.specs.declared.bag.BagError.{BagError}
 use Rattle.hashbag_core.specs.declared.bag.BagError.TheVariants.{Memory, TooMany, BelowTotal}
 use Rattle.hashbag_core.specs.Occurrences.{count, add}
 use Rattle.hashbag_core.specs.Bag.{Bag}
-use Rattle.hashbag_core.specs.Extends.{OkOnce, add_all, Refuses, RefusesClones}
+use Rattle.hashbag_core.specs.Extends.{OkOnce, add_all, MayFailWith, MayFailWithClones}
 use Rattle.hashbag_core.specs.Inserts.{Inserts}
 
 -- an error that `?` hands on
@@ -47,12 +47,12 @@ module _ {T : Type 0} {eq : T → T → Bool} (laws : IsEquivalence eq) where
   add_all_last X [] p = refl
   add_all_last X (q ∷ pairs) p = add_all_last (add eq q.0 q.1 X) pairs p
 
-  -- what memory is refused to
-  pub refuses_memory : (most : ℕ) (X : List T) (v : T) (n : ℕ) (e : BagError) → e ≡ Memory → Refuses eq most X v n e → (length X + n ≤ most) × (0 < n) × (count eq v X ≡ 0)
-  refuses_memory most X v n e is h = subst (λ (x : BagError). Refuses eq most X v n x) is h
+  -- what an insertion is that may fail with `Memory`
+  pub may_fail_memory : (most : ℕ) (X : List T) (v : T) (n : ℕ) (e : BagError) → e ≡ Memory → MayFailWith eq most X v n e → (length X + n ≤ most) × (0 < n) × (count eq v X ≡ 0)
+  may_fail_memory most X v n e is h = subst (λ (x : BagError). MayFailWith eq most X v n x) is h
 
-  -- what n of a value are refused for, n clones are
-  pub refuses_clones : (most : ℕ) (X : List T) (v : T) (n : ℕ) (e : BagError) → Refuses eq most X v n e → RefusesClones most X n e
-  refuses_clones most X v n TooMany over = over
-  refuses_clones most X v n Memory asks = (asks.0, asks.1)
-  refuses_clones most X v n BelowTotal never = never
+  -- if inserting n of a value may fail with e, inserting n clones may
+  pub may_fail_cloning : (most : ℕ) (X : List T) (v : T) (n : ℕ) (e : BagError) → MayFailWith eq most X v n e → MayFailWithClones most X n e
+  may_fail_cloning most X v n TooMany over = over
+  may_fail_cloning most X v n Memory asks = (asks.0, asks.1)
+  may_fail_cloning most X v n BelowTotal never = never

@@ -12,7 +12,7 @@ use Rattle.hashbag_table.specs.Tables.{Tables, most_used, room, entries_of, IsLe
 use Rattle.hashbag_table.proofs.CarryLemmas.{live_fresh, live_empty, removed_empty}
 use Rattle.hashbag_core.specs.Bag.{Bag, occurrences, IsBagOf, IsTallied}
 use Rattle.hashbag_core.specs.Occurrences.{count}
-use Rattle.hashbag_core.specs.Held.{no_slots, cleared, left_in, AreHeld}
+use Rattle.hashbag_core.specs.Held.{no_slots_after_building, cleared, left_in, AreHeld}
 use Rattle.hashbag_core.proofs.OccurrenceLemmas.{bag_from_tally, count_occurrences, count_of_entry, absent_from_count, occurrences_rearranged, present_from_count, tally_rearranged}
 use Rattle.hashbag_core.proofs.WalkLemmas.{length_occurrences, length_le_total}
 
@@ -34,11 +34,11 @@ module _ {T : Type 0} where
   tables_from t u p q o r = λ i. record { newer = p i; waiting = q i; older = o i; built = r i }
 
   -- where there are no slots, none waits
-  pub none_from_newer : (t : Tables T) (w k : ℕ) → t.newer ≡ [] → w ≡ length t.waiting → (0 < w → w + 16 ≤ length t.newer) → (w ≡ 0 → t.older ≡ 0) → t.built ≡ k → t ≡ no_slots k
+  pub none_from_newer : (t : Tables T) (w k : ℕ) → t.newer ≡ [] → w ≡ length t.waiting → (0 < w → w + 16 ≤ length t.newer) → (w ≡ 0 → t.older ≡ 0) → t.built ≡ k → t ≡ no_slots_after_building k
   none_from_newer t w k newer is smaller freed built =
       let none : length t.newer ≡ 0 = ap (λ (ss : List (Slot T)). length ss) newer in
       let idle : w ≡ 0 = none_left w (λ some. let more = smaller some in omega (arith, more, none)) in
-      tables_from t (no_slots k) newer (nil_from_length t.waiting (sym is ∙ idle)) (freed idle) built
+      tables_from t (no_slots_after_building k) newer (nil_from_length t.waiting (sym is ∙ idle)) (freed idle) built
 
   -- the least table for n values that is made of Empty slots has room for them
   pub room_made : (n : ℕ) (t : Tables T) → t.newer ≡ replicate (length t.newer) Empty → IsLeast 0 n (length t.newer) → IsPacked t → n ≤ room t

@@ -18,10 +18,10 @@ use Rattle.hashbag_core.specs.declared.bag.BagError.{BagError}
 use Rattle.hashbag_core.specs.declared.bag.BagError.TheVariants.{Memory, TooMany, BelowTotal}
 use Rattle.hashbag_core.specs.Bag.{Bag, Means, IsBagOf, limited}
 use Rattle.hashbag_core.specs.Occurrences.{greatest_total, count, add, distinct_count, IsBag}
-use Rattle.hashbag_core.specs.Extends.{Once, add_all, Refuses}
-use Rattle.hashbag_core.specs.Held.{no_slots}
-use Rattle.hashbag_core.specs.Inserts.{empty_bag, Inserts, IsRefused, InTurn, IsMadeOf, InsertsAll, InsertsUpTo, RefusesOne, IsCloneRefused}
-use Rattle.hashbag_core.proofs.ExtendLemmas.{add_all_last, refuses_clones, sum_went, sum_went_once}
+use Rattle.hashbag_core.specs.Extends.{Once, add_all, MayFailWith}
+use Rattle.hashbag_core.specs.Held.{no_slots_after_building}
+use Rattle.hashbag_core.specs.Inserts.{empty_bag, Inserts, MayFail, InTurn, IsMadeOf, InsertsAll, InsertsUpTo, MayFailOne, MayFailCloning}
+use Rattle.hashbag_core.proofs.ExtendLemmas.{add_all_last, may_fail_cloning, sum_went, sum_went_once}
 use Rattle.hashbag_core.proofs.OccurrenceLemmas.{add_rearranged, bag_rearranged}
 
 module _ {T S : Type 0} (eq : T → T → Bool) where
@@ -29,7 +29,7 @@ module _ {T S : Type 0} (eq : T → T → Bool) where
   turn_last [] p before now after same went = (after, subst (λ (b : Bag T S). Inserts eq p.0 p.1 b after) same went, refl)
   turn_last (q ∷ pairs) p before now after h went = (h.0, h.1, turn_last pairs p h.0 now after h.2 went)
 
-  -- so many occurrences more as the numbers beside them
+  -- more occurrences, as many as the numbers beside them
   pub length_in_turn : (pairs : List (T × ℕ)) (before after : Bag T S) → InTurn eq pairs before after → length after.items ≡ length before.items + sum_by (λ p. p.1) pairs
   length_in_turn [] before after same = let as_long = ap (λ (b : Bag T S). length b.items) same in omega (arith, as_long)
   length_in_turn (p ∷ pairs) before after h =
@@ -112,13 +112,13 @@ module _ {T S : Type 0} (eq : T → T → Bool) where
       let few = few_in_turn pairs before after h in
       (spends_in_turn pairs before after h).within (omega (arith, few, enough))
 
-  -- ---- refusals
+  -- ---- insertions that fail
 
-  -- if an item failed with `Memory` (`IsRefused`), as many new values had arrived as there was room for. Over references a clone may have
+  -- if an item failed with `Memory` (`MayFail`), as many new values had arrived as there was room for. Over references a clone may have
   -- failed instead
-  pub refused_past_room : (pairs : List (T × ℕ)) (before after : Bag T S) (v : T) (n : ℕ) → InTurn eq pairs before after → IsRefused eq after v n Memory
+  pub fails_past_room : (pairs : List (T × ℕ)) (before after : Bag T S) (v : T) (n : ℕ) → InTurn eq pairs before after → MayFail eq after v n Memory
       → distinct_count eq before.items + room before.tables ≤ distinct_count eq after.items
-  refused_past_room pairs before after v n h declined =
+  fails_past_room pairs before after v n h declined =
       let full = declined.full refl in
       let spent = spends_in_turn pairs before after h in
       elim (cases_lt (distinct_count eq after.items) (distinct_count eq before.items + room before.tables)) [
@@ -129,9 +129,9 @@ module _ {T S : Type 0} (eq : T → T → Bool) where
       ]
 
   -- so there were at least as many items before it
-  pub refused_after_room : (pairs : List (T × ℕ)) (before after : Bag T S) (v : T) (n : ℕ) → InTurn eq pairs before after → IsRefused eq after v n Memory → room before.tables ≤ length pairs
-  refused_after_room pairs before after v n h declined =
-      omega (arith, few_in_turn pairs before after h, refused_past_room pairs before after v n h declined)
+  pub fails_after_room : (pairs : List (T × ℕ)) (before after : Bag T S) (v : T) (n : ℕ) → InTurn eq pairs before after → MayFail eq after v n Memory → room before.tables ≤ length pairs
+  fails_after_room pairs before after v n h declined =
+      omega (arith, few_in_turn pairs before after h, fails_past_room pairs before after v n h declined)
 
 module _ {T S : Type 0} {eq : T → T → Bool} (laws : IsEquivalence eq) where
   -- 0 of a value
@@ -182,27 +182,27 @@ module _ {T S : Type 0} {eq : T → T → Bool} (laws : IsEquivalence eq) where
       → IsBagOf eq before (add_all eq before.items h.pairs) after
   all_added {before = before} {after = after} h = left_in_turn h.pairs before after h.bag h.turn
 
-  -- of `refused` of extends and collections: the bag means what it had, and the pairs before the item that failed
+  -- of `fails` of extends and collections: the bag means what it had, and the pairs before the item that failed
   pub some_added : {I A : Type 0} {steps : I → Option A → I → Type 0} {Goes : A → T × ℕ → Type 0} {X : Type 0} {Why : Bag T S → A → X → Type 0} {it : I} {before after : Bag T S} {e : X}
       → (h : InsertsUpTo eq steps Goes Why it before after e) → IsBagOf eq before (add_all eq before.items h.pairs) after
   some_added {before = before} {after = after} h = left_in_turn h.pairs before after h.bag h.turn
 
   -- a collection: the bag that was made is empty, under the state that is left
-  empty_before : (made after : Bag T S) → made.items ≡ [] → made.tables ≡ no_slots 0 → made.most ≡ greatest_total → after.hasher ≡ made.hasher → made ≡ empty_bag after.hasher
+  empty_before : (made after : Bag T S) → made.items ≡ [] → made.tables ≡ no_slots_after_building 0 → made.most ≡ greatest_total → after.hasher ≡ made.hasher → made ≡ empty_bag after.hasher
   empty_before made after none slots limit same = λ i. record { items = none i; hasher = sym same i; tables = slots i; most = limit i }
 
-  pub all_made : {I A : Type 0} {steps : I → Option A → I → Type 0} {Goes : A → T × ℕ → Type 0} {it : I} {made after : Bag T S} → made.items ≡ [] → made.tables ≡ no_slots 0 → made.most ≡ greatest_total
+  pub all_made : {I A : Type 0} {steps : I → Option A → I → Type 0} {Goes : A → T × ℕ → Type 0} {it : I} {made after : Bag T S} → made.items ≡ [] → made.tables ≡ no_slots_after_building 0 → made.most ≡ greatest_total
       → InsertsAll eq steps Goes it made after → InsertsAll eq steps Goes it (empty_bag after.hasher) after
   all_made {steps = steps} {Goes = Goes} {it = it} {made = made} {after = after} none slots limit h =
       subst (λ (b : Bag T S). InsertsAll eq steps Goes it b after) (empty_before made after none slots limit (all_added h).hasher) h
 
   pub some_made : {I A : Type 0} {steps : I → Option A → I → Type 0} {Goes : A → T × ℕ → Type 0} {X : Type 0} {Why : Bag T S → A → X → Type 0} {it : I} {made after : Bag T S} {e : X}
-      → made.items ≡ [] → made.tables ≡ no_slots 0 → made.most ≡ greatest_total → InsertsUpTo eq steps Goes Why it made after e → InsertsUpTo eq steps Goes Why it (empty_bag after.hasher) after e
+      → made.items ≡ [] → made.tables ≡ no_slots_after_building 0 → made.most ≡ greatest_total → InsertsUpTo eq steps Goes Why it made after e → InsertsUpTo eq steps Goes Why it (empty_bag after.hasher) after e
   some_made {steps = steps} {Goes = Goes} {Why = Why} {it = it} {made = made} {after = after} {e = e} none slots limit h =
       subst (λ (b : Bag T S). InsertsUpTo eq steps Goes Why it b after e) (empty_before made after none slots limit (some_added h).hasher) h
 
   -- a bag that was read
-  pub made_of : (start bag : Bag T S) (pairs : List (T × ℕ)) → start.items ≡ [] → start.tables ≡ no_slots 0 → bag.most ≡ start.most → bag.hasher ≡ start.hasher → InTurn eq pairs start bag → IsMadeOf eq pairs bag
+  pub made_of : (start bag : Bag T S) (pairs : List (T × ℕ)) → start.items ≡ [] → start.tables ≡ no_slots_after_building 0 → bag.most ≡ start.most → bag.hasher ≡ start.hasher → InTurn eq pairs start bag → IsMadeOf eq pairs bag
   made_of start bag pairs none slots limit same h =
       let empty : start ≡ limited bag.most (empty_bag bag.hasher) = λ i. record { items = none i; hasher = sym same i; tables = slots i; most = sym limit i } in
       subst (λ (b : Bag T S). InTurn eq pairs b bag) empty h
@@ -213,36 +213,36 @@ module _ {T S : Type 0} {eq : T → T → Bool} (laws : IsEquivalence eq) where
 
   -- ---- clones
 
-  -- a clone that there is was refused
-  pub clone_refused : (is_clone : T → T → Type 0) (is_infallible : T → Type 0) (bag : Bag T S) (v x : T) (n : ℕ) (e : BagError) → is_clone v x → IsRefused eq bag x n e → IsCloneRefused eq is_clone is_infallible bag v n e
-  clone_refused is_clone is_infallible bag v x n e clone declined = record { why = refuses_clones laws bag.most bag.items x n e declined.why; memory = λ _. inr (x, clone, declined) }
+  -- inserting a clone that there is failed
+  pub clone_fails : (is_clone : T → T → Type 0) (is_infallible : T → Type 0) (bag : Bag T S) (v x : T) (n : ℕ) (e : BagError) → is_clone v x → MayFail eq bag x n e → MayFailCloning eq is_clone is_infallible bag v n e
+  clone_fails is_clone is_infallible bag v x n e clone declined = record { why = may_fail_cloning laws bag.most bag.items x n e declined.why; memory = λ _. inr (x, clone, declined) }
 
   -- ---- an `extend` by a known list
 
   -- an insertion of one fails only where the limit is reached, or for memory
-  declined_once : (bag : Bag T S) (v : T) (e : BagError) → Refuses eq bag.most bag.items v 1 e → length bag.items + 1 ≤ bag.most → e ≡ Memory
+  declined_once : (bag : Bag T S) (v : T) (e : BagError) → MayFailWith eq bag.most bag.items v 1 e → length bag.items + 1 ≤ bag.most → e ≡ Memory
   declined_once bag v TooMany over fits = absurd (omega (arith, over, fits))
   declined_once bag v Memory asks fits = refl
   declined_once bag v BelowTotal never fits = absurd never
 
   -- an `extend` by a known list doesn't fail, with room for its length and within the limit
-  pub none_refused : {I B : Type 0} {steps : I → Option T → I → Type 0} {view : T → B} {it : I} {all : List B} {before after : Bag T S} {e : BagError}
-      → InsertsUpTo eq steps Once (RefusesOne eq) it before after e → YieldsList steps view it all → length all ≤ room before.tables → length before.items + length all ≤ before.most → ⊥
-  none_refused {all = all} {before = before} {after = after} {e = e} h yields enough fits =
-      let fewer : length h.items < length all = (YieldsList-turn yields h.items h.came.0 h.came.1 (Some h.refused) h.rest h.refused refl h.came.2).0 in
-      let as_many = AllZip-long Once h.items h.pairs h.went in
+  pub none_fails : {I B : Type 0} {steps : I → Option T → I → Type 0} {view : T → B} {it : I} {all : List B} {before after : Bag T S} {e : BagError}
+      → InsertsUpTo eq steps Once (MayFailOne eq) it before after e → YieldsList steps view it all → length all ≤ room before.tables → length before.items + length all ≤ before.most → ⊥
+  none_fails {all = all} {before = before} {after = after} {e = e} h yields enough fits =
+      let fewer : length h.items < length all = (YieldsList-turn yields h.items h.yielded.0 h.yielded.1 (Some h.failed) h.rest h.failed refl h.yielded.2).0 in
+      let as_many = AllZip-long Once h.items h.pairs h.as_pairs in
       let long = length_in_turn eq h.pairs before after h.turn in
-      let numbers = sum_went_once Once (λ x p is. ap (λ (q : T × ℕ). q.1) is) h.items h.pairs h.went in
+      let numbers = sum_went_once Once (λ x p is. ap (λ (q : T × ℕ). q.1) is) h.items h.pairs h.as_pairs in
       let limit = (some_added h).limit in
-      let memory = declined_once after h.refused e h.why.why (omega (arith, long, numbers, fewer, fits, limit)) in
-      let late = refused_after_room eq h.pairs before after h.refused 1 h.turn (subst (λ (x : BagError). IsRefused eq after h.refused 1 x) memory h.why) in
+      let memory = declined_once after h.failed e h.why.why (omega (arith, long, numbers, fewer, fits, limit)) in
+      let late = fails_after_room eq h.pairs before after h.failed 1 h.turn (subst (λ (x : BagError). MayFail eq after h.failed 1 x) memory h.why) in
       omega (arith, late, as_many, fewer, enough)
 
   -- so such an `extend` succeeds
   pub takes_all : {I A B : Type 0} {steps : I → Option T → I → Type 0} {view : T → B} {it : I} {all : List B} → (before after : Bag T S) (r : Result A BagError)
-      → IfErr r (InsertsUpTo eq steps Once (RefusesOne eq) it before after) → YieldsList steps view it all → length all ≤ room before.tables → length before.items + length all ≤ before.most → IsOk r
+      → IfErr r (InsertsUpTo eq steps Once (MayFailOne eq) it before after) → YieldsList steps view it all → length all ≤ room before.tables → length before.items + length all ≤ before.most → IsOk r
   takes_all before after (Ok a) h yields enough fits = refl
-  takes_all before after (Err e) h yields enough fits = absurd (none_refused h yields enough fits)
+  takes_all before after (Err e) h yields enough fits = absurd (none_fails h yields enough fits)
 
 -- ---- while a loop runs
 
@@ -251,36 +251,36 @@ module _ {T S A : Type 0} (eq : T → T → Bool) (Goes : A → T × ℕ → Typ
   pub record SoFar (before now : Bag T S) (items : List A) : Type 0 where
     pub bag : IsBag eq before.most before.items
     pub pairs : List (T × ℕ)
-    pub went : AllZip Goes items pairs
+    pub as_pairs : AllZip Goes items pairs
     pub turn : InTurn eq pairs before now
 
   pub none_yet : (bag : Bag T S) → IsBag eq bag.most bag.items → SoFar bag bag []
-  none_yet bag is = record { bag = is; pairs = []; went = tt; turn = refl }
+  none_yet bag is = record { bag = is; pairs = []; as_pairs = tt; turn = refl }
 
   pub one_more : (before now after : Bag T S) (items : List A) (x : A) (p : T × ℕ) → SoFar before now items → Goes x p → Inserts eq p.0 p.1 now after → SoFar before after (items ++ x ∷ [])
   one_more before now after items x p so_far goes went = record {
     bag = so_far.bag;
     pairs = so_far.pairs ++ p ∷ [];
-    went = zip_more Goes items so_far.pairs x p so_far.went goes;
+    as_pairs = zip_more Goes items so_far.pairs x p so_far.as_pairs goes;
     turn = turn_last eq so_far.pairs p before now after so_far.turn went;
   }
 
   -- the end came
   pub all_went : {I : Type 0} {steps : I → Option A → I → Type 0} {it : I} {before after : Bag T S} → (items : List A) → SoFar before after items → Drains steps it items → InsertsAll eq steps Goes it before after
-  all_went items so_far came = record { bag = so_far.bag; items = items; came = came; pairs = so_far.pairs; went = so_far.went; turn = so_far.turn }
+  all_went items so_far came = record { bag = so_far.bag; items = items; yielded = came; pairs = so_far.pairs; as_pairs = so_far.as_pairs; turn = so_far.turn }
 
-  -- the next item was refused, and left the bag as it was
+  -- the next item failed, and left the bag as it was
   pub some_went : {I X : Type 0} {steps : I → Option A → I → Type 0} {Why : Bag T S → A → X → Type 0} {it : I} {before after : Bag T S} {e : X} → (now : Bag T S) (items : List A) (x : A) (rest : I)
       → SoFar before now items → YieldsThen steps it items (Some x) rest → after ≡ now → Why now x e → InsertsUpTo eq steps Goes Why it before after e
   some_went {steps = steps} {Why = Why} {it = it} {before = before} {e = e} now items x rest so_far came same why =
       subst (λ (b : Bag T S). InsertsUpTo eq steps Goes Why it before b e) (sym same) (record {
         bag = so_far.bag;
         items = items;
-        refused = x;
+        failed = x;
         rest = rest;
-        came = came;
+        yielded = came;
         pairs = so_far.pairs;
-        went = so_far.went;
+        as_pairs = so_far.as_pairs;
         turn = so_far.turn;
         why = why;
       })
@@ -293,14 +293,14 @@ module _ {T S I A : Type 0} {eq : T → T → Bool} {steps : I → Option A → 
 
   -- of `all`, if each item is inserted once: the bag is longer by their number
   pub longer_by_items : ((x : A) (p : T × ℕ) → Goes x p → p.1 ≡ 1) → length after.items ≡ length before.items + length h.items
-  longer_by_items says = longer _ (sum_went_once Goes says h.items h.pairs h.went)
+  longer_by_items says = longer _ (sum_went_once Goes says h.items h.pairs h.as_pairs)
 
   -- of `all`: the bag is longer by the sum of the numbers
   pub longer_by_numbers : (number : A → ℕ) → ((x : A) (p : T × ℕ) → Goes x p → p.1 ≡ number x) → length after.items ≡ length before.items + sum_by number h.items
-  longer_by_numbers number says = longer _ (sum_went Goes number says h.items h.pairs h.went)
+  longer_by_numbers number says = longer _ (sum_went Goes number says h.items h.pairs h.as_pairs)
 
   -- of `all`, with room for as many values as items: there are as many slots, and no table is built
   pub stays_within : length h.items ≤ room before.tables → StaysWithin eq before after
   stays_within enough =
-      let as_many = AllZip-long Goes h.items h.pairs h.went in
+      let as_many = AllZip-long Goes h.items h.pairs h.as_pairs in
       stays_in_turn eq h.pairs before after h.turn (omega (arith, as_many, enough))

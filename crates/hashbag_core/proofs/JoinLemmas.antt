@@ -13,7 +13,7 @@ use Rattle.std.proofs.lemmas.Map.Made.{IsDistinct-keys_filter}
 use Rattle.hashbag_table.proofs.ListLemmas.{IsPermutation-filter, IsPermutation-same}
 use Rattle.hashbag_core.specs.Occurrences.{count}
 use Rattle.hashbag_core.specs.Walks.{IsEach, IsSetWalk}
-use Rattle.hashbag_core.specs.Joins.{alone, IsOuterJoin, IsDifference, IsNotIn}
+use Rattle.hashbag_core.specs.Joins.{only_in_second, IsOuterJoin, IsDifference, IsNotIn}
 use Rattle.hashbag_core.specs.JoinsLeft.{with_second, excesses, lacking, with_no_first}
 use Rattle.hashbag_core.proofs.ContainsLemmas.{All-from_Contains, Contains-same, Contains-map, Contains-map_back, Contains-filter, Contains-filter_back}
 use Rattle.hashbag_core.proofs.MemberLemmas.{map_ext, map-map}
@@ -29,8 +29,8 @@ counted_in eq X Y v = (v, count eq v X, count eq v Y)
 module _ {T : Type 0} {eq : T → T → Bool} (laws : IsEquivalence eq) where
   -- ---- whatever the order of the lists
 
-  pub alone_rearranged : (X X' Y Y' : List T) → IsPermutation X X' → IsPermutation Y Y' → IsPermutation (alone eq X Y) (alone eq X' Y')
-  alone_rearranged X X' Y Y' p q =
+  pub only_in_second_rearranged : (X X' Y Y' : List T) → IsPermutation X X' → IsPermutation Y Y' → IsPermutation (only_in_second eq X Y) (only_in_second eq X' Y')
+  only_in_second_rearranged X X' Y Y' p q =
       IsPermutation-trans _ _ _ (IsPermutation-filter (λ y. count eq y X == 0) Y Y' q)
       (IsPermutation-same _ _ (λ i. filter (λ y. count_rearranged laws y X X' p i == 0) Y'))
 
@@ -39,7 +39,7 @@ module _ {T : Type 0} {eq : T → T → Bool} (laws : IsEquivalence eq) where
     first = h.first;
     second = h.second;
     of_first = each_rearranged laws X X' h.first p h.of_first;
-    of_second = each_rearranged laws (alone eq X Y) (alone eq X' Y') h.second (alone_rearranged X X' Y Y' p q) h.of_second;
+    of_second = each_rearranged laws (only_in_second eq X Y) (only_in_second eq X' Y') h.second (only_in_second_rearranged X X' Y Y' p q) h.of_second;
     counts = h.counts ∙ λ i. map (λ v. (v, count_rearranged laws v X X' p i, count_rearranged laws v Y Y' q i)) (h.first ++ h.second);
   }
 
@@ -119,16 +119,16 @@ module _ {T : Type 0} {eq : T → T → Bool} (laws : IsEquivalence eq) where
         );
       }
 
-  each_alone : (X Y : List T) (M : List (T × ℕ)) → IsNotIn eq Y X M → IsEach eq (alone eq X Y) (keys_of M)
-  each_alone X Y M h = record {
+  each_only_in_second : (X Y : List T) (M : List (T × ℕ)) → IsNotIn eq Y X M → IsEach eq (only_in_second eq X Y) (keys_of M)
+  each_only_in_second X Y M h = record {
     once = h.once;
-    all = All-from_Contains (λ x. Contains (keys_of M) x) (alone eq X Y) (λ x c.
+    all = All-from_Contains (λ x. Contains (keys_of M) x) (only_in_second eq X Y) (λ x c.
         let f = Contains-filter_back (λ y. count eq y X == 0) x Y c in
         Contains-map (λ (e : T × ℕ). e.0) (x, count eq x Y) M ((h.exactly x (count eq x Y)).1 (f.0, refl, count_of_item x Y f.0, eqb-true _ _ f.1)));
-    only = All-from_Contains (λ y. Contains (alone eq X Y) y) (keys_of M) (λ y c.
+    only = All-from_Contains (λ y. Contains (only_in_second eq X Y) y) (keys_of M) (λ y c.
         let u = Contains-map_back (λ (e : T × ℕ). e.0) y M c in
         let f = (h.exactly u.0.0 u.0.1).0 u.1 in
-        subst (λ (x : T). Contains (alone eq X Y) x) u.2 (Contains-filter (λ y. count eq y X == 0) u.0.0 Y f.0 (eq-eqb _ _ f.3)));
+        subst (λ (x : T). Contains (only_in_second eq X Y) x) u.2 (Contains-filter (λ y. count eq y X == 0) u.0.0 Y f.0 (eq-eqb _ _ f.3)));
   }
 
   pub outer_from_walks : (X Y : List T) (W M : List (T × ℕ)) → IsSetWalk eq X W → IsNotIn eq Y X M → IsOuterJoin eq X Y (with_second eq Y W ++ with_no_first M)
@@ -141,7 +141,7 @@ module _ {T : Type 0} {eq : T → T → Bool} (laws : IsEquivalence eq) where
         first = walk.values;
         second = keys_of M;
         of_first = walk.each;
-        of_second = each_alone X Y M rest;
+        of_second = each_only_in_second X Y M rest;
         counts = (λ i. front i ++ back i) ∙ sym (map-append both walk.values (keys_of M));
       }
 
@@ -150,7 +150,7 @@ module _ {T : Type 0} {eq : T → T → Bool} (laws : IsEquivalence eq) where
   outer_none_zero X Y J h =
       let both = counted_in eq X Y in
       let in_first = All-weaker (λ v. Contains X v) (λ v. 0 < count eq v X + count eq v Y) (λ v c. let some = count_of_item v X c in omega arith) h.first h.of_first.only in
-      let in_second = All-weaker (λ v. Contains (alone eq X Y) v) (λ v. 0 < count eq v X + count eq v Y) (λ v c. let some = count_of_item v Y (Contains-filter_back (λ y. count eq y X == 0) v Y c).0 in omega arith) h.second h.of_second.only in
+      let in_second = All-weaker (λ v. Contains (only_in_second eq X Y) v) (λ v. 0 < count eq v X + count eq v Y) (λ v c. let some = count_of_item v Y (Contains-filter_back (λ y. count eq y X == 0) v Y c).0 in omega arith) h.second h.of_second.only in
       let all = All-append (λ v. 0 < count eq v X + count eq v Y) h.first h.second in_first in_second in
       All-from_Contains (λ j. 0 < j.1 + j.2) J (λ j c.
       let u = Contains-map_back both j (h.first ++ h.second) (Contains-same J _ j h.counts c) in

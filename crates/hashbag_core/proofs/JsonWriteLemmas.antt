@@ -45,7 +45,7 @@ module _ {T : Type 0} {eq : T → T → Bool} (laws : IsEquivalence eq) where
     means = IsPermutation-trans _ _ _ (IsPermutation-sym _ _ (occurrences_rearranged V W p)) h.means;
     total = sum_by-IsPermutation (λ (e : T × ℕ). e.1) V W p ∙ h.total;
     distinct = length_permutation V W p ∙ h.distinct;
-    few = let same = length_permutation V W p in let few = h.few in omega arith;
+    at_most = let same = length_permutation V W p in let few = h.at_most in omega arith;
     fits = h.fits;
   }
 

@@ -120,7 +120,7 @@ module _ {T : Type 0} {eq : T → T → Bool} (laws : IsEquivalence eq) where
         means = IsPermutation-sym _ _ (occurrences_rearranged es W p);
         total = sum;
         distinct = length_permutation es W p ∙ sym (distinct_count-occurrences laws es tally.counted);
-        few = omega arith;
+        at_most = omega arith;
         fits = fits_from_tally laws es total tally;
       }
 

@@ -6,7 +6,7 @@ use Rattle.std.proofs.lemmas.Bool.{false≢true}
 use Rattle.std.proofs.lemmas.List.Elements.{All-from_recursion}
 use Rattle.std.specs.List.{IsDistinct, Contains}
 use Rattle.std.specs.List.Sorted.{IsPermutation}
-use Rattle.hashbag_table.specs.Asked.{kept as kept_of}
+use Rattle.hashbag_table.specs.Returned.{retained_entries as kept_of}
 use Rattle.hashbag_core.specs.Bag.{occurrences}
 use Rattle.hashbag_core.specs.Equality.{same_counts}
 use Rattle.hashbag_core.specs.Extends.{add_all}

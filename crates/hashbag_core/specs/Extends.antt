@@ -28,10 +28,10 @@ abbrev pub CloneAsOften : {T : Type 0} → (T → T → Type 0) → Bor T × ℕ
 CloneAsOften is_clone e p = (0 < e.1 → is_clone e.0.now p.0) × (p.1 ≡ e.1)
 
 -- inserting n clones in a bag that means X may fail with this error: the total would pass its limit `most`, or else an allocation fails
-abbrev pub RefusesClones : {T : Type 0} → ℕ → List T → ℕ → BagError → Type 0
-RefusesClones most X n TooMany = most < length X + n
-RefusesClones most X n Memory = (length X + n ≤ most) × (0 < n)
-RefusesClones most X n BelowTotal = ⊥
+abbrev pub MayFailWithClones : {T : Type 0} → ℕ → List T → ℕ → BagError → Type 0
+MayFailWithClones most X n TooMany = most < length X + n
+MayFailWithClones most X n Memory = (length X + n ≤ most) × (0 < n)
+MayFailWithClones most X n BelowTotal = ⊥
 
 module _ {T : Type 0} (eq : T → T → Bool) where
   -- X with each value added in turn, as often as its number says
@@ -41,7 +41,7 @@ module _ {T : Type 0} (eq : T → T → Bool) where
 
   -- inserting n of v in a bag that means X may fail with this error: the total would pass its limit `most`, or v is absent and an
   -- allocation fails
-  abbrev pub Refuses : ℕ → List T → T → ℕ → BagError → Type 0
-  Refuses most X v n TooMany = most < length X + n
-  Refuses most X v n Memory = (length X + n ≤ most) × (0 < n) × (count eq v X ≡ 0)
-  Refuses most X v n BelowTotal = ⊥
+  abbrev pub MayFailWith : ℕ → List T → T → ℕ → BagError → Type 0
+  MayFailWith most X v n TooMany = most < length X + n
+  MayFailWith most X v n Memory = (length X + n ≤ most) × (0 < n) × (count eq v X ≡ 0)
+  MayFailWith most X v n BelowTotal = ⊥

@@ -10,8 +10,8 @@ use Rattle.hashbag_core.specs.Occurrences.{count_named, less_named, count, disti
 
 module _ {T : Type 0} where
   -- no slots in either table, after k were built
-  abbrev pub no_slots : ℕ → Tables T
-  no_slots k = record { newer = []; waiting = []; older = 0; built = k }
+  abbrev pub no_slots_after_building : ℕ → Tables T
+  no_slots_after_building k = record { newer = []; waiting = []; older = 0; built = k }
 
   -- the newer table with its slots Empty, and no older table. No table was built
   abbrev pub cleared : Tables T → Tables T

@@ -4,7 +4,7 @@ use Rattle.std.proofs.Common.{lit<}
 use Rattle.std.proofs.lemmas.List.Elements.{All-from_recursion}
 use Rattle.std.specs.List.{IsDistinct, Contains}
 use Rattle.hashbag_core.specs.Examples.{Tagged, same_key, bag, each_value}
-use Rattle.hashbag_core.specs.Joins.{saturated, alone, IsOuterJoin, IsSignedDifference}
+use Rattle.hashbag_core.specs.Joins.{saturated, only_in_second, IsOuterJoin, IsSignedDifference}
 use Rattle.hashbag_core.specs.JoinsLeft.{with_second, excesses, lacking, with_no_first, subtracted}
 use Rattle.hashbag_core.specs.Walks.{IsEach}
 
@@ -26,14 +26,14 @@ least = refl
 too_small : saturated (negsuc 9223372036854775808) ≡ negsuc 9223372036854775807
 too_small = refl
 
-three_alone : alone same_key bag other_bag ≡ (3, 30) ∷ []
-three_alone = refl
+three_only_in_second : only_in_second same_key bag other_bag ≡ (3, 30) ∷ []
+three_only_in_second = refl
 
 -- ---- an outer join
 
-each_alone : IsEach same_key ((3, 30) ∷ []) ((3, 30) ∷ [])
+each_only_in_second : IsEach same_key ((3, 30) ∷ []) ((3, 30) ∷ [])
 unfolding IsDistinct
-each_alone =
+each_only_in_second =
     let three : Contains {X = Tagged} ((3, 30) ∷ []) (3, 30) = (0, lit< tt, refl) in
     record {
       once = (tt, tt);
@@ -42,7 +42,7 @@ each_alone =
     }
 
 outer : IsOuterJoin same_key bag other_bag (((2, 7), 1, 0) ∷ ((1, 10), 2, 1) ∷ ((3, 30), 0, 1) ∷ [])
-outer = record { first = (2, 7) ∷ (1, 10) ∷ []; second = (3, 30) ∷ []; of_first = each_value; of_second = each_alone; counts = refl }
+outer = record { first = (2, 7) ∷ (1, 10) ∷ []; second = (3, 30) ∷ []; of_first = each_value; of_second = each_only_in_second; counts = refl }
 
 signed : IsSignedDifference same_key bag other_bag (((2, 7), pos 1) ∷ ((1, 10), pos 1) ∷ ((3, 30), negsuc 0) ∷ [])
 signed = record { outer = ((2, 7), 1, 0) ∷ ((1, 10), 2, 1) ∷ ((3, 30), 0, 1) ∷ []; is_outer = outer; signed = refl }

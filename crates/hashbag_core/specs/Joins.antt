@@ -23,15 +23,15 @@ saturated z = int_max least_signed (int_min z greatest_signed)
 
 module _ {T : Type 0} (eq : T → T → Bool) where
   -- the items of Y whose value doesn't occur in X
-  abbrev pub alone : List T → List T → List T
-  alone X Y = filter (λ y. count eq y X == 0) Y
+  abbrev pub only_in_second : List T → List T → List T
+  only_in_second X Y = filter (λ y. count eq y X == 0) Y
 
   -- J has each value of X once, and then each value that Y alone has, once, each with its counts in X and in Y
   pub record IsOuterJoin (X Y : List T) (J : List (T × ℕ × ℕ)) : Type 0 where
     pub first : List T
     pub second : List T
     pub of_first : IsEach eq X first
-    pub of_second : IsEach eq (alone X Y) second
+    pub of_second : IsEach eq (only_in_second X Y) second
     pub counts : J ≡ map (λ v. (v, count eq v X, count eq v Y)) (first ++ second)
 
   -- E has no value twice. It has (v, n) exactly if v is an item of X, n is how many more of v X has than Y, and n isn't 0

@@ -27,9 +27,9 @@ subtracted js = map (λ j. (j.0, saturated (pos j.1 -ℤ pos j.2))) js
 -- ---- the other joins, from the list of an outer join
 
 -- each value whose first count is above its second, with the excess
-abbrev pub exceeding : {T : Type 0} → List (T × ℕ × ℕ) → List (T × ℕ)
-exceeding js = filter (λ e. nat_lt 0 e.1) (map (λ j. (j.0, j.1 - j.2)) js)
+abbrev pub excesses_of_join : {T : Type 0} → List (T × ℕ × ℕ) → List (T × ℕ)
+excesses_of_join js = filter (λ e. nat_lt 0 e.1) (map (λ j. (j.0, j.1 - j.2)) js)
 
 -- each value whose second count is 0, with its first
-abbrev pub unmatched : {T : Type 0} → List (T × ℕ × ℕ) → List (T × ℕ)
-unmatched js = map (λ j. (j.0, j.1)) (filter (λ j. j.2 == 0) js)
+abbrev pub lacking_of_join : {T : Type 0} → List (T × ℕ × ℕ) → List (T × ℕ)
+lacking_of_join js = map (λ j. (j.0, j.1)) (filter (λ j. j.2 == 0) js)

@@ -19,8 +19,8 @@ use Rattle.hashbag_core.specs.JsonItems.{IsU64, IsI64, u64_of, i64_of, u64_withi
 same_some : {X : Type 0} (x y : X) → Some x ≡ Some y → x ≡ y
 same_some x y e = cc
 
-two_of : {X : Type 0} (o : Option X) (x y : X) → o ≡ Some x → o ≡ Some y → x ≡ y
-two_of o x y p q = same_some x y (sym p ∙ q)
+same_of : {X : Type 0} (o : Option X) (x y : X) → o ≡ Some x → o ≡ Some y → x ≡ y
+same_of o x y p q = same_some x y (sym p ∙ q)
 
 -- ---- u64
 
@@ -44,10 +44,10 @@ pub u64_none : (d : Data) → None ≡ u64_of d → is_some (u64_item d) ≡ fal
 u64_none d e = ap (λ (o : Option ℕ). is_some (option_and_then u64_within o)) (sym e)
 
 pub u64_back : (x y : ℕ) → IsU64 x → u64_item (number (unsigned x)) ≡ Some y → nat_eq x y ≡ true
-u64_back x y h e = eq-eqb x y (two_of _ x y (u64_reads x h) e)
+u64_back x y h e = eq-eqb x y (same_of _ x y (u64_reads x h) e)
 
 pub u64_one : (d : Data) (x y : ℕ) → IsU64 x → IsU64 y → u64_item d ≡ Some x → u64_item d ≡ Some y → nat_eq x y ≡ true
-u64_one d x y h k p q = eq-eqb x y (two_of (u64_item d) x y p q)
+u64_one d x y h k p q = eq-eqb x y (same_of (u64_item d) x y p q)
 
 pub u64_has : (d : Data) (x : ℕ) → u64_item d ≡ Some x → is_some (u64_item d) ≡ true
 u64_has d x e = ap (λ (o : Option ℕ). is_some o) e
@@ -108,10 +108,10 @@ pub i64_is_read : (d : Data) → is_some (i64_item d) ≡ true → (x : ℤ) × 
 i64_is_read d e = i64_is_item (i64_of d) e
 
 pub i64_back : (x y : ℤ) → IsI64 x → i64_item (number (of_integer x)) ≡ Some y → int_eq x y ≡ true
-i64_back x y h e = (Decides-int_eq x y).1 (two_of _ x y (i64_reads x h) e)
+i64_back x y h e = (Decides-int_eq x y).1 (same_of _ x y (i64_reads x h) e)
 
 pub i64_one : (d : Data) (x y : ℤ) → IsI64 x → IsI64 y → i64_item d ≡ Some x → i64_item d ≡ Some y → int_eq x y ≡ true
-i64_one d x y h k p q = (Decides-int_eq x y).1 (two_of (i64_item d) x y p q)
+i64_one d x y h k p q = (Decides-int_eq x y).1 (same_of (i64_item d) x y p q)
 
 pub i64_no_float : (x : ℤ) → IsI64 x → has_float (number (of_integer x)) ≡ false
 i64_no_float (pos n) h = refl
@@ -126,7 +126,7 @@ pub text_back : (x y : String Global) → Unit {0} → as_str (string (string_by
 text_back x y h e = (bytes_eq-Decides (string_bytes x) (string_bytes y)).1 (same_some _ _ e)
 
 pub text_one : (d : Data) (x y : String Global) → Unit {0} → Unit {0} → as_str d ≡ Some (string_bytes x) → as_str d ≡ Some (string_bytes y) → string_eq x y ≡ true
-text_one d x y h k p q = (bytes_eq-Decides (string_bytes x) (string_bytes y)).1 (two_of (as_str d) _ _ p q)
+text_one d x y h k p q = (bytes_eq-Decides (string_bytes x) (string_bytes y)).1 (same_of (as_str d) _ _ p q)
 
 pub text_has : (d : Data) (x : String Global) → as_str d ≡ Some (string_bytes x) → is_some (as_str d) ≡ true
 text_has d x e = ap (λ (o : Option (List ℕ)). is_some o) e

@@ -23,7 +23,7 @@ pub mod Lending
 pub mod Occurrences
 pub mod Retain
 pub mod Walks
-pub use Rattle.hashbag_table.specs.Asked
+pub use Rattle.hashbag_table.specs.Returned
 pub use Rattle.hashbag_table.specs.DrainWalk
 pub use Rattle.hashbag_table.specs.Entries
 pub use Rattle.hashbag_table.specs.Table

@@ -2,7 +2,7 @@
 use Rattle.std.specs.Prelude.{ℕ, Bool, List}
 use denote.Ref.{Bor}
 use denote.Param.Members.{Mut}
-use Rattle.hashbag_table.specs.Asked.{AnswersInTurn, kept}
+use Rattle.hashbag_table.specs.Returned.{ReturnsInTurn, retained_entries}
 use Rattle.hashbag_core.specs.Bag.{Bag, occurrences, IsBagOf}
 use Rattle.hashbag_core.specs.Walks.{IsSetWalkOf}
 
@@ -11,7 +11,7 @@ use Rattle.hashbag_core.specs.Walks.{IsSetWalkOf}
 pub record IsRetained {F T S : Type 0} (eq : T → T → Bool) (g : Mut F (Bor T × (ℕ × Unit {0})) ℕ) (f : F) (before after : Bag T S) : Type 0 where
   pub walk : List (T × ℕ)
   pub set_walk : IsSetWalkOf eq before walk
-  pub answers : List ℕ
+  pub returned : List ℕ
   pub last : F
-  pub asked : AnswersInTurn g f walk answers last
-  pub left : IsBagOf eq before (occurrences (kept walk answers)) after
+  pub calls : ReturnsInTurn g f walk returned last
+  pub left : IsBagOf eq before (occurrences (retained_entries walk returned)) after

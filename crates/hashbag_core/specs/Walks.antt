@@ -43,5 +43,5 @@ module _ {T : Type 0} (eq : T → T → Bool) where
     pub means : Means bag (occurrences W)
     pub total : sum_by (λ e. e.1) W ≡ length bag.items
     pub distinct : length W ≡ distinct_count eq bag.items
-    pub few : length W ≤ length bag.items
+    pub at_most : length W ≤ length bag.items
     pub fits : length bag.items ≤ greatest_total

@@ -8,7 +8,7 @@ ghost use Rattle.std.specs.Prelude.{◌≡◌, ◌+◌, ◌<◌, ◌≤◌, ◌�
 ghost use Rattle.hashbag_table.specs.Tables.{room};
 ghost use Rattle.hashbag_core.specs.Bag.{limited, total_recounted, Lends};
 ghost use Rattle.hashbag_core.specs.Occurrences.{count_named, stored_named, count, distinct_count, IsBag};
-ghost use Rattle.hashbag_core.specs.Inserts.{Inserts, Replaces, IsRefused};
+ghost use Rattle.hashbag_core.specs.Inserts.{Inserts, Replaces, MayFail};
 ghost use Rattle.hashbag_core.specs.declared.bag.BagError.TheVariants.{Memory};
 
 mod capacity;
@@ -319,7 +319,7 @@ impl<T: Eq + Hash + Drop, S: BuildHasher + Drop> HashBag<T, S> {
 
         // When it fails, as under `# Errors`.
         ensures too_many { (result ≡ Err BagError.TooMany) ↔ (self.old.most < length self.old.items + 1) }
-        ensures refused { IfErr result (IsRefused T.eq self.old value 1) }
+        ensures fails { IfErr result (MayFail T.eq self.old value 1) }
         ensures err { OnErr result (self.new ≡ self.old) }
 
         // If the total fits, it succeeds if there is room or the value is present.
@@ -364,7 +364,7 @@ impl<T: Eq + Hash + Drop, S: BuildHasher + Drop> HashBag<T, S> {
 
         // When it fails, as under `# Errors`.
         ensures too_many { (result ≡ Err BagError.TooMany) ↔ (self.old.most < length self.old.items + n) }
-        ensures refused { IfErr result (IsRefused T.eq self.old value n) }
+        ensures fails { IfErr result (MayFail T.eq self.old value n) }
         ensures err { OnErr result (self.new ≡ self.old) }
 
         // If the total fits, it succeeds if there is room or the value is present, or `n` is 0.
@@ -380,8 +380,8 @@ impl<T: Eq + Hash + Drop, S: BuildHasher + Drop> HashBag<T, S> {
         }
         let before = self.table.add(value, n)?;
         self.len += n;
-        // Only for the proof: it uses the clause `held` of `Table::held`.
-        self.table.held();
+        // Only for the proof: it uses the clause `entries` of `Table::show_invariant`.
+        self.table.show_invariant();
         Ok(before)
     }
 
@@ -417,7 +417,7 @@ impl<T: Eq + Hash + Drop, S: BuildHasher + Drop> HashBag<T, S> {
 
         // When it fails, as under `# Errors`.
         ensures too_many { (result ≡ Err BagError.TooMany) ↔ (self.old.most < total_recounted T.eq value 1 self.old) }
-        ensures refused { IfErr result (IsRefused T.eq self.old value 1) }
+        ensures fails { IfErr result (MayFail T.eq self.old value 1) }
         ensures absent { OnErr result (count T.eq value self.old.items ≡ 0) }
         ensures err { OnErr result (self.new ≡ self.old) }
 
@@ -435,7 +435,7 @@ impl<T: Eq + Hash + Drop, S: BuildHasher + Drop> HashBag<T, S> {
     // Inserts `n` occurrences of a value, if the total stays within the limit.
     pub(crate) fn insert_within(&mut self, value: T, n: usize) -> Result<(), BagError>
         ensures inserted { OnOk result (Inserts T.eq value n self.old self.new) }
-        ensures refused { IfErr result (IsRefused T.eq self.old value n) }
+        ensures fails { IfErr result (MayFail T.eq self.old value n) }
         ensures err { OnErr result (self.new ≡ self.old) }
     {
         self.insert_many(value, n)?;
@@ -443,21 +443,21 @@ impl<T: Eq + Hash + Drop, S: BuildHasher + Drop> HashBag<T, S> {
     }
 
     // Inserts one or more occurrences of an absent value.
-    pub(crate) fn insert_new(&mut self, value: T, quantity: usize) -> Result<(), BagError>
+    pub(crate) fn insert_new(&mut self, value: T, n: usize) -> Result<(), BagError>
         requires absent { count T.eq value self.old.items ≡ 0 }
-        requires positive { 0 < quantity }
-        requires fits { length self.old.items + quantity ≤ self.old.most }
-        ensures inserted { OnOk result (Inserts T.eq value quantity self.old self.new) }
+        requires positive { 0 < n }
+        requires fits { length self.old.items + n ≤ self.old.most }
+        ensures inserted { OnOk result (Inserts T.eq value n self.old self.new) }
         ensures memory { IfErr result (λ e. e ≡ BagError.Memory) }
         ensures err { OnErr result (self.new ≡ self.old) }
 
         // It succeeds if there is room.
         ensures takes { 0 < room self.old.tables → IsOk result }
     {
-        self.table.insert_new(value, quantity)?;
-        self.len += quantity;
-        // Only for the proof: it uses the clause `held` of `Table::held`.
-        self.table.held();
+        self.table.insert_new(value, n)?;
+        self.len += n;
+        // Only for the proof: it uses the clause `entries` of `Table::show_invariant`.
+        self.table.show_invariant();
         Ok(())
     }
 }

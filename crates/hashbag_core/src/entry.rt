@@ -4,7 +4,7 @@ ghost use Rattle.std.specs.Prelude.{◌≡◌, ◌<◌, ◌↔◌, ℕ, IsOk, If
 ghost use Rattle.hashbag_table.specs.Tables.{room, KeepsRoom};
 ghost use Rattle.hashbag_core.specs.Held.{FitsLimit};
 ghost use Rattle.std.specs.Borrow.{sem, MutBor};
-ghost use Rattle.hashbag_core.specs.Inserts.{IsRefused};
+ghost use Rattle.hashbag_core.specs.Inserts.{MayFail};
 ghost use Rattle.hashbag_core.specs.Occurrences.{count, instance_or_itself};
 
 use crate::bag::{BagError, FixedState, HashBag};
@@ -163,7 +163,7 @@ impl<'a, T: Eq + Hash + Drop, S: BuildHasher + Drop> Entry<'a, T, S> {
 
         // When it fails, as under `# Errors`.
         ensures too_many { (result ≡ Err BagError.TooMany) ↔ IsVacantPast T.eq 1 self.entry }
-        ensures refused { IfErr result (IsRefused T.eq self.entry.bag.now self.entry.value 1) }
+        ensures fails { IfErr result (MayFail T.eq self.entry.bag.now self.entry.value 1) }
         ensures err { OnErr result (self.exit.0.now ≡ self.entry.bag.now) }
 
         // If the total fits with one more, it succeeds if there is room.
@@ -172,9 +172,9 @@ impl<'a, T: Eq + Hash + Drop, S: BuildHasher + Drop> Entry<'a, T, S> {
         self.or_insert_many(1)
     }
 
-    /// Inserts `quantity` occurrences of the given value if the entry is vacant, and returns the count after.
+    /// Inserts `n` occurrences of the given value if the entry is vacant, and returns the count after.
     ///
-    /// If the entry is occupied, nothing changes: it returns the present count, and the given value is dropped. A `quantity` of 0 adds
+    /// If the entry is occupied, nothing changes: it returns the present count, and the given value is dropped. An `n` of 0 adds
     /// nothing. Neither can fail.
     ///
     /// # Errors
@@ -196,33 +196,33 @@ impl<'a, T: Eq + Hash + Drop, S: BuildHasher + Drop> Entry<'a, T, S> {
     /// bag.entry("apple").or_insert_many(5)?; // 3
     /// Ok(())
     /// ```
-    pub fn or_insert_many(self, quantity: usize) -> Result<usize, BagError>
-        // Occupied: the count is returned, and the bag is unchanged. Vacant: on success `quantity` is returned, and as many occurrences are inserted.
+    pub fn or_insert_many(self, n: usize) -> Result<usize, BagError>
+        // Occupied: the count is returned, and the bag is unchanged. Vacant: on success `n` is returned, and as many occurrences are inserted.
         ensures occupied { KeepsOccupied T.eq self.entry result self.exit.0.now }
-        ensures vacant { FillsVacant T.eq quantity self.entry result self.exit.0.now }
-        ensures none { quantity ≡ 0 → IsOk result × (self.exit.0.now ≡ self.entry.bag.now) }
+        ensures vacant { FillsVacant T.eq n self.entry result self.exit.0.now }
+        ensures none { n ≡ 0 → IsOk result × (self.exit.0.now ≡ self.entry.bag.now) }
 
         // When it fails, as under `# Errors`.
-        ensures too_many { (result ≡ Err BagError.TooMany) ↔ IsVacantPast T.eq quantity self.entry }
-        ensures refused { IfErr result (IsRefused T.eq self.entry.bag.now self.entry.value quantity) }
+        ensures too_many { (result ≡ Err BagError.TooMany) ↔ IsVacantPast T.eq n self.entry }
+        ensures fails { IfErr result (MayFail T.eq self.entry.bag.now self.entry.value n) }
         ensures err { OnErr result (self.exit.0.now ≡ self.entry.bag.now) }
 
-        // If the total fits with `quantity` more, it succeeds if there is room.
-        ensures takes { FitsLimit quantity self.entry.bag.now → 0 < room self.entry.bag.now.tables → IsOk result }
+        // If the total fits with `n` more, it succeeds if there is room.
+        ensures takes { FitsLimit n self.entry.bag.now → 0 < room self.entry.bag.now.tables → IsOk result }
     {
         let Entry { bag, value } = self;
         let before = bag.contains(&value);
         if before > 0 {
             return Ok(before);
         }
-        if quantity == 0 {
+        if n == 0 {
             return Ok(0);
         }
-        if quantity > bag.limit() - bag.len() {
+        if n > bag.limit() - bag.len() {
             return Err(BagError::TooMany);
         }
-        bag.insert_new(value, quantity)?;
-        Ok(quantity)
+        bag.insert_new(value, n)?;
+        Ok(n)
     }
 }
 

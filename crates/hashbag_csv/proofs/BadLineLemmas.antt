@@ -1,4 +1,4 @@
--- Records that are read one after the other, and what is said of each.
+-- Records that are read one after the other, and the check of each.
 use Rattle.std.proofs.Common.{◌≡◌, ◌<◌, ◌≤◌, ℕ, Bool, Bor, List, [], ◌∷◌, ◌++◌, length, Option, Some, None, refl, sym, ◌∙◌, ap, subst, append_assoc, arith}
 use Rattle.std.proofs.lemmas.List.{length-append}
 use Rattle.std.specs.Prelude.{option_copied, option_map}
@@ -13,12 +13,12 @@ use Rattle.hashbag_csv.specs.declared.number_form.NumberForm.{NumberForm}
 use Rattle.hashbag_csv.specs.declared.scale.Scale.{Scale}
 
 -- one more record
-pub said_more : (says : Record → Option SheetError → Type 0) (rs : List Record) (vs : List (Option SheetError)) (r : Record) (v : Option SheetError)
-    → AreChecks says rs vs → says r v → AreChecks says (rs ++ r ∷ []) (vs ++ v ∷ [])
-said_more says [] [] r v before here = (here, tt)
-said_more says [] (w ∷ vs) r v before here = absurd before
-said_more says (q ∷ rs) [] r v before here = absurd before
-said_more says (q ∷ rs) (w ∷ vs) r v before here = (before.0, said_more says rs vs r v before.1 here)
+pub checks_more : (IsCheck : Record → Option SheetError → Type 0) (rs : List Record) (vs : List (Option SheetError)) (r : Record) (v : Option SheetError)
+    → AreChecks IsCheck rs vs → IsCheck r v → AreChecks IsCheck (rs ++ r ∷ []) (vs ++ v ∷ [])
+checks_more IsCheck [] [] r v before here = (here, tt)
+checks_more IsCheck [] (w ∷ vs) r v before here = absurd before
+checks_more IsCheck (q ∷ rs) [] r v before here = absurd before
+checks_more IsCheck (q ∷ rs) (w ∷ vs) r v before here = (before.0, checks_more IsCheck rs vs r v before.1 here)
 
 errors_more : (vs : List (Option SheetError)) (v : Option SheetError) → errors_in (vs ++ v ∷ []) ≡ errors_in vs ++ errors_in (v ∷ [])
 errors_more [] v = refl
@@ -33,7 +33,7 @@ named_more errors errors' vs v is named = is ∙ ap (λ (l : List SheetError). l
 pub one_read : (all read before after : List Record) (r : Record) → all ≡ read ++ before → before ≡ r ∷ after → all ≡ (read ++ r ∷ []) ++ after
 one_read all read before after r is next = is ∙ ap (λ (l : List Record). read ++ l) next ∙ sym (append_assoc read (r ∷ []) after)
 
--- one error at most is said of a record
+-- the check of a record has one error at most
 pub one_error : (v : Option SheetError) → length (errors_in (v ∷ [])) ≤ 1
 one_error None = omega arith
 one_error (Some e) = omega arith
@@ -44,10 +44,10 @@ errors_fit errors errors' v most is below =
     let one = one_error v in
     omega (arith, long, one, below)
 
--- what is said, by a header that has as many fields
-pub said_by : (scale : Scale) (form : NumberForm) (number : Option ℕ) (short short' : Bool) (width width' : ℕ) (r : Record) (v : Option SheetError) → short' ≡ short → width' ≡ width
+-- the check, by a header that has as many fields
+pub check_by : (scale : Scale) (form : NumberForm) (number : Option ℕ) (short short' : Bool) (width width' : ℕ) (r : Record) (v : Option SheetError) → short' ≡ short → width' ≡ width
     → IsCheckOf scale form number short' width' r v → IsCheckOf scale form number short width r v
-said_by scale form number short short' width width' r v same_short same_width is =
+check_by scale form number short short' width width' r v same_short same_width is =
     subst (λ (b : Bool). IsCheckOf scale form number b width r v) same_short (subst (λ (w : ℕ). IsCheckOf scale form number short' w r v) same_width is)
 
 pub not_memory : (line : ℕ) (fault : Fault) → ¬ (Line line fault ≡ Memory)

@@ -4,7 +4,7 @@ use Rattle.std.specs.Prelude.{decimal}
 use Rattle.std.proofs.lemmas.List.{length-append}
 use Rattle.std.proofs.lemmas.List.Sums.{position_or_len_is}
 use Rattle.std.proofs.lemmas.Slice.Eq.{bytes_eq-Decides}
-use Rattle.hashbag_csv.specs.Lines.{column_numbers, headed, place_of}
+use Rattle.hashbag_csv.specs.Lines.{column_numbers, with_header, place_of}
 use Rattle.hashbag_csv.specs.Readers.{Record}
 use Rattle.hashbag_csv.specs.Sheets.{IsOnlyAt}
 
@@ -33,5 +33,5 @@ numbers_long zero = refl
 numbers_long (suc n) = let long = length-append (column_numbers n) (decimal (suc n) ∷ []) in let before = numbers_long n in omega (arith, long, before)
 
 -- what stands for the header of records without one
-pub numbered : (records : List Record) (first header : Record) (rest left : List Record) → records ≡ first ∷ rest → header ≡ column_numbers (length first) → records ≡ left → headed true records ≡ header ∷ left
-numbered records first header rest left is numbers same = ap (headed true) is ∙ (λ i. sym numbers i ∷ (sym is ∙ same) i)
+pub numbered : (records : List Record) (first header : Record) (rest left : List Record) → records ≡ first ∷ rest → header ≡ column_numbers (length first) → records ≡ left → with_header true records ≡ header ∷ left
+numbered records first header rest left is numbers same = ap (with_header true) is ∙ (λ i. sym numbers i ∷ (sym is ∙ same) i)

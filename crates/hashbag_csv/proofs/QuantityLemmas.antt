@@ -14,8 +14,8 @@ use Rattle.hashbag.specs.declared.BagError.{BagError}
 use Rattle.hashbag.specs.declared.BagError.TheVariants.{Memory, TooMany, BelowTotal}
 use Rattle.hashbag.specs.Bag.{Bag, occurrences}
 use Rattle.hashbag.specs.EqualityLaws.{count_append}
-use Rattle.hashbag.specs.Extends.{AsItIs, Refuses}
-use Rattle.hashbag.specs.Inserts.{InsertsAll, InsertsUpTo, RefusesPair, empty_bag}
+use Rattle.hashbag.specs.Extends.{AsItIs, MayFailWith}
+use Rattle.hashbag.specs.Inserts.{InsertsAll, InsertsUpTo, MayFailPair, empty_bag}
 use Rattle.hashbag.specs.Occurrences.{greatest_total, count}
 use Rattle.hashbag.specs.Walks.{IsSetWalk, IsSetWalkOf}
 use Rattle.hashbag.proofs.ContainsLemmas.{All-from_Contains, Contains-map, Contains-same}
@@ -69,7 +69,7 @@ module _ {T : Type 0} {eq : T → T → Bool} (laws : IsEquivalence eq) where
 
   -- ---- a bag that is made of a list whose numbers fit
 
-  within : {S : Type 0} (bag : Bag T S) (v : T) (n : ℕ) (e : BagError) → Refuses eq bag.most bag.items v n e → length bag.items + n ≤ bag.most → e ≡ Memory
+  within : {S : Type 0} (bag : Bag T S) (v : T) (n : ℕ) (e : BagError) → MayFailWith eq bag.most bag.items v n e → length bag.items + n ≤ bag.most → e ≡ Memory
   within bag v n TooMany over fits = absurd (omega (arith, over, fits))
   within bag v n Memory asks fits = refl
   within bag v n BelowTotal never fits = absurd never
@@ -91,12 +91,12 @@ module _ {T : Type 0} {eq : T → T → Bool} (laws : IsEquivalence eq) where
     pub length_made : length bag.items ≡ number_sum all
     length_made =
         let long : length bag.items ≡ 0 + sum_by number h.items = longer_by_numbers h number (λ x p is. ap number is) in
-        let came : sum_by number h.items ≡ number_sum all = ap (sum_by number) (sym (map-id h.items) ∙ items_that_came h.items h.came yields) in
+        let came : sum_by number h.items ≡ number_sum all = ap (sum_by number) (sym (map-id h.items) ∙ items_that_came h.items h.yielded yields) in
         omega (arith, long, came)
 
     pub counts_made : (v : T) → count eq v bag.items ≡ quantity eq v all
     counts_made v =
-        let came = pairs_as_they_are h.items h.pairs h.went ∙ sym (map-id h.items) ∙ items_that_came h.items h.came yields in
+        let came = pairs_as_they_are h.items h.pairs h.as_pairs ∙ sym (map-id h.items) ∙ items_that_came h.items h.yielded yields in
         let whole = count_extended laws v [] h.pairs bag (all_added laws h).means in
         let each = ap (λ (l : List (T × ℕ)). quantity eq v l) came in
         omega (arith, whole, each)
@@ -110,16 +110,16 @@ module _ {T : Type 0} {eq : T → T → Bool} (laws : IsEquivalence eq) where
         omega (arith, fits, limit, long)
 
   module _ {S I : Type 0} {steps : I → Option (T × ℕ) → I → Type 0} {it : I} {all : List (T × ℕ)} (yields : YieldsList steps (λ e. e) it all) (fits : sum_by number all ≤ greatest_total) where
-    declined : (hasher : S) (bag : Bag T S) (e : BagError) → InsertsUpTo eq steps AsItIs (RefusesPair eq) it (empty_bag hasher) bag e → e ≡ Memory
+    declined : (hasher : S) (bag : Bag T S) (e : BagError) → InsertsUpTo eq steps AsItIs (MayFailPair eq) it (empty_bag hasher) bag e → e ≡ Memory
     declined hasher bag e h =
         let long : length bag.items ≡ 0 + sum_by number h.pairs = length_in_turn eq h.pairs (empty_bag hasher) bag h.turn in
-        let same = ap (sum_by number) (pairs_as_they_are h.items h.pairs h.went) in
-        let turn = YieldsList-turn yields h.items h.came.0 h.came.1 (Some h.refused) h.rest h.refused refl h.came.2 in
-        let few = so_far_and_one all h.items h.refused (YieldsList-so_far yields h.items h.came.0 h.came.1) turn.0 turn.1 in
+        let same = ap (sum_by number) (pairs_as_they_are h.items h.pairs h.as_pairs) in
+        let turn = YieldsList-turn yields h.items h.yielded.0 h.yielded.1 (Some h.failed) h.rest h.failed refl h.yielded.2 in
+        let few = so_far_and_one all h.items h.failed (YieldsList-so_far yields h.items h.yielded.0 h.yielded.1) turn.0 turn.1 in
         let limit = (some_added laws h).limit in
-        within bag h.refused.0 h.refused.1 e h.why.why (omega (arith, long, same, few, fits, limit))
+        within bag h.failed.0 h.failed.1 e h.why.why (omega (arith, long, same, few, fits, limit))
 
-    -- only memory is refused
-    pub only_memory : (r : Result (Bag T S) BagError) → IfErr r (λ e. (bag : Bag T S) × InsertsUpTo eq steps AsItIs (RefusesPair eq) it (empty_bag bag.hasher) bag e) → IfErr r (λ e. e ≡ Memory)
+    -- it fails only for memory
+    pub only_memory : (r : Result (Bag T S) BagError) → IfErr r (λ e. (bag : Bag T S) × InsertsUpTo eq steps AsItIs (MayFailPair eq) it (empty_bag bag.hasher) bag e) → IfErr r (λ e. e ≡ Memory)
     only_memory (Ok bag) h = tt
     only_memory (Err e) h = declined h.0.hasher h.0 e h.1

@@ -1,7 +1,7 @@
 -- The bad lines of a text: records that aren't read as lines.
 use Rattle.std.specs.Prelude.{◌≡◌, ℕ, ◌<◌, ◌≤◌, ◌⊎◌, ◌++◌, Bool, true, false, List, [], ◌∷◌, length, get_or, Option, Some, None, IfSome, option_map, ⊤}
 use Rattle.hashbag_csv.specs.Lines.{list_in, place_of}
-use Rattle.hashbag_csv.specs.NumberForms.{IsErrorOfField, IsNumberField}
+use Rattle.hashbag_csv.specs.NumberForms.{IsErrorOfNumberField, IsNumberField}
 use Rattle.hashbag_csv.specs.Readers.{Record}
 use Rattle.hashbag_csv.specs.Sheets.{IsReadError, fits_header}
 use Rattle.hashbag_csv.specs.declared.counts.Reading.{Reading}
@@ -29,7 +29,7 @@ HasNumber scale form number r = IfSome number (λ p. IsNumberField scale form (g
 
 -- the error that the record's field at the place `number` isn't a number
 abbrev pub IsNumberError : Scale → NumberForm → Option ℕ → Record → SheetError → Type 0
-IsNumberError scale form number r e = (line : ℕ) × (p : ℕ) × (number ≡ Some p) × IsErrorOfField scale form line (get_or r p []) e
+IsNumberError scale form number r e = (line : ℕ) × (p : ℕ) × (number ≡ Some p) × IsErrorOfNumberField scale form line (get_or r p []) e
 
 -- the error that a field of the record isn't UTF-8, or that the field at the place `number` isn't a number; or `Memory`
 abbrev pub IsFieldError : Scale → NumberForm → Option ℕ → Record → SheetError → Type 0
@@ -47,10 +47,10 @@ IsCheckOf scale form number short width r (Some Memory) = ⊥
 
 -- the list of the checks, one of each record, in order
 abbrev pub AreChecks : (Record → Option SheetError → Type 0) → List Record → List (Option SheetError) → Type 0
-AreChecks says [] [] = ⊤
-AreChecks says [] (v ∷ vs) = ⊥
-AreChecks says (r ∷ rs) [] = ⊥
-AreChecks says (r ∷ rs) (v ∷ vs) = says r v × AreChecks says rs vs
+AreChecks IsCheck [] [] = ⊤
+AreChecks IsCheck [] (v ∷ vs) = ⊥
+AreChecks IsCheck (r ∷ rs) [] = ⊥
+AreChecks IsCheck (r ∷ rs) (v ∷ vs) = IsCheck r v × AreChecks IsCheck rs vs
 
 -- the errors in a list of checks of records
 abbrev pub errors_in : List (Option SheetError) → List SheetError
@@ -58,15 +58,15 @@ errors_in [] = []
 errors_in (None ∷ vs) = errors_in vs
 errors_in (Some e ∷ vs) = e ∷ errors_in vs
 
--- `errors` are the errors of the bad records among `records`, in the order of the records, at most `most`. The records `read` were read, and `said`
+-- `errors` are the errors of the bad records among `records`, in the order of the records, at most `most`. The records `read` were read, and `checks`
 -- has the check of each of them; `rest` are the other records
-pub record AreBadLines (says : Record → Option SheetError → Type 0) (most : ℕ) (records : List Record) (errors : List SheetError) : Type 0 where
+pub record AreBadLines (IsCheck : Record → Option SheetError → Type 0) (most : ℕ) (records : List Record) (errors : List SheetError) : Type 0 where
   pub read : List Record
   pub rest : List Record
-  pub said : List (Option SheetError)
+  pub checks : List (Option SheetError)
   pub all : records ≡ read ++ rest
-  pub each : AreChecks says read said
-  pub named : errors ≡ errors_in said
+  pub each : AreChecks IsCheck read checks
+  pub named : errors ≡ errors_in checks
   pub few : length errors ≤ most
   pub ends : length errors < most → rest ≡ []
 

@@ -32,17 +32,17 @@ unfoldable pub IsFraction : List ℕ → Type 0
 IsFraction text = HasGroups 46 44 text ⊎ HasGroups 44 46 text
 
 -- what is wrong with a text that isn't a number of at most `most` units, with up to D decimals behind this mark
-abbrev pub IsFaultOf : ℕ → ℕ → ℕ → List ℕ → Fault → Type 0
-IsFaultOf mark D most text (NoNumber field) = ¬ (IsNumeral 10 text) × (D ≡ 0 → ¬ (IsFraction text)) × (0 < D → ¬ (HasParts mark text))
-IsFaultOf mark D most text (NotWhole field) = (D ≡ 0) × IsFraction text
-IsFaultOf mark D most text (TooManyDecimals decimals field) = (decimals ≡ D) × (0 < D) × HasParts mark text × (D < length (part_of mark text))
-IsFaultOf mark D most text (PastMost greatest field) = IsDecimal mark D text × (most < units mark D text) × IsDecimal mark D (string_bytes greatest) × (units mark D (string_bytes greatest) ≡ most)
-IsFaultOf mark D most text _ = ⊥
+abbrev pub IsFaultOfDigits : ℕ → ℕ → ℕ → List ℕ → Fault → Type 0
+IsFaultOfDigits mark D most text (NoNumber field) = ¬ (IsNumeral 10 text) × (D ≡ 0 → ¬ (IsFraction text)) × (0 < D → ¬ (HasParts mark text))
+IsFaultOfDigits mark D most text (NotWhole field) = (D ≡ 0) × IsFraction text
+IsFaultOfDigits mark D most text (TooManyDecimals decimals field) = (decimals ≡ D) × (0 < D) × HasParts mark text × (D < length (part_of mark text))
+IsFaultOfDigits mark D most text (PastMost greatest field) = IsDecimal mark D text × (most < units mark D text) × IsDecimal mark D (string_bytes greatest) × (units mark D (string_bytes greatest) ≡ most)
+IsFaultOfDigits mark D most text _ = ⊥
 
 -- the error, in this line, of a text that isn't such a number; or `Memory`
-abbrev pub IsErrorOf : ℕ → ℕ → ℕ → ℕ → List ℕ → SheetError → Type 0
-IsErrorOf mark D most line text (Line at fault) = (at ≡ line) × IsFaultOf mark D most text fault
-IsErrorOf mark D most line text Memory = ⊤
+abbrev pub IsErrorOfDigits : ℕ → ℕ → ℕ → ℕ → List ℕ → SheetError → Type 0
+IsErrorOfDigits mark D most line text (Line at fault) = (at ≡ line) × IsFaultOfDigits mark D most text fault
+IsErrorOfDigits mark D most line text Memory = ⊤
 
 -- `cut` has the text before the first mark and the text after it; `None` if the text has no mark
 abbrev pub IsCutAtMark : ℕ → List ℕ → Option (Bor (List ℕ) × Bor (List ℕ)) → Type 0

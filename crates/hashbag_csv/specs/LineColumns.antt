@@ -71,4 +71,4 @@ AreBadLeft scale c most sheet errors = AreBadLines (IsLineCheck scale c sheet) m
 
 -- the next record was read, and `next` is its check; or no record was left, and `next` is `None`
 abbrev pub ChecksNext : Scale → LineColumns → Sheet → Option (Option SheetError) → Sheet → Type 0
-ChecksNext scale c old next new = MatchOption next (left old ≡ []) (λ said. ReadsOne old new × IsLineCheck scale c old (read_last new) said)
+ChecksNext scale c old next new = MatchOption next (left old ≡ []) (λ check. ReadsOne old new × IsLineCheck scale c old (read_last new) check)

@@ -49,14 +49,14 @@ column_numbers zero = []
 column_numbers (suc n) = column_numbers n ++ decimal (suc n) ∷ []
 
 -- the records of a list, the header first. The flag `true` says that there is no header; then the numbers of the first record's columns come first
-abbrev pub headed : Bool → List Record → List Record
-headed false records = records
-headed true [] = []
-headed true (first ∷ records) = column_numbers (length first) ∷ first ∷ records
+abbrev pub with_header : Bool → List Record → List Record
+with_header false records = records
+with_header true [] = []
+with_header true (first ∷ records) = column_numbers (length first) ∷ first ∷ records
 
 -- the records of a list, the header first
 abbrev pub list_in : Delimiter → LineForm → List ℕ → List Record
-list_in delimiter form text = headed form.no_header (records_in delimiter text)
+list_in delimiter form text = with_header form.no_header (records_in delimiter text)
 
 -- the lines of a text; `keys` and `number` name its columns; without `number`, each line has the number 1
 abbrev pub lines_in : Reading → LineForm → List (List ℕ) → Option (List ℕ) → List ℕ → List (Record × ℕ)

@@ -1,7 +1,7 @@
 -- Fields that are numbers.
 use Rattle.std.specs.Prelude.{◌≡◌, ℕ, ◌⊎◌, Bool, true, false, List, [], IsTrue, Option, ⊤}
 use Rattle.hashbag_csv.specs.Decimals.{IsDecimal}
-use Rattle.hashbag_csv.specs.Faults.{IsFaultOf}
+use Rattle.hashbag_csv.specs.Faults.{IsFaultOfDigits}
 use Rattle.hashbag_csv.specs.Groups.{fits_groups, ungrouped_if}
 use Rattle.hashbag_csv.specs.Lines.{number_by, number_in}
 use Rattle.hashbag_csv.specs.Marks.{code_of}
@@ -39,7 +39,7 @@ abbrev pub IsGroupedFault : Scale → Option GroupMark → List ℕ → Fault �
 IsGroupedFault scale group field fault =
     let mark = code_of scale.mark in
     ((fits_groups mark group field ≡ false) × (is_group_fault fault ≡ true))
-    ⊎ ((fits_groups mark group field ≡ true) × IsFaultOf mark scale.decimals scale.most (ungrouped_if mark group field) fault)
+    ⊎ ((fits_groups mark group field ≡ true) × IsFaultOfDigits mark scale.decimals scale.most (ungrouped_if mark group field) fault)
 
 -- the error of a field that isn't read, in this line; or `Memory`
 abbrev pub IsGroupedError : Scale → Option GroupMark → ℕ → List ℕ → SheetError → Type 0
@@ -47,8 +47,8 @@ IsGroupedError scale group line field (Line at fault) = (at ≡ line) × IsGroup
 IsGroupedError scale group line field Memory = ⊤
 
 -- the error of a field that isn't read in this form, in this line; if an empty field is 0, it has no error
-abbrev pub IsErrorOfField : Scale → NumberForm → ℕ → List ℕ → SheetError → Type 0
-IsErrorOfField scale form line field e = ¬ (IsBlankZero form field) × IsGroupedError scale form.group line field e
+abbrev pub IsErrorOfNumberField : Scale → NumberForm → ℕ → List ℕ → SheetError → Type 0
+IsErrorOfNumberField scale form line field e = ¬ (IsBlankZero form field) × IsGroupedError scale form.group line field e
 
 -- the number of a field without its marks between groups, in units of the scale
 abbrev pub grouped_number_in : Scale → Option GroupMark → List ℕ → ℕ

@@ -19,8 +19,8 @@ module _ {T : Type 0} (eq : T → T → Bool) where
   abbrev pub times : T → List (T × ℕ) → ℕ
   times v L = count eq v (keys_of L)
 
-  -- L has each article v with `there v` above 0 once, with the number `there v`; the articles are in ascending order
-  pub record IsBalance (cmp : T → T → Ordering) (there : T → ℕ) (L : List (T × ℕ)) : Type 0 where
+  -- L has each article v with `number_of v` above 0 once, with the number `number_of v`; the articles are in ascending order
+  pub record IsBalance (cmp : T → T → Ordering) (number_of : T → ℕ) (L : List (T × ℕ)) : Type 0 where
     pub rising : IsStrictlySortedBy cmp (keys_of L)
-    pub counts : All (λ e. (e.1 ≡ there e.0) × (0 < e.1)) L
-    pub each : (v : T) → 0 < there v → (e : T × ℕ) × Contains L e × (eq v e.0 ≡ true)
+    pub counts : All (λ e. (e.1 ≡ number_of e.0) × (0 < e.1)) L
+    pub each : (v : T) → 0 < number_of v → (e : T × ℕ) × Contains L e × (eq v e.0 ≡ true)

@@ -35,7 +35,7 @@ IsOnlyAt name fields p = (p < length fields) × (get_or fields p [] ≡ name) ×
 
 -- the fault that no field of the header, or more than one, is this name
 abbrev pub IsNameFault : List ℕ → Record → Fault → Type 0
-IsNameFault name fields (NoColumn shown there) = (k : ℕ) → k < length fields → get_or fields k [] ≢ name
+IsNameFault name fields (NoColumn shown names) = (k : ℕ) → k < length fields → get_or fields k [] ≢ name
 IsNameFault name fields (TwoColumns shown) = (i : ℕ) × (j : ℕ) × (i < j) × (j < length fields) × (get_or fields i [] ≡ name) × (get_or fields j [] ≡ name)
 IsNameFault name fields _ = ⊥
 

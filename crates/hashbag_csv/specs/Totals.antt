@@ -18,6 +18,6 @@ is_total (Line line fault) = is_total_fault fault
 is_total Memory = false
 
 -- the fault that a total is past `most` units of 10^-D
-abbrev pub IsTotalPast : ℕ → ℕ → ℕ → Fault → Type 0
-IsTotalPast mark D most (TotalPastMost greatest) = IsDecimal mark D (string_bytes greatest) × (units mark D (string_bytes greatest) ≡ most)
-IsTotalPast mark D most _ = ⊥
+abbrev pub IsTotalPastMost : ℕ → ℕ → ℕ → Fault → Type 0
+IsTotalPastMost mark D most (TotalPastMost greatest) = IsDecimal mark D (string_bytes greatest) × (units mark D (string_bytes greatest) ≡ most)
+IsTotalPastMost mark D most _ = ⊥

@@ -30,7 +30,7 @@ fn loose_fields(alloc: Global, fields: &[String]) -> Result<Vec<String>, AllocEr
 }
 
 // If `seen` has an article with these loose fields, appends the pair of that article and `article`. Else inserts `article` into `seen`.
-fn pair_or_note<'a, A: Article, S: BuildHasher + Drop>(
+fn pair_or_insert<'a, A: Article, S: BuildHasher + Drop>(
     seen: &mut HashMap<Vec<String>, &'a A, S>,
     pairs: &mut Vec<(&'a A, &'a A)>,
     loose: Vec<String>,
@@ -80,7 +80,7 @@ pub fn alike<'a, A: Article, S: BuildHasher + Drop>(
             break;
         }
         let loose = loose_fields(alloc, article.texts())?;
-        pair_or_note(&mut seen, &mut pairs, loose, *article)?;
+        pair_or_insert(&mut seen, &mut pairs, loose, *article)?;
     }
     Ok(pairs)
 }

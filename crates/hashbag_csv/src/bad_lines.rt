@@ -20,7 +20,7 @@ fn check_next<A: Article + Drop>(
     columns: &LineColumns<'_>,
     scale: Scale,
 ) -> Result<Option<Option<SheetError>>, SheetError>
-    ensures said { IfOk result (λ next. ChecksNext scale columns.now sheet.old next sheet.new) }
+    ensures check { IfOk result (λ next. ChecksNext scale columns.now sheet.old next sheet.new) }
     ensures same { KeepsHeader sheet.old sheet.new }
 {
     match columns.read::<A>(alloc, sheet, scale) {
@@ -32,10 +32,10 @@ fn check_next<A: Article + Drop>(
 }
 
 // Appends the error of a record, if it has one.
-fn push_error(errors: &mut Vec<SheetError>, said: Option<SheetError>) -> Result<(), SheetError>
-    ensures { OnOk result (errors.new.items ≡ errors.old.items ++ errors_in (said ∷ [])) }
+fn push_error(errors: &mut Vec<SheetError>, check: Option<SheetError>) -> Result<(), SheetError>
+    ensures { OnOk result (errors.new.items ≡ errors.old.items ++ errors_in (check ∷ [])) }
 {
-    let Some(error) = said else {
+    let Some(error) = check else {
         return Ok(());
     };
     errors.push(error).map_err(AllocError::from)?;
@@ -54,10 +54,10 @@ fn bad_lines_left<A: Article + Drop>(
 {
     let mut errors = Vec::new(alloc);
     'lines: while errors.len() < max_errors {
-        let Some(said) = check_next::<A>(alloc, sheet, columns, scale)? else {
+        let Some(check) = check_next::<A>(alloc, sheet, columns, scale)? else {
             return Ok(errors);
         };
-        push_error(&mut errors, said)?;
+        push_error(&mut errors, check)?;
     }
     Ok(errors)
 }

@@ -54,7 +54,7 @@ impl Reading {
 }
 
 // Returns the columns of these names in the header, which was read last.
-fn columns_of<'n>(
+fn plain_columns<'n>(
     alloc: Global,
     sheet: &Sheet<'_>,
     article: &'n str,
@@ -105,7 +105,7 @@ pub fn read_counts_as(
     ensures fits { IfOk result (λ counts. number_sum counts.items ≤ reading.scale.most) }
 {
     let mut sheet = Sheet::open_with(alloc, text, reading.delimiter)?;
-    let columns = columns_of(alloc, &sheet, article, number)?;
+    let columns = plain_columns(alloc, &sheet, article, number)?;
     let mut counts = Vec::new(alloc);
     let mut total = 0usize;
     'lines: while let Some((name, n)) = columns.read::<String>(alloc, &mut sheet, reading.scale)? {

@@ -11,7 +11,7 @@ use crate::scale::Scale;
 use std::alloc::{AllocError, Global};
 
 // Returns the number of a text of digits. Returns `None` for any other text, or if the number is above `usize::MAX`.
-fn number_of(digits: &str) -> Option<usize>
+fn number_of_digits(digits: &str) -> Option<usize>
     ensures { IsSomeIfFits result (IsNumeral 10 digits.now) (digits_value 10 digits.now) }
 {
     if digits.starts_with('+') {
@@ -34,7 +34,7 @@ fn units_of_digits(digits: &str, decimals: u32) -> Option<usize>
     requires { decimals ≤ 9 }
     ensures { IsSomeIfFits result (IsNumeral 10 digits.now) (digits_value 10 digits.now * 10 ^ decimals) }
 {
-    let Some(number) = number_of(digits) else {
+    let Some(number) = number_of_digits(digits) else {
         return None;
     };
     number.checked_mul(unit_of(decimals))

@@ -8,7 +8,7 @@ use std::alloc::{AllocError, Global};
 use std::fmt;
 
 // A message shows at most this many characters of a field.
-const SHOWN: usize = 60;
+const MOST_SHOWN: usize = 60;
 
 /// Shows a text with its control characters escaped, so that the text stays on one line.
 #[derive(Clone, Copy)]
@@ -42,7 +42,7 @@ impl fmt::Display for Escaped<'_> {
 pub fn shown(alloc: Global, field: &str) -> Result<String, AllocError>
     ensures { IfOk result (λ text. string_bytes text ≡ shown_text field.now) }
 {
-    match field.char_indices().nth(SHOWN) {
+    match field.char_indices().nth(MOST_SHOWN) {
         Some((end, _)) => format!(in alloc; "{}..", Escaped(&field[..end])),
         None => format!(in alloc; "{}", Escaped(field)),
     }

@@ -15,12 +15,12 @@ pub enum Fault {
     #[error("UTF-16; `--encoding UTF-16` reads it")]
     Utf16,
     /// The header has no column of this name.
-    #[error("no column `{name}`; there are: {there}")]
+    #[error("no column `{name}`; there are: {names}")]
     NoColumn {
         /// The name that was looked for.
         name: String,
         /// The names in the header, at most 12, and a hint: a name near `name`, or another delimiter that the only name contains.
-        there: String,
+        names: String,
     },
     /// The header has several columns of this name.
     #[error("more than one column `{0}`")]

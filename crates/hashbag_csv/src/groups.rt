@@ -55,7 +55,7 @@ fn has_none(text: &[u8], group: u8) -> bool
 }
 
 // Returns whether a byte with `behind` bytes after it fits: it has to be the mark if `behind` is 3, 7, 11 and so on, else a digit.
-fn fits(byte: u8, behind: usize, group: u8) -> bool
+fn fits_before(byte: u8, behind: usize, group: u8) -> bool
     ensures { result ≡ fits_place group byte behind }
 {
     if behind % 4 == 3 {
@@ -75,7 +75,7 @@ fn push_digit(digits: &mut String, byte: u8, group: u8) -> Result<(), AllocError
     digits.push(char::from(byte))
 }
 
-// Returns the digits of groups of three with the mark between them, or `None` if a byte may not be at its place (`fits`).
+// Returns the digits of groups of three with the mark between them, or `None` if a byte may not be at its place (`fits_before`).
 fn digits_of_groups(alloc: Global, whole: &[u8], group: u8) -> Result<Option<String>, AllocError>
     requires ascii { group < 128 }
     ensures { IfOk result (λ digits. IsTextIf (marks_fit group whole.now) (without group whole.now) digits) }
@@ -83,7 +83,7 @@ fn digits_of_groups(alloc: Global, whole: &[u8], group: u8) -> Result<Option<Str
     let mut digits = String::new(alloc);
     let mut rest = whole;
     'bytes: while let Some((byte, behind)) = rest.split_first() {
-        if !fits(*byte, behind.len(), group) {
+        if !fits_before(*byte, behind.len(), group) {
             return Ok(None);
         }
         push_digit(&mut digits, *byte, group)?;

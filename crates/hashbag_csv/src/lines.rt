@@ -70,7 +70,11 @@ fn number_column_of<'n>(
 }
 
 // Returns the field of this column in the record that was read last, trimmed if `trim`.
-fn text_of<'s>(sheet: &'s Sheet<'_>, column: Column<'_>, trim: bool) -> Result<&'s str, SheetError>
+fn field_text<'s>(
+    sheet: &'s Sheet<'_>,
+    column: Column<'_>,
+    trim: bool,
+) -> Result<&'s str, SheetError>
     ensures value { IfOk result (λ text. text.now ≡ trimmed_if trim (last_field sheet.now column.entry)) }
     ensures fault { IfErr result (λ e. IsTextError e) }
 {
@@ -90,7 +94,7 @@ pub(crate) fn key_field(
     ensures value { IfOk result (λ field. string_bytes field ≡ field_in form (last_field sheet.now column.entry)) }
     ensures fault { IfErr result (λ e. IsTextError e) }
 {
-    let text = text_of(sheet, column, form.trim)?;
+    let text = field_text(sheet, column, form.trim)?;
     if form.fold {
         return Ok(default_case_fold_str(alloc, text)?);
     }

@@ -1,6 +1,6 @@
 //! Fields that are numbers.
 ghost use Rattle.std.specs.Prelude.{◌≤◌, IfErr, IfOk};
-ghost use Rattle.hashbag_csv.specs.NumberForms.{IsErrorOfField, IsGroupedError, ReadsField, ReadsGrouped};
+ghost use Rattle.hashbag_csv.specs.NumberForms.{IsErrorOfNumberField, IsGroupedError, ReadsField, ReadsGrouped};
 
 use crate::escaped::shown;
 use crate::fault::{Fault, SheetError};
@@ -62,7 +62,7 @@ pub fn field_number(
     ensures most { IfOk result (λ n. n ≤ scale.most) }
 
     // The error has this line and the fault that is listed above, or is `Memory`. If an empty field is 0, it is no error.
-    ensures fault { IfErr result (λ e. IsErrorOfField scale form line field.now e) }
+    ensures fault { IfErr result (λ e. IsErrorOfNumberField scale form line field.now e) }
 {
     if form.blank_is_zero && field.is_empty() {
         return Ok(0);

@@ -4,11 +4,11 @@ ghost use Rattle.std.specs.Char.{is_ascii_digit};
 ghost use Rattle.std.specs.List.{list_all};
 ghost use Rattle.std.specs.Str.Parse.{IsNumeral};
 ghost use Rattle.hashbag_csv.specs.Decimals.{IsDecimal, units};
-ghost use Rattle.hashbag_csv.specs.Faults.{HasGroups, IsCutAtMark, IsErrorOf, IsFaultOf, IsFraction, IsNumberOfDecimals, is_grouped};
+ghost use Rattle.hashbag_csv.specs.Faults.{HasGroups, IsCutAtMark, IsErrorOfDigits, IsFaultOfDigits, IsFraction, IsNumberOfDecimals, is_grouped};
 ghost use Rattle.hashbag_csv.specs.Lines.{number_in};
 ghost use Rattle.hashbag_csv.specs.Marks.{code_of};
 ghost use Rattle.hashbag_csv.specs.Scales.{IsNumberIn, ReadsAs};
-ghost use Rattle.hashbag_csv.specs.Totals.{IsTotalPast};
+ghost use Rattle.hashbag_csv.specs.Totals.{IsTotalPastMost};
 
 use crate::decimals::{read_decimal, write_decimal};
 use crate::escaped::shown;
@@ -103,7 +103,7 @@ fn is_fraction(text: &str) -> bool
 #[tactic(auto, using(crate::proofs::NumberLemmas::parts_decimal, crate::proofs::NumberLemmas::past))]
 fn fault_of(alloc: Global, digits: &str, field: &str, scale: Scale) -> Result<Fault, AllocError>
     requires { ¬ (IsNumberIn scale digits.now × (number_in scale digits.now ≤ scale.most)) }
-    ensures { IfOk result (λ fault. IsFaultOf (code_of scale.mark) scale.decimals scale.most digits.now fault) }
+    ensures { IfOk result (λ fault. IsFaultOfDigits (code_of scale.mark) scale.decimals scale.most digits.now fault) }
 {
     let field = shown(alloc, field)?;
     if are_digits(digits) {
@@ -155,7 +155,7 @@ pub fn scaled_number(
     ensures most { IfOk result (λ n. n ≤ scale.most) }
 
     // The error has this line and the fault of `digits` that is listed above, or is `Memory`.
-    ensures fault { IfErr result (λ e. IsErrorOf (code_of scale.mark) scale.decimals scale.most line digits.now e) }
+    ensures fault { IfErr result (λ e. IsErrorOfDigits (code_of scale.mark) scale.decimals scale.most line digits.now e) }
 {
     match read_decimal(digits, scale) {
         Some(number) if number <= scale.most => Ok(number),
@@ -176,7 +176,7 @@ pub fn number(alloc: Global, line: u64, digits: &str, field: &str) -> Result<usi
     ensures number { IfOk result (λ n. IsDecimal 46 0 digits.now × (units 46 0 digits.now ≡ n)) }
 
     // The error has this line and the fault of `digits` that `scaled_number` lists, or is `Memory`.
-    ensures fault { IfErr result (λ e. IsErrorOf 46 0 usize.MAX line digits.now e) }
+    ensures fault { IfErr result (λ e. IsErrorOfDigits 46 0 usize.MAX line digits.now e) }
 {
     scaled_number(alloc, line, digits, field, Scale::whole())
 }
@@ -184,7 +184,7 @@ pub fn number(alloc: Global, line: u64, digits: &str, field: &str) -> Result<usi
 /// Returns the fault of a line that takes a total past the greatest number of the scale.
 pub fn total_too_large(alloc: Global, scale: Scale) -> Result<Fault, AllocError>
     // The fault is `TotalPastMost`, and its text is a number of `scale.most` units.
-    ensures { IfOk result (λ fault. IsTotalPast (code_of scale.mark) scale.decimals scale.most fault) }
+    ensures { IfOk result (λ fault. IsTotalPastMost (code_of scale.mark) scale.decimals scale.most fault) }
 {
     Ok(Fault::TotalPastMost(write_decimal(alloc, scale.most, scale)?))
 }

@@ -8,7 +8,7 @@ const QUOTE: u8 = b'"';
 
 // Where in a record a byte is.
 #[derive(Clone, Copy)]
-enum Place {
+enum QuoteState {
     // At the beginning of a field.
     Start,
     // In a field without quotes.
@@ -43,37 +43,37 @@ impl Misplaced {
     }
 }
 
-// Returns the place after a byte, or why a quote is misplaced.
-fn next_place(place: Place, byte: u8, delimiter: u8) -> Result<Place, Misplaced> {
+// Returns the state after a byte, or why a quote is misplaced.
+fn next_state(state: QuoteState, byte: u8, delimiter: u8) -> Result<QuoteState, Misplaced> {
     let ends_field = byte == delimiter || byte == b'\n' || byte == b'\r';
-    match place {
-        Place::Quoted if byte == QUOTE => Ok(Place::Closed),
-        Place::Quoted => Ok(Place::Quoted),
-        Place::Start | Place::Closed if byte == QUOTE => Ok(Place::Quoted),
-        _ if ends_field => Ok(Place::Start),
-        Place::Closed => Err(Misplaced::Closed),
+    match state {
+        QuoteState::Quoted if byte == QUOTE => Ok(QuoteState::Closed),
+        QuoteState::Quoted => Ok(QuoteState::Quoted),
+        QuoteState::Start | QuoteState::Closed if byte == QUOTE => Ok(QuoteState::Quoted),
+        _ if ends_field => Ok(QuoteState::Start),
+        QuoteState::Closed => Err(Misplaced::Closed),
         _ if byte == QUOTE => Err(Misplaced::Bare),
-        _ => Ok(Place::Bare),
+        _ => Ok(QuoteState::Bare),
     }
 }
 
 /// Returns the index of a record's first misplaced quote, and why it is misplaced, or `None`. If a field in quotes isn't closed, or text follows its
 /// closing quote, the index is of the field's opening quote.
 pub fn misplaced_quote(record: &[u8], delimiter: u8) -> Option<(usize, Misplaced)> {
-    let mut place = Place::Start;
+    let mut state = QuoteState::Start;
     // The index of the last quote that opens a field, or of a stray quote.
     let mut at = 0;
     for (index, byte) in record.iter().enumerate() {
-        if *byte == QUOTE && !matches!(place, Place::Quoted | Place::Closed) {
+        if *byte == QUOTE && !matches!(state, QuoteState::Quoted | QuoteState::Closed) {
             at = index;
         }
-        match next_place(place, *byte, delimiter) {
-            Ok(next) => place = next,
+        match next_state(state, *byte, delimiter) {
+            Ok(next) => state = next,
             Err(misplaced) => return Some((at, misplaced)),
         }
     }
-    match place {
-        Place::Quoted => Some((at, Misplaced::Open)),
+    match state {
+        QuoteState::Quoted => Some((at, Misplaced::Open)),
         _ => None,
     }
 }

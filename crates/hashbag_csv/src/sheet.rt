@@ -24,7 +24,7 @@ const BYTE_ORDER_MARK: &[u8] = b"\xef\xbb\xbf";
 const NOT_UTF8: &str = "one that is not UTF-8";
 
 // A message names at most this many columns.
-const NAMED: usize = 12;
+const MOST_NAMED: usize = 12;
 
 // Returns the name of the first delimiter other than `own` in these bytes, or `None`.
 fn delimiter_in(bytes: &[u8], own: u8) -> Option<&'static str> {
@@ -46,7 +46,7 @@ fn is_utf16(text: &[u8]) -> bool {
 }
 
 // Returns the number of line feeds in these bytes.
-fn lines_in(bytes: &[u8]) -> u64 {
+fn line_feeds_in(bytes: &[u8]) -> u64 {
     let mut lines = 0u64;
     for byte in bytes {
         if *byte == b'\n' {
@@ -58,7 +58,7 @@ fn lines_in(bytes: &[u8]) -> u64 {
 
 // Returns the line where the record read at `position` begins. The position is before the empty lines that the reader skips, so this
 // function counts the empty lines.
-fn line_of(text: &[u8], position: Position) -> u64 {
+fn line_number_of(text: &[u8], position: Position) -> u64 {
     let mut line = position.line();
     let rest = text.get(position.byte() as usize..).unwrap_or(&[]);
     for byte in rest {
@@ -115,7 +115,7 @@ impl<'a> Sheet<'a> {
     ghost use Rattle.std.specs.Prelude.{ℕ, ◌≢◌, ◌∷◌, [], Bool, get_or, true, IfErr, IfOk, IfSome, IsTrue, IsUtf8, ◌↔◌};
     ghost use Rattle.hashbag_csv.specs.BadLines.{IsTextError};
     ghost use Rattle.hashbag_csv.specs.KeyForms.{trimmed};
-    ghost use Rattle.hashbag_csv.specs.Lines.{headed, list_in, place_of};
+    ghost use Rattle.hashbag_csv.specs.Lines.{with_header, list_in, place_of};
     ghost use Rattle.hashbag_csv.specs.Readers.{IsNext, records_in};
     ghost use Rattle.hashbag_csv.specs.Sheets.{IsAtHeader, IsColumnError, IsOnlyAt, IsOpened, IsReadError, KeepsHeader, ReadsOne, fits_sheet, is_short_allowed, last_field, left, place, read_last};
 
@@ -176,7 +176,7 @@ impl<'a> Sheet<'a> {
         // The header has as many fields as the record that was read last. Records may have fewer fields exactly if `allows_short`.
         ensures width { IfOk result (IsAtHeader allows_short) }
     {
-        let mut sheet = Sheet::unread(alloc, text, delimiter, allows_short)?;
+        let mut sheet = Sheet::open_unread(alloc, text, delimiter, allows_short)?;
         if sheet.read_next()? {
             sheet.width = sheet.record.len();
             Ok(sheet)
@@ -194,21 +194,21 @@ impl<'a> Sheet<'a> {
         delimiter: Delimiter,
         allows_short: bool,
     ) -> Result<Option<Sheet<'a>>, SheetError>
-        ensures records { IfOk result (IsOpened (headed true (records_in delimiter text.now))) }
+        ensures records { IfOk result (IsOpened (with_header true (records_in delimiter text.now))) }
         ensures width { IfOk result (λ opened. IfSome opened (IsAtHeader allows_short)) }
     {
-        let mut first = Sheet::unread(alloc, text, delimiter, allows_short)?;
+        let mut first = Sheet::open_unread(alloc, text, delimiter, allows_short)?;
         if !first.take_record()? {
             return Ok(None);
         }
-        let mut sheet = Sheet::unread(alloc, text, delimiter, allows_short)?;
+        let mut sheet = Sheet::open_unread(alloc, text, delimiter, allows_short)?;
         sheet.width = first.record.len();
         sheet.record = numbers_to(alloc, sheet.width)?;
         Ok(Some(sheet))
     }
 
     // Opens the sheet of a text, and reads nothing of it.
-    fn unread(
+    fn open_unread(
         alloc: Global,
         text: &'a [u8],
         delimiter: Delimiter,
@@ -323,7 +323,7 @@ impl<'a> Sheet<'a> {
         );
         let bytes = self.text.get(from..end).unwrap_or(&[]);
         let (index, misplaced) = misplaced_quote(bytes, self.delimiter.byte())?;
-        let before = lines_in(bytes.get(..index).unwrap_or(&[]));
+        let before = line_feeds_in(bytes.get(..index).unwrap_or(&[]));
         Some(SheetError::Line {
             line: start.line().saturating_add(before),
             fault: misplaced.fault(),
@@ -333,7 +333,7 @@ impl<'a> Sheet<'a> {
     /// Returns the line on which the record that was read last begins, from 1.
     pub fn line(&self) -> u64 {
         match self.record.position() {
-            Some(position) => line_of(self.text, position),
+            Some(position) => line_number_of(self.text, position),
             None => 1,
         }
     }
@@ -379,14 +379,14 @@ impl<'a> Sheet<'a> {
     fn names_shown(&self, name: &str) -> Result<String, AllocError> {
         let mut text = String::new(self.alloc);
         let columns = self.record.len();
-        for place in 0..columns.min(NAMED) {
+        for place in 0..columns.min(MOST_NAMED) {
             if place > 0 {
                 text.push_str(", ")?;
             }
             self.push_name(&mut text, place)?;
         }
-        if columns > NAMED {
-            write!(text, " and {} more", columns - NAMED)?;
+        if columns > MOST_NAMED {
+            write!(text, " and {} more", columns - MOST_NAMED)?;
         }
         if columns == 1
             && let Some(other) = delimiter_in(self.bytes_at(0), self.delimiter.byte())
@@ -421,9 +421,9 @@ impl<'a> Sheet<'a> {
         match found {
             Some(place) => Ok(Column { name, place }),
             None => {
-                let there = self.names_shown(name)?;
+                let names = self.names_shown(name)?;
                 let name = shown(self.alloc, name)?;
-                Err(self.bad_line(Fault::NoColumn { name, there }))
+                Err(self.bad_line(Fault::NoColumn { name, names }))
             }
         }
     }

@@ -109,8 +109,8 @@ abbrev pub IsAnewIfThere : Job → List Input → Option Filed → Type 0
 IsAnewIfThere job inputs anew = IfSome anew (IsFiledAnew job inputs)
 
 -- if `IsAnewIfThere` holds of `anew`, a result that is `Ok` is what the inputs do to an empty stock
-abbrev pub FilesAnew : {E : Type 0} → Job → List Input → Option Filed → Result Filed E → Type 0
-FilesAnew job inputs anew result = IsAnewIfThere job inputs anew → IfOk result (IsFiledAnew job inputs)
+abbrev pub ReturnsAnew : {E : Type 0} → Job → List Input → Option Filed → Result Filed E → Type 0
+ReturnsAnew job inputs anew result = IsAnewIfThere job inputs anew → IfOk result (IsFiledAnew job inputs)
 
 -- if the database has a stock, P holds of its shape
 abbrev pub IfStock : Contents → (Shape → Type 0) → Type 0

@@ -1,7 +1,7 @@
 //! Files that are entered into a stock, in an open database.
 ghost use Rattle.std.specs.Prelude.{◌≡◌, [], None, IfOk, IsSomeAnd};
 ghost use Rattle.hashbag_stock.specs.declared.tables.Shape.{Shape};
-ghost use Rattle.hashbag_ledger_db.specs.Filed.{AreMovementsRead, FilesAnew, IsFiledOf, IsFiledOn, IsFiledAnew, IsFiledIn, has_refusal, status_after, IfStock, IsAnewIfThere, IsReportOf};
+ghost use Rattle.hashbag_ledger_db.specs.Filed.{AreMovementsRead, ReturnsAnew, IsFiledOf, IsFiledOn, IsFiledAnew, IsFiledIn, has_refusal, status_after, IfStock, IsAnewIfThere, IsReportOf};
 ghost use Rattle.hashbag_ledger_lib.specs.Movements.{names_now};
 
 use crate::before::{Before, before_in, entered_twice};
@@ -338,7 +338,7 @@ fn filed_in<'a, S: BuildHasher + Drop, G: Stages>(
     anew: Option<Filed>,
     stages: &G,
 ) -> Result<Filed, Trouble<'a>>
-    ensures empty { contents ≡ Contents.Empty → FilesAnew job.now inputs.now anew result }
+    ensures empty { contents ≡ Contents.Empty → ReturnsAnew job.now inputs.now anew result }
     ensures stock { IfStock contents (λ shape. IfOk result (IsFiledOn job.now shape.style before.now inputs.now)) }
 {
     match (contents, anew) {

@@ -28,7 +28,7 @@ module _ {T : Type 0} (eq : T → T → Bool) (start : T → ℕ) where
   entered_more E [] m = refl
   entered_more E (x ∷ gone) m = entered_more (cond (asks_too_much eq start E x) E (E ++ x ∷ [])) gone m
 
-  -- what so many of the movements left, where no stock was ever below zero
+  -- what went is at most what was there and what came, where no stock was ever below zero
   at_end : (E : List (Movement T)) → IsNeverBelowZero eq start E → (v : T) → went eq v E ≤ start v + came eq v E
   at_end E never v =
       let now = never (length E) v in

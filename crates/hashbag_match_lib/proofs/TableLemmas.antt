@@ -9,7 +9,7 @@ use Rattle.hashbag_csv.specs.Readers.{Record}
 use Rattle.hashbag_csv.specs.Scales.{number_text}
 use Rattle.hashbag_csv.specs.declared.scale.Scale.{Scale}
 use Rattle.hashbag_match_lib.specs.Shown.{Entry}
-use Rattle.hashbag_match_lib.specs.Tables.{cell_text, cells_of, fields_of, gap, line_from, line_text, lines_of, number_titles, sums_text, table_text, title_of, titles_of}
+use Rattle.hashbag_match_lib.specs.Tables.{cell_text, cells_in, fields_of, gap, line_from, line_text, lines_of, number_titles, sums_text, table_text, title_of, titles_in}
 use Rattle.hashbag_match_lib.specs.Widths.{AreWidened, AreWidths, column_width, width_of}
 use Rattle.hashbag_match_lib.specs.Written.{Look}
 use Rattle.hashbag_match_lib.specs.declared.totals.Totals.{Totals}
@@ -65,7 +65,7 @@ lines_by lines widths fields are = λ i. flat_map (line_text (λ k. are k i) fie
 
 -- ---- the table
 
-fields_are : (look : Look) (titles : Record) (n : ℕ) → titles ≡ titles_of look → n ≡ length titles - 4 → n ≡ fields_of look
+fields_are : (look : Look) (titles : Record) (n : ℕ) → titles ≡ titles_in look → n ≡ length titles - 4 → n ≡ fields_of look
 fields_are look titles n is few =
     let whole = ap length is ∙ length-append (map title_of look.keys) (map title_of look.carried ++ number_titles) in
     let rest = length-append (map title_of look.carried) number_titles in
@@ -74,10 +74,10 @@ fields_are look titles n is few =
     omega (arith, whole, rest, keys, carried, few)
 
 pub table_is : (look : Look) (totals : Totals) (rows : List Entry) (titles : Record) (lines : List Record) (widths : List ℕ) (fields : ℕ) (table sums text : List ℕ)
-    → titles ≡ titles_of look → lines ≡ titles ∷ map (cells_of look.scale) rows → AreWidths lines widths → fields ≡ length titles - 4 → table ≡ flat_map (line_text (λ k. get_or widths k 0) fields) lines
+    → titles ≡ titles_in look → lines ≡ titles ∷ map (cells_in look.scale) rows → AreWidths lines widths → fields ≡ length titles - 4 → table ≡ flat_map (line_text (λ k. get_or widths k 0) fields) lines
     → sums ≡ sums_text look.scale totals → text ≡ table ++ sums → text ≡ table_text look totals rows
 table_is look totals rows titles lines widths fields table sums text titles_are lines_are are few table_of sums_are is =
-    let all : lines ≡ lines_of look rows = lines_are ∙ ap (λ t. t ∷ map (cells_of look.scale) rows) titles_are in
+    let all : lines ≡ lines_of look rows = lines_are ∙ ap (λ t. t ∷ map (cells_in look.scale) rows) titles_are in
     let count = fields_are look titles fields titles_are few in
     is ∙ λ i. (table_of ∙ lines_by lines widths fields are ∙ λ j. flat_map (line_text (column_width (all j)) (count j)) (all j)) i ++ sums_are i
 

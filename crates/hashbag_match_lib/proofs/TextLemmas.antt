@@ -17,7 +17,7 @@ use Rattle.hashbag_csv.specs.FirstLines.{Carried}
 use Rattle.hashbag_csv.specs.LineColumns.{line_bytes}
 use Rattle.hashbag_csv.specs.Quantities.{quantity, times}
 use Rattle.hashbag_csv.specs.Readers.{Record}
-use Rattle.hashbag_match_lib.specs.Forms.{text_of}
+use Rattle.hashbag_match_lib.specs.Forms.{text_in}
 use Rattle.hashbag_match_lib.specs.Matching.{AreRows, AreTotals, agrees, lent_rows, missing_of, surplus_of, totals_in}
 use Rattle.hashbag_match_lib.specs.Asks.{Lines}
 use Rattle.hashbag_match_lib.specs.Files.{AreMatchedFiles, Gives}
@@ -100,13 +100,13 @@ module _ {A : Type 0} {eq : A → A → Bool} (cmp : A → A → Ordering) (fiel
 
   -- the text of these rows
   pub text_by_bytes : (ask : Ask) (L M : Lines) (K : List Carried) (entries : List Entry) (look : Look) (totals : Totals) (text : List ℕ) → lines F ≡ L → lines G ≡ M
-      → entries ≡ map (with_first K) (shown_rows ask.only (map (bytes_row fields) rows)) → look ≡ look_asked ask → AreTotals rows totals → text ≡ text_of ask.form look totals entries
+      → entries ≡ map (with_first K) (shown_rows ask.only (map (bytes_row fields) rows)) → look ≡ look_asked ask → AreTotals rows totals → text ≡ text_in ask.form look totals entries
       → IsTextOfLines (RiseAs cmp fields) ask L M K text
   text_by_bytes ask L M K entries look totals text first second shown asked sums is = record {
     rows = map (bytes_row fields) rows;
     are = subst (λ l. AreRowsOfLines (RiseAs cmp fields) l M (map (bytes_row fields) rows)) first
         (subst (λ m. AreRowsOfLines (RiseAs cmp fields) (lines F) m (map (bytes_row fields) rows)) second rows_by_bytes);
-    is = is ∙ λ i. text_of ask.form (asked i) (totals_by_bytes fields rows totals sums i) (shown i);
+    is = is ∙ λ i. text_in ask.form (asked i) (totals_by_bytes fields rows totals sums i) (shown i);
   }
 
 -- ---- the order of what articles are kept as

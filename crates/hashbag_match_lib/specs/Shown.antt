@@ -14,15 +14,15 @@ use Rattle.hashbag_match_lib.specs.declared.shown.Only.TheVariants as only
 
 module _ {T : Type 0} where
   -- whether a row is written
-  abbrev pub shows : Only → Row T → Bool
-  shows only.Missing row = nat_lt 0 (missing_of row)
-  shows only.Surplus row = nat_lt 0 (surplus_of row)
-  shows only.Differing row = not (agrees row)
-  shows only.All row = true
+  abbrev pub is_shown : Only → Row T → Bool
+  is_shown only.Missing row = nat_lt 0 (missing_of row)
+  is_shown only.Surplus row = nat_lt 0 (surplus_of row)
+  is_shown only.Differing row = not (agrees row)
+  is_shown only.All row = true
 
   -- the rows that are written
   abbrev pub shown_rows : Only → List (Row T) → List (Row T)
-  shown_rows which rows = filter (shows which) rows
+  shown_rows which rows = filter (is_shown which) rows
 
 -- the row of an article, with the bytes of its fields
 abbrev pub bytes_row : {A : Type 0} → (A → Record) → Row (Bor A) → Row Record

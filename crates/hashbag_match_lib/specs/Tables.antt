@@ -25,12 +25,12 @@ abbrev pub number_titles : Record
 number_titles = codes "ORDERED" ∷ codes "DELIVERED" ∷ codes "MISSING" ∷ codes "SURPLUS" ∷ []
 
 -- the titles of all columns
-abbrev pub titles_of : Look → Record
-titles_of look = map title_of look.keys ++ (map title_of look.carried ++ number_titles)
+abbrev pub titles_in : Look → Record
+titles_in look = map title_of look.keys ++ (map title_of look.carried ++ number_titles)
 
 -- the cells of a row: its fields, with control characters escaped, and its numbers
-abbrev pub cells_of : Scale → Entry → Record
-cells_of scale row = map escaped_text row.article.0 ++ (map escaped_text row.article.1 ++ numbers_text scale row)
+abbrev pub cells_in : Scale → Entry → Record
+cells_in scale row = map escaped_text row.article.0 ++ (map escaped_text row.article.1 ++ numbers_text scale row)
 
 -- the cells of texts
 abbrev pub escaped_fields : List (String Global) → Record
@@ -38,11 +38,11 @@ escaped_fields fields = map escaped_text (map string_bytes fields)
 
 -- the cells of each row
 abbrev pub row_cells : Scale → List (Row Fields) → List Record
-row_cells scale rows = map (cells_of scale) (entries_of rows)
+row_cells scale rows = map (cells_in scale) (entries_of rows)
 
 -- the lines of a table: the titles, and the cells of each row
 abbrev pub lines_of : Look → List Entry → List Record
-lines_of look rows = titles_of look ∷ map (cells_of look.scale) rows
+lines_of look rows = titles_in look ∷ map (cells_in look.scale) rows
 
 -- how many columns have fields; the others have numbers
 abbrev pub fields_of : Look → ℕ

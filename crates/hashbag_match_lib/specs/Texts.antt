@@ -11,7 +11,7 @@ use Rattle.hashbag_csv.specs.Quantities.{quantity, times}
 use Rattle.hashbag_csv.specs.Readers.{Record}
 use Rattle.hashbag_match_lib.specs.Asks.{Lines, carried_along, delivered_in, names_of, ordered_in}
 use Rattle.hashbag_match_lib.specs.Fields.{IsStatusOfLines, IsTallyOfLines}
-use Rattle.hashbag_match_lib.specs.Forms.{text_of}
+use Rattle.hashbag_match_lib.specs.Forms.{text_in}
 use Rattle.hashbag_match_lib.specs.Matching.{totals_in}
 use Rattle.hashbag_match_lib.specs.Shown.{shown_rows, with_first}
 use Rattle.hashbag_match_lib.specs.Written.{Look}
@@ -51,7 +51,7 @@ module _ (Rising : List Record → Type 0) (ask : Ask) where
   pub record IsTextOfLines (L M : Lines) (K : List Carried) (text : List ℕ) : Type 0 where
     pub rows : List (Row Record)
     pub are : AreRowsOfLines Rising L M rows
-    pub is : text ≡ text_of ask.form (look_asked ask) (totals_in rows) (map (with_first K) (shown_rows ask.only rows))
+    pub is : text ≡ text_in ask.form (look_asked ask) (totals_in rows) (map (with_first K) (shown_rows ask.only rows))
 
   -- the same for the lines of two texts. For carried fields, the lines of what was ordered come first
   abbrev pub IsTextOfTexts : List ℕ → List ℕ → List ℕ → Type 0

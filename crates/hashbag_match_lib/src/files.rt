@@ -119,13 +119,13 @@ fn with_cure<T: Drop>(
         Err(
             SheetError::Line {
                 line,
-                fault: Fault::NoColumn { name, there },
+                fault: Fault::NoColumn { name, names },
             },
         ) if columns.number.is_none() && !form.no_header => {
-            let there = format!(in alloc;
-                "{there}; if line {line} is no header, `--no-header` reads it"
+            let names = format!(in alloc;
+                "{names}; if line {line} is no header, `--no-header` reads it"
             )?;
-            let fault = Fault::NoColumn { name, there };
+            let fault = Fault::NoColumn { name, names };
             Err(SheetError::Line { line, fault })
         }
         read => read,

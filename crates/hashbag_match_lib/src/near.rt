@@ -12,7 +12,7 @@ const MORE: &str =
     "no more articles are named that are nearly the same; `--trim` and `--fold` compare them without white space and case";
 
 // At most this many pairs are named.
-const NAMED: usize = 10;
+const MOST_NAMED: usize = 10;
 
 // Appends the fields of an article.
 fn push_article(alloc: Global, line: &mut String, fields: &[String]) -> Result<(), AllocError> {
@@ -35,7 +35,7 @@ pub fn near_articles<A: Article, S: BuildHasher + Drop>(
         articles.push(row.article)?;
     }
     let mut lines = Vec::new(alloc);
-    for (first, second) in alike(alloc, state, &articles, NAMED)? {
+    for (first, second) in alike(alloc, state, &articles, MOST_NAMED)? {
         let mut line = String::new(alloc);
         push_article(alloc, &mut line, first.texts())?;
         line.push_str(" and ")?;
@@ -43,7 +43,7 @@ pub fn near_articles<A: Article, S: BuildHasher + Drop>(
         line.push_str(" differ only in case, white space at the ends, or normal form")?;
         lines.push(line)?;
     }
-    if lines.len() == NAMED {
+    if lines.len() == MOST_NAMED {
         lines.push(MORE.to_string(alloc)?)?;
     }
     Ok(lines)

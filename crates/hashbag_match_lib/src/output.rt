@@ -1,7 +1,7 @@
 //! The text of rows.
 ghost use Rattle.std.specs.Prelude.{◌≡◌, map, IfOk};
 ghost use Rattle.std.specs.String.{string_bytes};
-ghost use Rattle.hashbag_match_lib.specs.Forms.{text_of as text_in};
+ghost use Rattle.hashbag_match_lib.specs.Forms.{text_in};
 ghost use Rattle.hashbag_match_lib.specs.Shown.{entries_of};
 ghost use Rattle.hashbag_match_lib.specs.Written.{look_of, numbers_text};
 

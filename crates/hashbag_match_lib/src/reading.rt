@@ -86,7 +86,7 @@ pub fn read_tally<A: Article + Drop, S: BuildHasher + Copy + Drop>(
     ensures fits { IfOk result (λ tally. FitHeader form.allows_short (list_in reading.delimiter form text.now)) }
 
     // No slot of an older table waits in either bag.
-    ensures carried { IfOk result (λ tally. (tally.counts.tables.waiting ≡ []) × (tally.zeros.tables.waiting ≡ [])) }
+    ensures none_waits { IfOk result (λ tally. (tally.counts.tables.waiting ≡ []) × (tally.zeros.tables.waiting ≡ [])) }
 {
     let mut tally = empty_tally(alloc, state);
     let Some(mut sheet) = Sheet::open_list(alloc, text, reading.delimiter, form)? else {

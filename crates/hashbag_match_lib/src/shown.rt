@@ -1,6 +1,6 @@
 //! The rows that are written.
 ghost use Rattle.std.specs.Prelude.{◌≡◌, IfOk};
-ghost use Rattle.hashbag_match_lib.specs.Shown.{AreFieldsAlong, AreShownRows, shows as is_shown};
+ghost use Rattle.hashbag_match_lib.specs.Shown.{AreFieldsAlong, AreShownRows, is_shown};
 
 use crate::matching::Row;
 use hashbag_csv::article::Article;

@@ -2,8 +2,8 @@
 ghost use Rattle.std.specs.Prelude.{◌≡◌, ◌++◌, ◌∷◌, [], get_or, map, flat_map, IfOk, OnOk};
 ghost use Rattle.std.specs.String.{string_bytes};
 ghost use Rattle.hashbag_match_lib.specs.Shown.{entries_of, entry_of};
-ghost use Rattle.hashbag_match_lib.specs.Tables.{AppendsLine, HasLines, cell_bytes, cells_of as cells_in, escaped_fields, line_bytes, row_cells};
-ghost use Rattle.hashbag_match_lib.specs.Tables.{cell_text, gap, line_text, spaces, sums_text, table_text, title_of, titles_of as titles_in};
+ghost use Rattle.hashbag_match_lib.specs.Tables.{AppendsLine, HasLines, cell_bytes, cells_in, escaped_fields, line_bytes, row_cells};
+ghost use Rattle.hashbag_match_lib.specs.Tables.{cell_text, gap, line_text, spaces, sums_text, table_text, title_of, titles_in};
 ghost use Rattle.hashbag_match_lib.specs.Widths.{AreWidened, AreWidths, width_of};
 ghost use Rattle.hashbag_match_lib.specs.Written.{look_of, numbers_text};
 
@@ -18,7 +18,7 @@ use std::alloc::{AllocError, Global};
 use unicode_width::UnicodeWidthStr;
 
 // The titles of the columns of numbers.
-static NUMBERS: [&str; 4] = ["ORDERED", "DELIVERED", "MISSING", "SURPLUS"];
+static NUMBER_TITLES: [&str; 4] = ["ORDERED", "DELIVERED", "MISSING", "SURPLUS"];
 
 // Appends names in capitals.
 fn push_names(alloc: Global, titles: &mut Vec<String>, names: &[&str]) -> Result<(), AllocError>
@@ -48,7 +48,7 @@ fn titles_of(alloc: Global, layout: Layout<'_>) -> Result<Vec<String>, AllocErro
     let mut titles = Vec::new(alloc);
     push_names(alloc, &mut titles, layout.keys)?;
     push_names(alloc, &mut titles, layout.carried)?;
-    push_texts(alloc, &mut titles, NUMBERS.as_slice())?;
+    push_texts(alloc, &mut titles, NUMBER_TITLES.as_slice())?;
     Ok(titles)
 }
 
@@ -236,7 +236,7 @@ pub fn table_of(
     ensures { IfOk result (λ text. text.items ≡ table_text (look_of layout.entry) totals.now (entries_of rows.now)) }
 {
     let titles = titles_of(alloc, layout)?;
-    let fields = titles.len().saturating_sub(NUMBERS.len());
+    let fields = titles.len().saturating_sub(NUMBER_TITLES.len());
     let scale = layout.scale;
     let widths = widths_of(alloc, &titles, rows, scale)?;
     let mut table = lines_text(alloc, &titles, rows, scale, &widths, fields)?;

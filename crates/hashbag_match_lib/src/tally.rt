@@ -56,7 +56,7 @@ impl<T: Eq + Hash + Drop, S: BuildHasher + Drop> Tally<T, S> {
     pub fn finish_carry(&mut self)
         // The tally is of the same lines, and no slot waits.
         ensures same { TalliesSame T.eq self.old self.new }
-        ensures waiting { (self.new.counts.tables.waiting ≡ []) × (self.new.zeros.tables.waiting ≡ []) }
+        ensures none_waits { (self.new.counts.tables.waiting ≡ []) × (self.new.zeros.tables.waiting ≡ []) }
     {
         self.counts.finish_carry();
         self.zeros.finish_carry();

@@ -9,7 +9,7 @@ use Rattle.std.specs.List.{IsDistinct}
 use Rattle.std.specs.Map.{keys_of}
 use Rattle.std.proofs.lemmas.List.Sorted.{IsPermutation-refl}
 use Rattle.std.proofs.lemmas.Map.Keys.{IsDistinct-tail}
-use Rattle.hashbag_table.specs.Asked.{AnswersInTurn, kept}
+use Rattle.hashbag_table.specs.Returned.{ReturnsInTurn, retained_entries}
 use Rattle.hashbag_core.specs.Bag.{Bag, occurrences}
 use Rattle.hashbag_core.specs.EqualityLaws.{count_append, count_congr}
 use Rattle.hashbag_core.specs.Occurrences.{count}
@@ -23,13 +23,13 @@ use Rattle.hashbag_core.proofs.OccurrenceLemmas.{count_rearranged}
 module _ {F T : Type 0} (g : Mut F (Bor T × (ℕ × Unit {0})) ℕ) (J : F → Type 0) (many : T → ℕ → ℕ)
     (says : (p q : F) (x : Bor T) (n a : ℕ) → J p → Called g p (x, (n, tt)) a q → (a ≡ many x.now n) × J q) where
   -- what a closure returned along a walk, if it returns `many` of the value and its count
-  pub answers_by_count : (p : F) (walk : List (T × ℕ)) (answers : List ℕ) (last : F) → J p → AnswersInTurn g p walk answers last → answers ≡ map (λ e. many e.0 e.1) walk
+  pub answers_by_count : (p : F) (walk : List (T × ℕ)) (returned : List ℕ) (last : F) → J p → ReturnsInTurn g p walk returned last → returned ≡ map (λ e. many e.0 e.1) walk
   answers_by_count p [] [] last j asked = refl
-  answers_by_count p [] (a ∷ answers) last j asked = absurd asked
+  answers_by_count p [] (a ∷ returned) last j asked = absurd asked
   answers_by_count p (e ∷ walk) [] last j asked = absurd asked
-  answers_by_count p (e ∷ walk) (a ∷ answers) last j asked =
+  answers_by_count p (e ∷ walk) (a ∷ returned) last j asked =
       let one = says p asked.0 asked.1.value e.1 a j asked.1.called in
-      let later = answers_by_count asked.0 walk answers last one.1 asked.2 in
+      let later = answers_by_count asked.0 walk returned last one.1 asked.2 in
       λ i. (one.0 ∙ ap (λ (x : T). many x e.1) asked.1.shows) i ∷ later i
 
 none_left : (n : ℕ) → 0 ≡ min n 0
@@ -71,18 +71,18 @@ module _ {T : Type 0} {eq : T → T → Bool} (laws : IsEquivalence eq) (many : 
       let whole : count eq v (replicate (min (many e.0 e.1) e.1) e.0 ++ occurrences rest) ≡ count eq v (occurrences rest) = omega (arith, now) in
       whole ∙ later ∙ sym (ap (λ (k : ℕ). min (many v k) k) all)
 
-  count_of_kept : (v : T) (W : List (T × ℕ)) → IsDistinct eq (keys_of W) → count eq v (occurrences (kept W (map (λ e. many e.0 e.1) W))) ≡ min (many v (count eq v (occurrences W))) (count eq v (occurrences W))
+  count_of_kept : (v : T) (W : List (T × ℕ)) → IsDistinct eq (keys_of W) → count eq v (occurrences (retained_entries W (map (λ e. many e.0 e.1) W))) ≡ min (many v (count eq v (occurrences W))) (count eq v (occurrences W))
   count_of_kept v [] distinct = none_left (many v 0)
   count_of_kept v (e ∷ W) distinct =
-      ap (λ (l : List T). count eq v l) (entry_kept (nat_lt 0 (min (many e.0 e.1) e.1)) e.0 (min (many e.0 e.1) e.1) (kept W (map (λ e. many e.0 e.1) W)) refl)
-      ∙ kept_step v e W (kept W (map (λ e. many e.0 e.1) W)) (eq v e.0) refl (absent_later laws e W distinct) (count_of_kept v W (IsDistinct-tail eq e.0 (keys_of W) distinct))
+      ap (λ (l : List T). count eq v l) (entry_kept (nat_lt 0 (min (many e.0 e.1) e.1)) e.0 (min (many e.0 e.1) e.1) (retained_entries W (map (λ e. many e.0 e.1) W)) refl)
+      ∙ kept_step v e W (retained_entries W (map (λ e. many e.0 e.1) W)) (eq v e.0) refl (absent_later laws e W distinct) (count_of_kept v W (IsDistinct-tail eq e.0 (keys_of W) distinct))
 
   -- after a `retain` (`retained`) whose closure returns that: the lesser of the count and `many` of v and its count
-  pub count_retained_by : {F S : Type 0} (g : Mut F (Bor T × (ℕ × Unit {0})) ℕ) (f : F) (before after : Bag T S) (done : IsRetained eq g f before after) → done.answers ≡ map (λ e. many e.0 e.1) done.walk
+  pub count_retained_by : {F S : Type 0} (g : Mut F (Bor T × (ℕ × Unit {0})) ℕ) (f : F) (before after : Bag T S) (done : IsRetained eq g f before after) → done.returned ≡ map (λ e. many e.0 e.1) done.walk
       → (v : T) → count eq v after.items ≡ min (many v (count eq v before.items)) (count eq v before.items)
   count_retained_by g f before after done are v =
       let walk = done.set_walk.walk before.items (IsPermutation-refl _) in
       let distinct = subst (λ (l : List T). IsDistinct eq l) (sym (keys_of_walk laws before.items done.walk walk)) walk.each.once in
-      count_means laws before after v (occurrences (kept done.walk done.answers)) done.left.means ∙ ap (λ (a : List ℕ). count eq v (occurrences (kept done.walk a))) are
+      count_means laws before after v (occurrences (retained_entries done.walk done.returned)) done.left.means ∙ ap (λ (a : List ℕ). count eq v (occurrences (retained_entries done.walk a))) are
       ∙ count_of_kept v done.walk distinct
       ∙ ap (λ (n : ℕ). min (many v n) n) (count_rearranged laws v (occurrences done.walk) before.items done.set_walk.means)

@@ -34,7 +34,7 @@ take_front (suc k) (x ∷ xs) ys few full = ap (λ l. x ∷ l) (take_front k xs 
 module _ {X : Type 0} {lt : X → X → Bool} where
   -- at the start
   pub first_none : (k : ℕ) → IsFirstOf lt k [] []
-  first_none k = record { rest = []; parts = IsPermutation-refl []; few = omega arith; full = λ _. refl; first = tt }
+  first_none k = record { rest = []; parts = IsPermutation-refl []; at_most = omega arith; full = λ _. refl; first = tt }
 
   -- where there is room, one more joins them
   pub first_push : (k : ℕ) (P H H' : List X) (x : X) → IsFirstOf lt k P H → length H < k → IsPermutation (x ∷ H) H' → IsFirstOf lt k (P ++ x ∷ []) H'
@@ -44,7 +44,7 @@ module _ {X : Type 0} {lt : X → X → Bool} where
       record {
         rest = [];
         parts = subst (λ (l : List X). IsPermutation (P ++ x ∷ []) l) (sym (append-nil H')) (IsPermutation-trans _ _ _ (more_first P H x all) same);
-        few = omega (arith, long);
+        at_most = omega (arith, long);
         full = λ _. refl;
         first = tt;
       }
@@ -54,7 +54,7 @@ module _ {X : Type 0} {lt : X → X → Bool} where
   first_skip k P H x h full last = record {
     rest = x ∷ h.rest;
     parts = IsPermutation-trans _ _ _ (more_first P (H ++ h.rest) x h.parts) (IsPermutation-sym _ _ (IsPermutation-middle H x h.rest));
-    few = h.few;
+    at_most = h.at_most;
     full = λ less. absurd (omega arith);
     first = (last, h.first);
   }
@@ -79,7 +79,7 @@ module _ {X : Type 0} {lt : X → X → Bool} (weak : IsStrictWeakOrder lt) wher
       record {
         rest = last ∷ h.rest;
         parts = IsPermutation-trans _ _ _ (more_first P (H ++ h.rest) x h.parts) (IsPermutation-trans _ _ _ moved back);
-        few = omega (arith, apart, long, h.few);
+        at_most = omega (arith, apart, long, h.at_most);
         full = λ less. absurd (omega (arith, apart, long));
         first = (kept last bound, every_weaker kept h.rest h.first);
       }
@@ -119,5 +119,5 @@ module _ {X : Type 0} {lt : X → X → Bool} (weak : IsStrictWeakOrder lt) wher
         S ++ last.0,
         IsPermutation-trans _ _ _ h.parts (IsPermutation-append H S h.rest last.0 same last.1),
         joined S last.0 up last.2 (every_shuffled (λ r. AllByRecursion (λ s. lt r s ≡ false) S) h.rest last.0 last.1 after),
-        sym (take_front k S last.0 (omega (arith, long, h.few)) none),
+        sym (take_front k S last.0 (omega (arith, long, h.at_most)) none),
       )

@@ -9,7 +9,7 @@ use Rattle.hashbag_core.specs.declared.bag.BagError.{BagError}
 use Rattle.hashbag_core.specs.declared.bag.BagError.TheVariants.{Memory, TooMany, BelowTotal}
 use Rattle.hashbag_core.specs.Bag.{Bag, IsBagOf, occurrences}
 use Rattle.hashbag_core.specs.Extends.{AsItIs}
-use Rattle.hashbag_core.specs.Inserts.{Inserts, InsertsAll, InsertsUpTo, InTurn, IsRefused, RefusesPair}
+use Rattle.hashbag_core.specs.Inserts.{Inserts, InsertsAll, InsertsUpTo, InTurn, MayFail, MayFailPair}
 use Rattle.hashbag_core.specs.JoinsLeft.{lacking}
 use Rattle.hashbag_core.specs.Occurrences.{count, distinct_count, IsBag}
 use Rattle.hashbag_table.specs.Tables.{room}
@@ -85,7 +85,7 @@ module _ {T S : Type 0} {eq : T → T → Bool} (laws : IsEquivalence eq) where
   -- the pairs of a known list that an extend inserted
   pub in_turn : {I : Type 0} {steps : I → Option (T × ℕ) → I → Type 0} {it : I} {before after : Bag T S} (pairs : List (T × ℕ)) → InsertsAll eq steps AsItIs it before after → YieldsList steps (λ x. x) it pairs → InTurn eq pairs before after
   in_turn {before = before} {after = after} pairs h yields =
-      subst (λ l. InTurn eq l before after) (pairs_as_they_are h.items h.pairs h.went ∙ sym (map-id h.items) ∙ items_that_came h.items h.came yields) h.turn
+      subst (λ l. InTurn eq l before after) (pairs_as_they_are h.items h.pairs h.as_pairs ∙ sym (map-id h.items) ∙ items_that_came h.items h.yielded yields) h.turn
 
   pub adds_in_turn : (pairs : List (T × ℕ)) (before after : Bag T S) → IsBag eq before.most before.items → InTurn eq pairs before after → Adds eq before after pairs
   adds_in_turn pairs before after is turn =
@@ -193,20 +193,20 @@ module _ {T S : Type 0} {eq : T → T → Bool} (laws : IsEquivalence eq) where
       let spent = so_far.stays.left in
       omega (arith, few, one, many, parts, later, spent, full, enough)
 
-  -- ---- nothing is refused
+  -- ---- nothing fails
 
-  -- a pair that fits isn't refused where its value is there, or where there is room
-  pub takes_one : {A : Type 0} (bag : Bag T S) (v : T) (n : ℕ) (r : Result A BagError) → length bag.items + n ≤ bag.most → IfErr r (IsRefused eq bag v n) → (room bag.tables ≡ 0 → 0 < count eq v bag.items) → IsOk r
-  takes_one bag v n (Ok a) fits refused there = refl
-  takes_one bag v n (Err TooMany) fits refused there = let over = refused.why in absurd (omega (arith, fits, over))
-  takes_one bag v n (Err BelowTotal) fits refused there = absurd refused.why
-  takes_one bag v n (Err Memory) fits refused there = let is = there (refused.full refl) in let absent = refused.why.2 in absurd (omega (arith, is, absent))
+  -- a pair that fits doesn't fail where its value is there, or where there is room
+  pub takes_one : {A : Type 0} (bag : Bag T S) (v : T) (n : ℕ) (r : Result A BagError) → length bag.items + n ≤ bag.most → IfErr r (MayFail eq bag v n) → (room bag.tables ≡ 0 → 0 < count eq v bag.items) → IsOk r
+  takes_one bag v n (Ok a) fits fails there = refl
+  takes_one bag v n (Err TooMany) fits fails there = let over = fails.why in absurd (omega (arith, fits, over))
+  takes_one bag v n (Err BelowTotal) fits fails there = absurd fails.why
+  takes_one bag v n (Err Memory) fits fails there = let is = there (fails.full refl) in let absent = fails.why.2 in absurd (omega (arith, is, absent))
 
-  -- an extend by a known list of pairs isn't refused where there is room for all
+  -- an extend by a known list of pairs doesn't fail where there is room for all
   pub takes_rest : {I A : Type 0} {steps : I → Option (T × ℕ) → I → Type 0} {it : I} (rest : List (T × ℕ)) (before after : Bag T S) (r : Result A BagError)
-      → IfErr r (InsertsUpTo eq steps AsItIs (RefusesPair eq) it before after) → YieldsList steps (λ x. x) it rest → length rest ≤ room before.tables → length before.items + sum_by (λ p. p.1) rest ≤ before.most → IsOk r
-  takes_rest rest before after r refused yields enough fits =
+      → IfErr r (InsertsUpTo eq steps AsItIs (MayFailPair eq) it before after) → YieldsList steps (λ x. x) it rest → length rest ≤ room before.tables → length before.items + sum_by (λ p. p.1) rest ≤ before.most → IsOk r
+  takes_rest rest before after r fails yields enough fits =
       let none : List T = [] in
       let few = length-filter (λ (e : T × ℕ). count eq e.0 none == 0) rest in
       let most_of = count_by-le-length (λ (e : T × ℕ). count eq e.0 none == 0) rest in
-      takes_pairs laws before after r none (λ v some. absurd (omega (arith, some))) refused yields (omega (arith, few, most_of, enough)) fits
+      takes_pairs laws before after r none (λ v some. absurd (omega (arith, some))) fails yields (omega (arith, few, most_of, enough)) fits

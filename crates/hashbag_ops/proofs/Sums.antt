@@ -11,13 +11,13 @@ use Rattle.hashbag_core.specs.declared.bag.BagError.{BagError}
 use Rattle.hashbag_core.specs.declared.bag.BagError.TheVariants.{Memory, TooMany, BelowTotal}
 use Rattle.hashbag_core.specs.Bag.{Bag, occurrences}
 use Rattle.hashbag_core.specs.EqualityLaws.{count_append}
-use Rattle.hashbag_core.specs.Extends.{AsItIs, Refuses}
-use Rattle.hashbag_core.specs.Inserts.{Inserts, InsertsUpTo, InTurn, IsRefused, RefusesPair}
+use Rattle.hashbag_core.specs.Extends.{AsItIs, MayFailWith}
+use Rattle.hashbag_core.specs.Inserts.{Inserts, InsertsUpTo, InTurn, MayFail, MayFailPair}
 use Rattle.hashbag_core.specs.JoinsLeft.{lacking}
 use Rattle.hashbag_core.specs.Occurrences.{count, distinct_count}
 use Rattle.hashbag_table.specs.Tables.{room}
 use Rattle.hashbag_core.proofs.CallerLemmas.{count_inserted_any, pairs_as_they_are}
-use Rattle.hashbag_core.proofs.InsertLemmas.{length_in_turn, refused_past_room, some_added}
+use Rattle.hashbag_core.proofs.InsertLemmas.{length_in_turn, fails_past_room, some_added}
 use Rattle.hashbag_core.proofs.Laws.{count_added}
 
 -- the numbers of the items before one, and its own, are no more than those of all
@@ -100,41 +100,41 @@ module _ {T S : Type 0} {eq : T → T → Bool} (laws : IsEquivalence eq) (X : L
   ]
 
 module _ {T S : Type 0} {eq : T → T → Bool} (laws : IsEquivalence eq) where
-  -- what fits is refused only for memory
-  declined_pair : (bag : Bag T S) (v : T) (n : ℕ) (e : BagError) → Refuses eq bag.most bag.items v n e → length bag.items + n ≤ bag.most → e ≡ Memory
+  -- what fits fails only for memory
+  declined_pair : (bag : Bag T S) (v : T) (n : ℕ) (e : BagError) → MayFailWith eq bag.most bag.items v n e → length bag.items + n ≤ bag.most → e ≡ Memory
   declined_pair bag v n TooMany over fits = absurd (omega (arith, over, fits))
   declined_pair bag v n Memory asks fits = refl
   declined_pair bag v n BelowTotal never fits = absurd never
 
-  -- an extend by a known list of pairs isn't refused where there is room for those that a list X lacks, whose values the bag has, and the
+  -- an extend by a known list of pairs doesn't fail where there is room for those that a list X lacks, whose values the bag has, and the
   -- limit allows their numbers
-  pub no_pair_refused : {I : Type 0} {steps : I → Option (T × ℕ) → I → Type 0} {it : I} {all : List (T × ℕ)} {before after : Bag T S} {e : BagError} → (X : List T)
+  pub no_pair_fails : {I : Type 0} {steps : I → Option (T × ℕ) → I → Type 0} {it : I} {all : List (T × ℕ)} {before after : Bag T S} {e : BagError} → (X : List T)
       → ((v : T) → 0 < count eq v X → 0 < count eq v before.items)
-      → InsertsUpTo eq steps AsItIs (RefusesPair eq) it before after e → YieldsList steps (λ x. x) it all → length (lacking eq X all) ≤ room before.tables → length before.items + sum_by (λ p. p.1) all ≤ before.most → ⊥
-  no_pair_refused {all = all} {before = before} {after = after} {e = e} X has h yields enough fits =
-      let turn = YieldsList-turn yields h.items h.came.0 h.came.1 (Some h.refused) h.rest h.refused refl h.came.2 in
+      → InsertsUpTo eq steps AsItIs (MayFailPair eq) it before after e → YieldsList steps (λ x. x) it all → length (lacking eq X all) ≤ room before.tables → length before.items + sum_by (λ p. p.1) all ≤ before.most → ⊥
+  no_pair_fails {all = all} {before = before} {after = after} {e = e} X has h yields enough fits =
+      let turn = YieldsList-turn yields h.items h.yielded.0 h.yielded.1 (Some h.failed) h.rest h.failed refl h.yielded.2 in
       let fewer : length h.items < length all = turn.0 in
-      let came : h.pairs ≡ take (length h.items) all = pairs_as_they_are h.items h.pairs h.went ∙ sym (map-id h.items) ∙ YieldsList-so_far yields h.items h.came.0 h.came.1 in
+      let came : h.pairs ≡ take (length h.items) all = pairs_as_they_are h.items h.pairs h.as_pairs ∙ sym (map-id h.items) ∙ YieldsList-so_far yields h.items h.yielded.0 h.yielded.1 in
       let long = length_in_turn eq h.pairs before after h.turn in
       let numbers = ap (λ (l : List (T × ℕ)). sum_by (λ p. p.1) l) came in
       let number = ap (λ (p : T × ℕ). p.1) turn.1 in
-      let whole = sum_to (λ (p : T × ℕ). p.1) all (length h.items) h.refused fewer in
+      let whole = sum_to (λ (p : T × ℕ). p.1) all (length h.items) h.failed fewer in
       let limit = (some_added laws h).limit in
-      let memory = declined_pair after h.refused.0 h.refused.1 e h.why.why (omega (arith, long, numbers, number, whole, fits, limit)) in
-      let declined = subst (λ (x : BagError). IsRefused eq after h.refused.0 h.refused.1 x) memory h.why in
-      let past = refused_past_room eq h.pairs before after h.refused.0 h.refused.1 h.turn declined in
+      let memory = declined_pair after h.failed.0 h.failed.1 e h.why.why (omega (arith, long, numbers, number, whole, fits, limit)) in
+      let declined = subst (λ (x : BagError). MayFail eq after h.failed.0 h.failed.1 x) memory h.why in
+      let past = fails_past_room eq h.pairs before after h.failed.0 h.failed.1 h.turn declined in
       let few = few_lacked laws X h.pairs before after h.turn has in
-      let none = none_of_none laws X h.refused.0 after (has_in_turn laws X h.pairs before after h.turn has) declined.why.2 in
-      let one : one_lacked eq X h.refused ≡ 1 = ap (λ (n : ℕ). one_if (n == 0)) none in
+      let none = none_of_none laws X h.failed.0 after (has_in_turn laws X h.pairs before after h.turn has) declined.why.2 in
+      let one : one_lacked eq X h.failed ≡ 1 = ap (λ (n : ℕ). one_if (n == 0)) none in
       let same = ap (one_lacked eq X) turn.1 in
       let so_far = ap (lacked eq X) came in
-      let last = sum_to (one_lacked eq X) all (length h.items) h.refused fewer in
+      let last = sum_to (one_lacked eq X) all (length h.items) h.failed fewer in
       let many : length (lacking eq X all) ≡ lacked eq X all = length-filter (λ e. count eq e.0 X == 0) all in
       omega (arith, past, few, one, same, so_far, last, many, enough)
 
   -- an `extend_many` by known pairs succeeds, within the limit, with room for the pairs whose value isn't in a list X, if the bag has each
   -- value of X
   pub takes_pairs : {I A : Type 0} {steps : I → Option (T × ℕ) → I → Type 0} {it : I} {all : List (T × ℕ)} → (before after : Bag T S) (r : Result A BagError) (X : List T) → ((v : T) → 0 < count eq v X → 0 < count eq v before.items)
-      → IfErr r (InsertsUpTo eq steps AsItIs (RefusesPair eq) it before after) → YieldsList steps (λ x. x) it all → length (lacking eq X all) ≤ room before.tables → length before.items + sum_by (λ p. p.1) all ≤ before.most → IsOk r
+      → IfErr r (InsertsUpTo eq steps AsItIs (MayFailPair eq) it before after) → YieldsList steps (λ x. x) it all → length (lacking eq X all) ≤ room before.tables → length before.items + sum_by (λ p. p.1) all ≤ before.most → IsOk r
   takes_pairs before after (Ok a) X has h yields enough fits = refl
-  takes_pairs before after (Err e) X has h yields enough fits = absurd (no_pair_refused X has h yields enough fits)
+  takes_pairs before after (Err e) X has h yields enough fits = absurd (no_pair_fails X has h yields enough fits)

@@ -27,7 +27,7 @@ comes_first cmp x y = is_lt (rank cmp x y)
 pub record IsFirstOf {X : Type 0} (lt : X → X → Bool) (k : ℕ) (P H : List X) : Type 0 where
   pub rest : List X
   pub parts : IsPermutation P (H ++ rest)
-  pub few : length H ≤ k
+  pub at_most : length H ≤ k
   pub full : length H < k → rest ≡ []
   pub first : AllByRecursion (λ r. AllByRecursion (λ h. lt r h ≡ false) H) rest
 
@@ -48,9 +48,9 @@ abbrev pub counted_cmp : {T : Type 0} → (T → T → Ordering) → Reverse ℕ
 counted_cmp cmp x y = rank cmp (counted_pair x) (counted_pair y)
 
 -- the pairs of a heap
-abbrev pub held : {T A : Type 0} → BinaryHeap (Reverse ℕ × Bor T) A → List (T × ℕ)
-held heap = map counted_pair (heap_items heap)
+abbrev pub heap_pairs : {T A : Type 0} → BinaryHeap (Reverse ℕ × Bor T) A → List (T × ℕ)
+heap_pairs heap = map counted_pair (heap_items heap)
 
 -- `KeepsFirst` for the pairs of a heap, before and after, and the pair of one more item
-abbrev pub KeepsFirstHeld : {T A : Type 0} → (T × ℕ → T × ℕ → Bool) → ℕ → BinaryHeap (Reverse ℕ × Bor T) A → Reverse ℕ × Bor T → BinaryHeap (Reverse ℕ × Bor T) A → Type 0
-KeepsFirstHeld lt k old e new = KeepsFirst lt k (held old) (counted_pair e) (held new)
+abbrev pub KeepsFirstInHeap : {T A : Type 0} → (T × ℕ → T × ℕ → Bool) → ℕ → BinaryHeap (Reverse ℕ × Bor T) A → Reverse ℕ × Bor T → BinaryHeap (Reverse ℕ × Bor T) A → Type 0
+KeepsFirstInHeap lt k old e new = KeepsFirst lt k (heap_pairs old) (counted_pair e) (heap_pairs new)

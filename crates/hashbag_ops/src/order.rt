@@ -5,7 +5,7 @@ ghost use Rattle.std.specs.List.Sorted.{IsStrictlySortedBy};
 ghost use Rattle.std.specs.Map.{keys_of};
 ghost use Rattle.hashbag_core.specs.Occurrences.{count};
 ghost use Rattle.hashbag_core.specs.Walks.{IsSetWalkOf, seen};
-ghost use Rattle.hashbag_ops.specs.Order.{rank, IsMostCommon, comes_first, counted_cmp, held, IsFirstOfBag, KeepsFirstHeld};
+ghost use Rattle.hashbag_ops.specs.Order.{rank, IsMostCommon, comes_first, counted_cmp, heap_pairs, IsFirstOfBag, KeepsFirstInHeap};
 
 use hashbag_core::{BagError, HashBag};
 use std::alloc::{AllocError, Global};
@@ -187,7 +187,7 @@ fn heap_of_first<'a, T: Ord + Hash + Drop, S: BuildHasher + Drop>(
     k: usize,
 ) -> Result<BinaryHeap<(Reverse<usize>, &'a T)>, BagError>
     ensures heap { IfOk result (λ heap. IsHeap (counted_cmp T.cmp) (heap_items heap)) }
-    ensures first { IfOk result (λ heap. IsFirstOfBag T.eq (comes_first T.cmp) k bag.now (held heap)) }
+    ensures first { IfOk result (λ heap. IsFirstOfBag T.eq (comes_first T.cmp) k bag.now (heap_pairs heap)) }
     ensures memory { IfErr result (λ e. e ≡ BagError.Memory) }
 {
     let mut heap = BinaryHeap::with_capacity(alloc, k)?;
@@ -206,7 +206,7 @@ fn offer<'a, T: Ord>(
 ) -> Result<(), AllocError>
     requires { IsHeap (counted_cmp T.cmp) (heap_items heap.old) }
     ensures heap { OnOk result (IsHeap (counted_cmp T.cmp) (heap_items heap.new)) }
-    ensures first { OnOk result (KeepsFirstHeld (comes_first T.cmp) k heap.old pair.entry heap.new) }
+    ensures first { OnOk result (KeepsFirstInHeap (comes_first T.cmp) k heap.old pair.entry heap.new) }
 {
     if heap.len() < k {
         heap.push(pair)?;

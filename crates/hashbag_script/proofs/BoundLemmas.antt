@@ -14,7 +14,7 @@ use Rattle.hashbag_script.specs.declared.script.Reply.{Reply}
 use Rattle.hashbag_core.specs.Occurrences.{distinct_count}
 use Rattle.hashbag_core.specs.Bag.{Bag, Means}
 use Rattle.hashbag_script.specs.declared.script.Step.{Step}
-use Rattle.hashbag_script.specs.Script.{step, limit_after, limit_left, run, peak, arrivals, newcomers, is_about_room, is_reserve, IsBounded}
+use Rattle.hashbag_script.specs.Script.{step, limit_after, limit_left, run, peak, arrivals, newcomers, reserves_or_shrinks, is_reserve, IsBounded}
 use Rattle.hashbag_script.proofs.DistinctOrder.{distinct_rearranged}
 use Rattle.hashbag_script.proofs.MoveLemmas.{Moves}
 use Rattle.hashbag_script.proofs.RoomLemmas.{newcomers_rearranged}
@@ -107,7 +107,7 @@ module _ {T : Type 0} (eq : T → T → Bool) where
   -- what a run from no slots leaves
   pub record IsPaid (most : ℕ) (done : List (Step T)) (before now : Tables T) : Type 0 where
     pub slots : list_any is_reserve done ≡ false → 3 * length now.newer ≤ max 48 (16 * peak eq most [] done)
-    pub built : list_any is_about_room done ≡ false → IsCovered (arrivals eq most [] done) before now
+    pub built : list_any reserves_or_shrinks done ≡ false → IsCovered (arrivals eq most [] done) before now
 
   -- what every bag keeps of its tables
   pub record IsShaped (items : List T) (t : Tables T) : Type 0 where
@@ -149,12 +149,12 @@ module _ {T : Type 0} {eq : T → T → Bool} (laws : IsEquivalence eq) where
   -- one more step
   pub paid_next : (most m : ℕ) (B : List T) (done : List (Step T)) (s : Step T) (before now after : Tables T)
       → IsPermutation (run eq most [] done).0 B → IsPermutation (step eq (limit_left eq most [] done) (run eq most [] done).0 s).0 (step eq m B s).0 → IsShaped eq B now
-      → (is_about_room s ≡ false → Moves (newcomers eq B (step eq m B s).0) now after)
-      → (is_about_room s ≡ true → is_reserve s ≡ false → length after.newer ≤ length now.newer)
+      → (reserves_or_shrinks s ≡ false → Moves (newcomers eq B (step eq m B s).0) now after)
+      → (reserves_or_shrinks s ≡ true → is_reserve s ≡ false → length after.newer ≤ length now.newer)
       → IsPaid eq most done before now → IsPaid eq most (done ++ s ∷ []) before after
   paid_next most m B done s before now after means left shape moves fewer h = record {
-    slots = λ none. let both = any_false is_reserve done s none in at_slots both (is_about_room s) refl;
-    built = λ none. let both = any_false is_about_room done s none in at_built both (moves both.1);
+    slots = λ none. let both = any_false is_reserve done s none in at_slots both (reserves_or_shrinks s) refl;
+    built = λ none. let both = any_false reserves_or_shrinks done s none in at_built both (moves both.1);
   } where
     rises : peak eq most [] done ≤ peak eq most [] (done ++ s ∷ [])
     rises = peak_more eq most [] done s
@@ -167,7 +167,7 @@ module _ {T : Type 0} {eq : T → T → Bool} (laws : IsEquivalence eq) where
         let r = rises in
         omega (arith, d, l, v, r)
 
-    at_slots : (list_any is_reserve done ≡ false) × (is_reserve s ≡ false) → (b : Bool) → is_about_room s ≡ b → 3 * length after.newer ≤ max 48 (16 * peak eq most [] (done ++ s ∷ []))
+    at_slots : (list_any is_reserve done ≡ false) × (is_reserve s ≡ false) → (b : Bool) → reserves_or_shrinks s ≡ b → 3 * length after.newer ≤ max 48 (16 * peak eq most [] (done ++ s ∷ []))
     at_slots both true about = more_bound _ _ _ _ (fewer about both.1) (h.slots both.0) rises
     at_slots both false about = elim (moves about) [
       | inl kept ↦ more_bound _ _ _ _ (let e = kept.slots in omega (arith, e)) (h.slots both.0) rises
@@ -177,7 +177,7 @@ module _ {T : Type 0} {eq : T → T → Bool} (laws : IsEquivalence eq) where
     came : newcomers eq (run eq most [] done).0 (step eq (limit_left eq most [] done) (run eq most [] done).0 s).0 ≡ newcomers eq B (step eq m B s).0
     came = newcomers_rearranged laws _ _ _ _ means left
 
-    at_built : (list_any is_about_room done ≡ false) × (is_about_room s ≡ false) → Moves (newcomers eq B (step eq m B s).0) now after → IsCovered eq (arrivals eq most [] (done ++ s ∷ [])) before after
+    at_built : (list_any reserves_or_shrinks done ≡ false) × (reserves_or_shrinks s ≡ false) → Moves (newcomers eq B (step eq m B s).0) now after → IsCovered eq (arrivals eq most [] (done ++ s ∷ [])) before after
     at_built both moved =
         let was = h.built both.0 in
         let k = newcomers eq B (step eq m B s).0 in

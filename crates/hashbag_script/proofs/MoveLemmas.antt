@@ -8,7 +8,7 @@ use Rattle.std.proofs.lemmas.List.Sums.{sum_by-cons}
 use Rattle.std.proofs.lemmas.List.Sorted.{IsPermutation-refl}
 use Rattle.hashbag_table.specs.SlotWords.{Slot, Empty, Removed, Moved, Live}
 use Rattle.hashbag_table.specs.Slots.{is_live, is_removed, live_count, removed_count, recounted}
-use Rattle.hashbag_table.specs.Retained.{slot_kept, RetainsSlots, RetainsTables}
+use Rattle.hashbag_table.specs.Retained.{slot_retained, RetainsSlots, RetainsTables}
 use Rattle.hashbag_table.specs.Tables.{Tables, most_used, room, values, grown_slots, Arrives, KeepsRoom}
 use Rattle.hashbag_table.proofs.RoomKeptLemmas.{IsTaken, kept_Rewrites, keeps_as, keeps_more, keeps_Arrives}
 use Rattle.hashbag_core.specs.Held.{left_in}
@@ -16,7 +16,7 @@ use Rattle.hashbag_core.specs.Occurrences.{count}
 use Rattle.hashbag_core.proofs.HeldLemmas.{room_cleared}
 use Rattle.hashbag_script.specs.declared.script.Step.{Step}
 use Rattle.hashbag_script.specs.declared.script.Step.TheVariants.{Insert, InsertMany, Replace, Remove, RemoveUpTo, TryTake, TakeAll, EntrySet, EntryOr, Retain, Clear, Count, Reserve, ShrinkToFit, Limit}
-use Rattle.hashbag_script.specs.Script.{newcomers, is_about_room}
+use Rattle.hashbag_script.specs.Script.{newcomers, reserves_or_shrinks}
 use Rattle.hashbag_script.specs.Turns.{SetsCount, StoresValue, LeavesTables}
 use Rattle.hashbag_script.proofs.RoomLemmas.{newcomer_there, newcomers_rearranged}
 
@@ -77,7 +77,7 @@ module _ {T : Type 0} where
   live_left true v m n = record { taken = refl; live = omega arith }
   live_left false v m n = record { taken = refl; live = omega arith }
 
-  slot_left_taken : (s : Slot T) (a : ℕ) → KeepsTaken s (slot_kept a s)
+  slot_left_taken : (s : Slot T) (a : ℕ) → KeepsTaken s (slot_retained a s)
   slot_left_taken Empty a = record { taken = refl; live = omega arith }
   slot_left_taken Removed a = record { taken = refl; live = omega arith }
   slot_left_taken Moved a = record { taken = refl; live = omega arith }
@@ -140,7 +140,7 @@ module _ {T : Type 0} {eq : T → T → Bool} (laws : IsEquivalence eq) where
           ]
     ]
 
-    moves_step : (s : Step T) → is_about_room s ≡ false → LeavesTables eq B C s old new → Moves (newcomers eq B C) old new
+    moves_step : (s : Step T) → reserves_or_shrinks s ≡ false → LeavesTables eq B C s old new → Moves (newcomers eq B C) old new
     moves_step (Insert v) quiet leaves = moves_set v leaves
     moves_step (InsertMany v n) quiet leaves = moves_set v leaves
     moves_step (Replace v) quiet leaves = moves_stored v leaves
@@ -157,7 +157,7 @@ module _ {T : Type 0} {eq : T → T → Bool} (laws : IsEquivalence eq) where
     moves_step ShrinkToFit quiet leaves = absurd (false≢true (sym quiet))
     moves_step (Limit n) quiet leaves = moves_same _ old new leaves
 
-  -- a step that isn't about room, which made the list C of B, where Y is C but for its order
-  pub moves_left : (B Y C : List T) (s : Step T) (old new : Tables T) → IsPermutation Y C → is_about_room s ≡ false → LeavesTables eq B C s old new → Moves (newcomers eq B Y) old new
+  -- a step that neither reserves nor shrinks, which made the list C of B, where Y is C but for its order
+  pub moves_left : (B Y C : List T) (s : Step T) (old new : Tables T) → IsPermutation Y C → reserves_or_shrinks s ≡ false → LeavesTables eq B C s old new → Moves (newcomers eq B Y) old new
   moves_left B Y C s old new left quiet leaves =
       subst (λ (k : ℕ). Moves k old new) (sym (newcomers_rearranged laws B B Y C (IsPermutation-refl B) left)) (moves_step B C old new s quiet leaves)

@@ -1,4 +1,4 @@
--- A list of which each value keeps at most so many.
+-- A list of which each value keeps at most a given number of occurrences.
 use Rattle.std.proofs.Common.{◌≡◌, ℕ, zero, suc, ◌+◌, min, nat_lt, ltb, Bool, true, false, cond, List, [], ◌∷◌, ◌++◌, replicate, map, find, option_map, unwrap_or, All, refl, sym, ◌∙◌, ap, subst, arith}
 use borrow.Author.Tests.{ltb-true, ltb-false}
 use Rattle.std.specs.Cmp.{IsEquivalence}
@@ -9,7 +9,7 @@ use Rattle.std.proofs.lemmas.List.{map-id}
 use Rattle.std.proofs.lemmas.List.Elements.{All-weaker}
 use Rattle.std.proofs.lemmas.List.Sorted.{IsPermutation-refl, IsPermutation-sym, IsPermutation-trans, IsPermutation-cons, IsPermutation-middle, All-permutation}
 use Rattle.std.proofs.lemmas.Map.Keys.{IsDistinct-head, IsDistinct-tail}
-use Rattle.hashbag_table.specs.Asked.{kept}
+use Rattle.hashbag_table.specs.Returned.{retained_entries}
 use Rattle.hashbag_table.proofs.ListLemmas.{along_permutation, IsPermutation-same}
 use Rattle.hashbag_core.specs.Bag.{Bag, occurrences, IsBagOf}
 use Rattle.hashbag_core.specs.Occurrences.{count, IsBag, IsOneInstanceEach}
@@ -132,26 +132,26 @@ module _ {T : Type 0} {eq : T → T → Bool} (laws : IsEquivalence eq) where
     absent v (y ∷ X) h = count_past v y X (h 0 y (omega arith)) ∙ absent v X (λ k d below. h (suc k) d (omega arith))
 
     -- what is kept of the occurrences of a map, where no two values are equal
-    pub retained_occurrences : (es : List (T × ℕ)) → IsDistinct eq (keys_of es) → retained eq many (occurrences es) ≡ occurrences (kept es (map (λ e. many e.0) es))
+    pub retained_occurrences : (es : List (T × ℕ)) → IsDistinct eq (keys_of es) → retained eq many (occurrences es) ≡ occurrences (retained_entries es (map (λ e. many e.0) es))
     retained_occurrences [] distinct = refl
     retained_occurrences (e ∷ es) distinct =
         let none = absent e.0 (occurrences es) (all_occurrences laws (λ y. eq e.0 y ≡ false) es (IsDistinct-head eq e.0 (keys_of es) distinct)) in
         copies_kept e.1 e.0 (occurrences es) none
         ∙ ap (λ (l : List T). replicate (min (many e.0) e.1) e.0 ++ l) (retained_occurrences es (IsDistinct-tail eq e.0 (keys_of es) distinct))
-        ∙ entry_kept (nat_lt 0 (min (many e.0) e.1)) e.0 (min (many e.0) e.1) (kept es (map (λ e. many e.0) es)) refl
+        ∙ entry_kept (nat_lt 0 (min (many e.0) e.1)) e.0 (min (many e.0) e.1) (retained_entries es (map (λ e. many e.0) es)) refl
 
     walk_distinct : (X : List T) (W : List (T × ℕ)) → IsSetWalk eq X W → IsDistinct eq (keys_of W)
     walk_distinct X W walk =
         let keys : keys_of W ≡ walk.values = ap (λ (l : List (T × ℕ)). keys_of l) walk.counts ∙ map-map (λ v. (v, count eq v X)) (λ e. e.0) walk.values ∙ map-id walk.values in
         subst (λ (l : List T). IsDistinct eq l) (sym keys) walk.each.once
 
-    -- what is left of a bag of which each value keeps at most so many
-    pub retained_of_bag : {S : Type 0} (before after : Bag T S) (W : List (T × ℕ)) (answers : List ℕ) → IsBag eq before.most before.items → IsSetWalkOf eq before W → answers ≡ map (λ e. many e.0) W
-        → IsBagOf eq before (occurrences (kept W answers)) after → IsBagOf eq before (retained eq many before.items) after
-    retained_of_bag before after W answers bag walk are left = record {
+    -- what is left of a bag of which each value keeps at most a given number
+    pub retained_of_bag : {S : Type 0} (before after : Bag T S) (W : List (T × ℕ)) (returned : List ℕ) → IsBag eq before.most before.items → IsSetWalkOf eq before W → returned ≡ map (λ e. many e.0) W
+        → IsBagOf eq before (occurrences (retained_entries W returned)) after → IsBagOf eq before (retained eq many before.items) after
+    retained_of_bag before after W returned bag walk are left = record {
       means =
           IsPermutation-trans _ _ _ (retained_rearranged before.items (occurrences W) (IsPermutation-sym _ _ walk.means) bag.one_instance)
-          (IsPermutation-trans _ _ _ (IsPermutation-same _ _ (retained_occurrences W (walk_distinct before.items W (walk.walk before.items (IsPermutation-refl _))) ∙ ap (λ (a : List ℕ). occurrences (kept W a)) (sym are))) left.means);
+          (IsPermutation-trans _ _ _ (IsPermutation-same _ _ (retained_occurrences W (walk_distinct before.items W (walk.walk before.items (IsPermutation-refl _))) ∙ ap (λ (a : List ℕ). occurrences (retained_entries W a)) (sym are))) left.means);
       hasher = left.hasher;
       limit = left.limit;
       bag = left.bag;

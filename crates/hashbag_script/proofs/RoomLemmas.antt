@@ -11,7 +11,7 @@ use Rattle.hashbag_core.proofs.OccurrenceLemmas.{count_rearranged, put_absent}
 use Rattle.hashbag_script.specs.declared.script.Step.{Step}
 use Rattle.hashbag_script.specs.declared.script.Reply.{Reply}
 use Rattle.hashbag_script.specs.declared.script.Reply.TheVariants.{Count, TooMany}
-use Rattle.hashbag_script.specs.Script.{step, limit_after, limit_left, run, arrivals, newcomers, has_newcomer, is_about_room, IsRoomy}
+use Rattle.hashbag_script.specs.Script.{step, limit_after, limit_left, run, arrivals, newcomers, has_newcomer, reserves_or_shrinks, IsRoomy}
 use Rattle.hashbag_script.specs.Rows.{insert_row, replace_row, entry_or_row}
 use Rattle.hashbag_script.proofs.DistinctOrder.{count_alike, other_counts}
 use Rattle.hashbag_script.proofs.RowLemmas.{not_above, entry_or_row-vacant}
@@ -36,11 +36,11 @@ or_false_right : (a b : Bool) → (a || b) ≡ false → b ≡ false
 or_false_right true b h = absurd (cc)
 or_false_right false b h = h
 
--- no step of a run is about room, so neither is the next one, nor are those after it
+-- no step of a run reserves or shrinks, so neither does the next one, nor do those after it
 module _ {T : Type 0} where
-  pub first_not_about : (done rest : List (Step T)) (s : Step T) → list_any is_about_room (done ++ s ∷ rest) ≡ false → is_about_room s ≡ false
-  first_not_about done rest s h =
-      or_false_left (is_about_room s) (list_any is_about_room rest) (or_false_right (list_any is_about_room done) (list_any is_about_room (s ∷ rest)) (sym (list_any-append is_about_room done (s ∷ rest)) ∙ h))
+  pub neither_at : (done rest : List (Step T)) (s : Step T) → list_any reserves_or_shrinks (done ++ s ∷ rest) ≡ false → reserves_or_shrinks s ≡ false
+  neither_at done rest s h =
+      or_false_left (reserves_or_shrinks s) (list_any reserves_or_shrinks rest) (or_false_right (list_any reserves_or_shrinks done) (list_any reserves_or_shrinks (s ∷ rest)) (sym (list_any-append reserves_or_shrinks done (s ∷ rest)) ∙ h))
 
 module _ {T : Type 0} (eq : T → T → Bool) where
   -- after the steps that were done there is room for what the others bring in, and there are as many slots

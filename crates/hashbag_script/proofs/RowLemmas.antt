@@ -12,7 +12,7 @@ use Rattle.hashbag_script.specs.declared.script.Reply.TheVariants.{Count, Left, 
 use Rattle.hashbag_core.specs.Bag.{Bag, IsBagOf}
 use Rattle.hashbag_core.specs.Occurrences.{count, instance_or_itself, stored, add, less, put, IsBag}
 use Rattle.hashbag_script.specs.Rows.{insert_row, replace_row, try_take_row, take_all_row, entry_set_row, entry_or_row, quota}
-use Rattle.hashbag_script.specs.Script.{step, limit_after, AsksForMemory, NeedsMemory, MayShrink}
+use Rattle.hashbag_script.specs.Script.{step, limit_after, MayAllocate, NeedsMemory, MayShrink}
 use Rattle.hashbag_table.specs.Tables.{Tables, IsLeast}
 use Rattle.std.proofs.lemmas.List.{nil_from_length}
 use Rattle.hashbag_script.proofs.DistinctOrder.{distinct_rearranged}
@@ -146,13 +146,13 @@ module _ {T : Type 0} {eq : T → T → Bool} (laws : IsEquivalence eq) {most : 
   limit_rearranged ShrinkToFit = refl
   limit_rearranged (Limit n) = ap (λ (k : ℕ). cond (nat_lt n k) most n) long
 
-  refused_rearranged : (v : T) (n : ℕ) → NeedsMemory eq most v n Y → NeedsMemory eq most v n X
-  refused_rearranged v n refused =
+  needs_rearranged : (v : T) (n : ℕ) → NeedsMemory eq most v n Y → NeedsMemory eq most v n X
+  needs_rearranged v n needs =
       let same = often v in
       let as_long = long in
-      let absent = refused.absent in
-      let fits = refused.fits in
-      record { absent = omega arith; some = refused.some; fits = omega arith }
+      let absent = needs.absent in
+      let fits = needs.fits in
+      record { absent = omega arith; some = needs.some; fits = omega arith }
 
   shrink_rearranged : (tables : Tables T) → MayShrink eq Y tables → MayShrink eq X tables
   shrink_rearranged tables may = record {
@@ -160,17 +160,17 @@ module _ {T : Type 0} {eq : T → T → Bool} (laws : IsEquivalence eq) {most : 
     smaller = λ m least. may.smaller m (subst (λ (k : ℕ). IsLeast 0 k m) (distinct_rearranged laws X Y h) least);
   }
 
-  -- what asks for memory does so whatever the order of the list
-  pub asks_rearranged : (tables : Tables T) (s : Step T) → AsksForMemory eq most Y tables s → AsksForMemory eq most X tables s
-  asks_rearranged tables (Insert v) asks = refused_rearranged v 1 asks
-  asks_rearranged tables (InsertMany v n) asks = refused_rearranged v n asks
-  asks_rearranged tables (Replace v) asks = refused_rearranged v 1 asks
+  -- what may allocate may do so whatever the order of the list
+  pub asks_rearranged : (tables : Tables T) (s : Step T) → MayAllocate eq most Y tables s → MayAllocate eq most X tables s
+  asks_rearranged tables (Insert v) asks = needs_rearranged v 1 asks
+  asks_rearranged tables (InsertMany v n) asks = needs_rearranged v n asks
+  asks_rearranged tables (Replace v) asks = needs_rearranged v 1 asks
   asks_rearranged tables (Remove v) asks = asks
   asks_rearranged tables (RemoveUpTo v q) asks = asks
   asks_rearranged tables (TryTake v) asks = asks
   asks_rearranged tables (TakeAll v) asks = asks
   asks_rearranged tables (EntrySet v n) asks = asks
-  asks_rearranged tables (EntryOr v q) asks = refused_rearranged v q asks
+  asks_rearranged tables (EntryOr v q) asks = needs_rearranged v q asks
   asks_rearranged tables (Retain list) asks = asks
   asks_rearranged tables Clear asks = asks
   asks_rearranged tables (CountStep v) asks = asks

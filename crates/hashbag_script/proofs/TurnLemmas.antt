@@ -10,7 +10,7 @@ use Rattle.hashbag_script.specs.declared.script.Step.{Step}
 use Rattle.hashbag_script.specs.declared.script.Reply.{Reply}
 use Rattle.hashbag_script.specs.Pairs.{ran}
 use Rattle.hashbag_script.specs.Script.{step, limit_after, limit_left, run}
-use Rattle.hashbag_script.specs.Turns.{LeavesTables, Hold, TablesInTurn, AreTablesInTurn, IsBoundedRun}
+use Rattle.hashbag_script.specs.Turns.{LeavesTables, TablesHold, TablesInTurn, AreTablesInTurn, IsBoundedRun}
 use Rattle.hashbag_script.proofs.BoundLemmas.{are_answered, bounded_from, no_slots_paid, unanswered}
 use Rattle.hashbag_script.proofs.DistinctOrder.{distinct_rearranged}
 
@@ -25,10 +25,10 @@ on_ok_all P Q R W (Err e) p q h all = tt
 
 module _ {T : Type 0} (eq : T → T → Bool) where
   -- one more step at the end of a run
-  pub in_turn_more : (most : ℕ) (X : List T) (done : List (Step T)) (s : Step T) (old now new : Tables T) → TablesInTurn eq most X done old now → Hold eq (run eq most X done).0 now
+  pub in_turn_more : (most : ℕ) (X : List T) (done : List (Step T)) (s : Step T) (old now new : Tables T) → TablesInTurn eq most X done old now → TablesHold eq (run eq most X done).0 now
       → LeavesTables eq (run eq most X done).0 (step eq (limit_left eq most X done) (run eq most X done).0 s).0 s now new → TablesInTurn eq most X (done ++ s ∷ []) old new
   unfolding run limit_left
-  in_turn_more most X [] s old now new before hold turns = (new, subst (λ t. Hold eq X t) before hold, subst (λ t. LeavesTables eq X (step eq most X s).0 s t new) before turns, refl)
+  in_turn_more most X [] s old now new before hold turns = (new, subst (λ t. TablesHold eq X t) before hold, subst (λ t. LeavesTables eq X (step eq most X s).0 s t new) before turns, refl)
   in_turn_more most X (r ∷ done) s old now new before hold turns = (before.0, before.1, before.2, in_turn_more (limit_after eq most X r) (step eq most X r).0 done s before.0 now new before.3 hold turns)
 
   -- the steps that have replies are those that were done
@@ -48,5 +48,5 @@ module _ {T : Type 0} (eq : T → T → Bool) where
 
 module _ {T : Type 0} {eq : T → T → Bool} (laws : IsEquivalence eq) where
   -- whatever the order of the list
-  pub hold_rearranged : (X B : List T) (t : Tables T) → IsPermutation X B → AreHeld eq B t → values t ≡ distinct_count eq B → Hold eq X t
+  pub hold_rearranged : (X B : List T) (t : Tables T) → IsPermutation X B → AreHeld eq B t → values t ≡ distinct_count eq B → TablesHold eq X t
   hold_rearranged X B t means held number = record { items = B; means = means; held = held; number = number ∙ sym (distinct_rearranged laws X B means) }

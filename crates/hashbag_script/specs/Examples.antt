@@ -6,13 +6,13 @@ use lib.Pow.{pow_mono}
 use Rattle.hashbag_table.specs.SlotWords.{Empty, Live}
 use Rattle.hashbag_table.specs.Slots.{is_live, slot_at}
 use Rattle.hashbag_table.specs.Tables.{Tables, room, fresh, Fills, IsLeast}
-use Rattle.hashbag_core.specs.Held.{no_slots}
+use Rattle.hashbag_core.specs.Held.{no_slots_after_building}
 use Rattle.hashbag_core.specs.Examples.{same_key, bag}
 use Rattle.hashbag_script.specs.declared.script.Step.TheVariants.{Insert, InsertMany, Remove, Clear, Count as CountStep, Reserve, ShrinkToFit}
 use Rattle.hashbag_script.specs.declared.script.Reply.TheVariants.{Count, Left, Taken, Absent, Done, TooMany}
 use Rattle.hashbag_core.specs.Occurrences.{greatest_total}
 use Rattle.hashbag_script.specs.Rows.{insert_row, replace_row, remove_row, remove_up_to_row, try_take_row, take_all_row, entry_set_row, entry_or_row, quota, retained, retain_row, clear_row, count_row, reserve_row, shrink_to_fit_row}
-use Rattle.hashbag_script.specs.Script.{step, run, peak, arrivals, has_newcomer, newcomers, is_about_room, IsRoomy, AsksForMemory}
+use Rattle.hashbag_script.specs.Script.{step, run, peak, arrivals, has_newcomer, newcomers, reserves_or_shrinks, IsRoomy, MayAllocate}
 use Rattle.hashbag_script.specs.Turns.{LeavesTables}
 
 -- ---- the table of steps
@@ -111,15 +111,15 @@ no_newcomer = refl
 
 -- ---- runs in reserved room
 
-room_asked : list_any (is_about_room {T = ℕ × ℕ}) (Insert (1, 10) ∷ Reserve 5 ∷ []) ≡ Bool.true
+room_asked : list_any (reserves_or_shrinks {T = ℕ × ℕ}) (Insert (1, 10) ∷ Reserve 5 ∷ []) ≡ Bool.true
 room_asked = refl
 
-no_room_asked : list_any (is_about_room {T = ℕ × ℕ}) (Insert (1, 10) ∷ Remove (1, 0) ∷ Clear ∷ []) ≡ Bool.false
+no_room_asked : list_any (reserves_or_shrinks {T = ℕ × ℕ}) (Insert (1, 10) ∷ Remove (1, 0) ∷ Clear ∷ []) ≡ Bool.false
 no_room_asked = refl
 
 -- 16 slots, all of them Empty, as the first insertion builds them: room for 12
 abbrev sixteen : Tables (ℕ × ℕ)
-sixteen = record { newer = fresh (no_slots 0); waiting = []; older = 0; built = 16 }
+sixteen = record { newer = fresh (no_slots_after_building 0); waiting = []; older = 0; built = 16 }
 
 room_for_twelve : room sixteen ≡ 12
 room_for_twelve = refl
@@ -147,7 +147,7 @@ abbrev first_place : List ℕ
 first_place = 0 ∷ []
 
 first_filled : Fills 17 carrying.newer carried.newer
-first_filled = record { same_length = refl; places = first_place; few = omega arith; each = at }
+first_filled = record { same_length = refl; places = first_place; at_most = omega arith; each = at }
   where
     at : (p : ℕ) → (slot_at carried.newer p ≡ slot_at carrying.newer p) ⊎ (((i : ℕ) × (i < length first_place) × (slice_index first_place i ≡ p)) × (is_live (slot_at carrying.newer p) ≡ false) × (is_live (slot_at carried.newer p) ≡ true))
     at zero = inr ((0, lit< tt, refl), refl, refl)
@@ -186,13 +186,13 @@ asked = refl
 
 -- ---- what may fail for want of memory
 
-reserve_in_room : AsksForMemory same_key greatest_total [] sixteen (Reserve 12) → ⊥
+reserve_in_room : MayAllocate same_key greatest_total [] sixteen (Reserve 12) → ⊥
 reserve_in_room asks = omega (arith, asks)
 
-reserve_past_room : AsksForMemory same_key greatest_total [] sixteen (Reserve 13)
+reserve_past_room : MayAllocate same_key greatest_total [] sixteen (Reserve 13)
 reserve_past_room = omega arith
 
-no_value_to_shrink : AsksForMemory same_key greatest_total [] sixteen ShrinkToFit → ⊥
+no_value_to_shrink : MayAllocate same_key greatest_total [] sixteen ShrinkToFit → ⊥
 no_value_to_shrink asks = asks.some refl
 
 least_for_1 : IsLeast 0 1 16
@@ -208,10 +208,10 @@ least_for_1 = record {
 }
 
 -- 16 slots are the least for one value, and 32 are more
-no_slot_to_shrink : AsksForMemory same_key greatest_total ((1, 10) ∷ []) sixteen ShrinkToFit → ⊥
+no_slot_to_shrink : MayAllocate same_key greatest_total ((1, 10) ∷ []) sixteen ShrinkToFit → ⊥
 no_slot_to_shrink asks = let fewer = asks.smaller 16 least_for_1 in omega (arith, fewer)
 
-slots_to_shrink : AsksForMemory same_key greatest_total ((1, 10) ∷ []) carried ShrinkToFit
+slots_to_shrink : MayAllocate same_key greatest_total ((1, 10) ∷ []) carried ShrinkToFit
 slots_to_shrink = record {
   some = λ none. (cc);
   smaller = λ m least. let few = least.least 16 least_for_1.count (omega arith) (omega arith) in omega (arith, few);

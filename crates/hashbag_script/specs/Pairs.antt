@@ -3,7 +3,7 @@ use Rattle.std.specs.Prelude.{◌≡◌, ◌+◌, ◌<◌, Bool, List, ◌++◌,
 use Rattle.hashbag_script.specs.declared.script.Step.{Step}
 use Rattle.hashbag_script.specs.declared.script.Reply.{Reply}
 use Rattle.hashbag_core.specs.Bag.{Bag, Means}
-use Rattle.hashbag_script.specs.Script.{run, limit_left, IsStopped}
+use Rattle.hashbag_script.specs.Script.{run, limit_left, IsStoppedFrom}
 
 -- what a run of steps on a bag began with, and what it left
 pub record Ran (T S : Type 0) : Type 0 where
@@ -46,21 +46,21 @@ module _ {T : Type 0} (eq : T → T → Bool) where
   IsDone r = (X : List T) → Means r.before X → IsDoneFrom X r
 
   -- a failed allocation stopped the run at a step, whichever list the bag meant
-  abbrev pub IsCutOff : {S : Type 0} → Ran T S → Type 0
-  IsCutOff r = (X : List T) → Means r.before X → IsStopped eq r.before.most X r.steps r.replies_before r.replies_after r.after
+  abbrev pub IsStopped : {S : Type 0} → Ran T S → Type 0
+  IsStopped r = (X : List T) → Means r.before X → IsStoppedFrom eq r.before.most X r.steps r.replies_before r.replies_after r.after
 
   -- a failed allocation stopped the run: before the first step, since there was no room for the replies; or at a step
-  abbrev pub IsRunCutOff : {S : Type 0} → Type 0 → Ran T S → Type 0
-  IsRunCutOff NoRoom r = IsNotBegun NoRoom r ⊎ IsCutOff r
+  abbrev pub IsNotBegunOrStopped : {S : Type 0} → Type 0 → Ran T S → Type 0
+  IsNotBegunOrStopped NoRoom r = IsNotBegun NoRoom r ⊎ IsStopped r
 
   -- a failed allocation stopped the runs of two bags: before the first step, since there was no room for the replies; or in the first
   -- run, and the second bag is untouched; or in the second run, and the first was done
-  abbrev pub IsPairCutOff : {S S2 : Type 0} → Type 0 → Ran T S → Ran T S2 → Type 0
-  IsPairCutOff NoRoom r q = IsPairNotBegun NoRoom r q ⊎ ((IsCutOff r × IsUntouched q) ⊎ (IsDone r × IsCutOff q))
+  abbrev pub IsPairNotBegunOrStopped : {S S2 : Type 0} → Type 0 → Ran T S → Ran T S2 → Type 0
+  IsPairNotBegunOrStopped NoRoom r q = IsPairNotBegun NoRoom r q ⊎ ((IsStopped r × IsUntouched q) ⊎ (IsDone r × IsStopped q))
 
   -- a failed allocation stopped the runs of two bags; or both were done, and a failed allocation stopped what comes after them
-  abbrev pub IsCutOffAfter : {S S2 : Type 0} → Type 0 → Ran T S → Ran T S2 → Type 0
-  IsCutOffAfter NoRoom r q = IsPairCutOff NoRoom r q ⊎ (IsDone r × IsDone q)
+  abbrev pub IsPairStoppedOrRest : {S S2 : Type 0} → Type 0 → Ran T S → Ran T S2 → Type 0
+  IsPairStoppedOrRest NoRoom r q = IsPairNotBegunOrStopped NoRoom r q ⊎ (IsDone r × IsDone q)
 
 -- ---- of bags and of `Vec`s: before and after a call
 
@@ -79,12 +79,12 @@ Stays before after old new = (after ≡ before) × (new.items ≡ old.items)
 module _ {T : Type 0} (eq : T → T → Bool) where
   -- a failed allocation stopped a run: the allocation for the replies, or one in a step
   abbrev pub IsStoppedRun : {S A B : Type 0} → Bag T S → Bag T S → Vec (Step T) A → Vec (Reply T) B → Vec (Reply T) B → Type 0
-  IsStoppedRun before after steps old new = IsRunCutOff eq (HasNoRoom old steps) (ran before after steps.items old.items new.items)
+  IsStoppedRun before after steps old new = IsNotBegunOrStopped eq (HasNoRoom old steps) (ran before after steps.items old.items new.items)
 
   -- a failed allocation stopped two runs, one after the other: one for the replies, or one in a step of the first run or of the second
   abbrev pub AreStoppedRuns : {S S2 A A2 B B2 : Type 0} → Bag T S → Bag T S → Vec (Step T) A → Vec (Reply T) B → Vec (Reply T) B → Bag T S2 → Bag T S2 → Vec (Step T) A2 → Vec (Reply T) B2 → Vec (Reply T) B2 → Type 0
-  AreStoppedRuns before after steps old new before2 after2 steps2 old2 new2 = IsPairCutOff eq (LackRoom old steps old2 steps2) (ran before after steps.items old.items new.items) (ran before2 after2 steps2.items old2.items new2.items)
+  AreStoppedRuns before after steps old new before2 after2 steps2 old2 new2 = IsPairNotBegunOrStopped eq (LackRoom old steps old2 steps2) (ran before after steps.items old.items new.items) (ran before2 after2 steps2.items old2.items new2.items)
 
   -- a failed allocation stopped two runs as `AreStoppedRuns` says, or stopped what comes after both
   abbrev pub AreStoppedRunsOrRest : {S S2 A A2 B B2 : Type 0} → Bag T S → Bag T S → Vec (Step T) A → Vec (Reply T) B → Vec (Reply T) B → Bag T S2 → Bag T S2 → Vec (Step T) A2 → Vec (Reply T) B2 → Vec (Reply T) B2 → Type 0
-  AreStoppedRunsOrRest before after steps old new before2 after2 steps2 old2 new2 = IsCutOffAfter eq (LackRoom old steps old2 steps2) (ran before after steps.items old.items new.items) (ran before2 after2 steps2.items old2.items new2.items)
+  AreStoppedRunsOrRest before after steps old new before2 after2 steps2 old2 new2 = IsPairStoppedOrRest eq (LackRoom old steps old2 steps2) (ran before after steps.items old.items new.items) (ran before2 after2 steps2.items old2.items new2.items)

@@ -15,22 +15,22 @@ Steps T = List (Step T)
 
 module _ {T : Type 0} where
   -- whether the step reserves room, or gives it back
-  abbrev pub is_about_room : Step T → Bool
-  is_about_room (Insert v) = false
-  is_about_room (InsertMany v n) = false
-  is_about_room (Replace v) = false
-  is_about_room (Remove v) = false
-  is_about_room (RemoveUpTo v q) = false
-  is_about_room (TryTake v) = false
-  is_about_room (TakeAll v) = false
-  is_about_room (EntrySet v n) = false
-  is_about_room (EntryOr v q) = false
-  is_about_room (Retain list) = false
-  is_about_room Clear = false
-  is_about_room (Count v) = false
-  is_about_room (Reserve n) = true
-  is_about_room ShrinkToFit = true
-  is_about_room (Limit n) = false
+  abbrev pub reserves_or_shrinks : Step T → Bool
+  reserves_or_shrinks (Insert v) = false
+  reserves_or_shrinks (InsertMany v n) = false
+  reserves_or_shrinks (Replace v) = false
+  reserves_or_shrinks (Remove v) = false
+  reserves_or_shrinks (RemoveUpTo v q) = false
+  reserves_or_shrinks (TryTake v) = false
+  reserves_or_shrinks (TakeAll v) = false
+  reserves_or_shrinks (EntrySet v n) = false
+  reserves_or_shrinks (EntryOr v q) = false
+  reserves_or_shrinks (Retain list) = false
+  reserves_or_shrinks Clear = false
+  reserves_or_shrinks (Count v) = false
+  reserves_or_shrinks (Reserve n) = true
+  reserves_or_shrinks ShrinkToFit = true
+  reserves_or_shrinks (Limit n) = false
 
   -- whether the step reserves room
   abbrev pub is_reserve : Step T → Bool
@@ -52,7 +52,7 @@ module _ {T : Type 0} where
 
   -- a `ShrinkToFit` makes no larger table
   abbrev pub ShrinksSlots : {S : Type 0} → Step T → Bag T S → Bag T S → Type 0
-  ShrinksSlots s before after = is_about_room s ≡ true → is_reserve s ≡ false → length after.tables.newer ≤ length before.tables.newer
+  ShrinksSlots s before after = reserves_or_shrinks s ≡ true → is_reserve s ≡ false → length after.tables.newer ≤ length before.tables.newer
 
 module _ {T : Type 0} (eq : T → T → Bool) where
   -- the list that X becomes by a step, in a bag with the limit `most`, and the step's reply
@@ -160,12 +160,12 @@ module _ {T : Type 0} (eq : T → T → Bool) where
       let Y = (step most X s).0 in
       newcomers X Y + arrivals (limit_after most X s) Y steps
 
-  -- no step is about room, and the tables have room for all values that arrive in the run
+  -- no step reserves or shrinks, and the tables have room for all values that arrive in the run
   pub record IsRoomy (most : ℕ) (X : List T) (steps : List (Step T)) (tables : Tables T) : Type 0 where
-    pub calls : list_any is_about_room steps ≡ false
+    pub calls : list_any reserves_or_shrinks steps ≡ false
     pub enough : arrivals most X steps ≤ room tables
 
-  -- P holds if no step is about room and the bag has room for all values that arrive in the run, whichever list the bag means
+  -- P holds if no step reserves or shrinks and the bag has room for all values that arrive in the run, whichever list the bag means
   abbrev pub IfRoomy : {S : Type 0} → Bag T S → List (Step T) → Type 0 → Type 0
   IfRoomy bag steps P = (X : List T) → Means bag X → IsRoomy bag.most X steps bag.tables → P
 
@@ -183,7 +183,7 @@ module _ {T : Type 0} (eq : T → T → Bool) where
   pub record IsBounded (most : ℕ) (steps : List (Step T)) (old new : Tables T) : Type 0 where
     pub slots : list_any is_reserve steps ≡ false → 3 * length new.newer ≤ max 48 (16 * peak most [] steps)
     pub smaller : 0 < length new.waiting → length new.waiting + 16 ≤ length new.newer
-    pub built : list_any is_about_room steps ≡ false → (b : ℕ) × (new.built ≡ old.built + b) × (3 * b ≤ 48 + 16 * arrivals most [] steps)
+    pub built : list_any reserves_or_shrinks steps ≡ false → (b : ℕ) × (new.built ≡ old.built + b) × (3 * b ≤ 48 + 16 * arrivals most [] steps)
 
   -- an insertion that can fail only with `Memory`: n > 0 of a value that is absent, with a total that fits
   pub record NeedsMemory (most : ℕ) (v : T) (n : ℕ) (X : List T) : Type 0 where
@@ -198,26 +198,26 @@ module _ {T : Type 0} (eq : T → T → Bool) where
 
   -- a step that may allocate: an insertion or a replacement of an absent value whose total fits; `Reserve` of more room than there is; and
   -- `ShrinkToFit` of tables that it may shrink
-  abbrev pub AsksForMemory : ℕ → List T → Tables T → Step T → Type 0
-  AsksForMemory most X tables (Insert v) = NeedsMemory most v 1 X
-  AsksForMemory most X tables (InsertMany v n) = NeedsMemory most v n X
-  AsksForMemory most X tables (Replace v) = NeedsMemory most v 1 X
-  AsksForMemory most X tables (Remove v) = ⊥
-  AsksForMemory most X tables (RemoveUpTo v q) = ⊥
-  AsksForMemory most X tables (TryTake v) = ⊥
-  AsksForMemory most X tables (TakeAll v) = ⊥
-  AsksForMemory most X tables (EntrySet v n) = ⊥
-  AsksForMemory most X tables (EntryOr v q) = NeedsMemory most v q X
-  AsksForMemory most X tables (Retain list) = ⊥
-  AsksForMemory most X tables Clear = ⊥
-  AsksForMemory most X tables (Count v) = ⊥
-  AsksForMemory most X tables (Reserve n) = room tables < n
-  AsksForMemory most X tables ShrinkToFit = MayShrink X tables
-  AsksForMemory most X tables (Limit n) = ⊥
+  abbrev pub MayAllocate : ℕ → List T → Tables T → Step T → Type 0
+  MayAllocate most X tables (Insert v) = NeedsMemory most v 1 X
+  MayAllocate most X tables (InsertMany v n) = NeedsMemory most v n X
+  MayAllocate most X tables (Replace v) = NeedsMemory most v 1 X
+  MayAllocate most X tables (Remove v) = ⊥
+  MayAllocate most X tables (RemoveUpTo v q) = ⊥
+  MayAllocate most X tables (TryTake v) = ⊥
+  MayAllocate most X tables (TakeAll v) = ⊥
+  MayAllocate most X tables (EntrySet v n) = ⊥
+  MayAllocate most X tables (EntryOr v q) = NeedsMemory most v q X
+  MayAllocate most X tables (Retain list) = ⊥
+  MayAllocate most X tables Clear = ⊥
+  MayAllocate most X tables (Count v) = ⊥
+  MayAllocate most X tables (Reserve n) = room tables < n
+  MayAllocate most X tables ShrinkToFit = MayShrink X tables
+  MayAllocate most X tables (Limit n) = ⊥
 
   -- a run that a failed allocation stopped. The steps before have replies, and the bag means what they left. The next step is one that may allocate
-  -- (`AsksForMemory`), with the tables as it found them. Unless that step is `Reserve` or `ShrinkToFit`, room was 0
-  pub record IsStopped {S : Type 0} (most : ℕ) (X : List T) (steps : List (Step T)) (before after : List (Reply T)) (bag : Bag T S) : Type 0 where
+  -- (`MayAllocate`), with the tables as it found them. Unless that step is `Reserve` or `ShrinkToFit`, room was 0
+  pub record IsStoppedFrom {S : Type 0} (most : ℕ) (X : List T) (steps : List (Step T)) (before after : List (Reply T)) (bag : Bag T S) : Type 0 where
     pub done : List (Step T)
     pub stopped_at : Step T
     pub dropped : List (Step T)
@@ -225,5 +225,5 @@ module _ {T : Type 0} (eq : T → T → Bool) where
     pub replies : after ≡ before ++ (run most X done).1
     pub means : Means bag (run most X done).0
     pub limit : bag.most ≡ limit_left most X done
-    pub refused : AsksForMemory (limit_left most X done) (run most X done).0 bag.tables stopped_at
-    pub full : is_about_room stopped_at ≡ false → room bag.tables ≡ 0
+    pub may_allocate : MayAllocate (limit_left most X done) (run most X done).0 bag.tables stopped_at
+    pub full : reserves_or_shrinks stopped_at ≡ false → room bag.tables ≡ 0

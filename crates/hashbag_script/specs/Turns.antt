@@ -4,7 +4,7 @@ use Rattle.std.specs.List.Sorted.{IsPermutation}
 use Rattle.hashbag_table.specs.Tables.{Tables, values, Arrives, ReservesOrStays, ShrinksOrStays}
 use Rattle.hashbag_table.specs.Retained.{RetainsTables}
 use Rattle.hashbag_core.specs.Bag.{Bag, Means}
-use Rattle.hashbag_core.specs.Held.{AreHeld, Recounts, StoresOver, no_slots, cleared}
+use Rattle.hashbag_core.specs.Held.{AreHeld, Recounts, StoresOver, no_slots_after_building, cleared}
 use Rattle.hashbag_core.specs.Occurrences.{count, distinct_count}
 use Rattle.hashbag_script.specs.declared.script.Step.{Step}
 use Rattle.hashbag_script.specs.declared.script.Step.TheVariants.{Insert, InsertMany, Replace, Remove, RemoveUpTo, TryTake, TakeAll, EntrySet, EntryOr, Retain, Clear, Count, Reserve, ShrinkToFit, Limit}
@@ -35,7 +35,7 @@ module _ {T : Type 0} (eq : T → T → Bool) where
 
   -- how `shrink_to_fit` changes the tables of a bag that means X
   pub record Shrinks (X : List T) (old new : Tables T) : Type 0 where
-    pub none : X ≡ [] → new ≡ no_slots old.built
+    pub none : X ≡ [] → new ≡ no_slots_after_building old.built
     pub shrinks : ShrinksOrStays (distinct_count eq X) old new
 
   -- How a step changes the tables, if it turned the list X into Y. A step on a value changes the tables for that value alone. `Retain` changes
@@ -64,7 +64,7 @@ module _ {T : Type 0} (eq : T → T → Bool) where
 
   -- the tables hold the list X, in whichever order: its values with their counts are the Live slots. There are as many Live slots as X has distinct
   -- values
-  pub record Hold (X : List T) (t : Tables T) : Type 0 where
+  pub record TablesHold (X : List T) (t : Tables T) : Type 0 where
     pub items : List T
     pub means : IsPermutation X items
     pub held : AreHeld eq items t
@@ -75,7 +75,7 @@ module _ {T : Type 0} (eq : T → T → Bool) where
   TablesInTurn most X [] old new = new ≡ old
   TablesInTurn most X (s ∷ steps) old new =
       let Y = (step eq most X s).0 in
-      (next : Tables T) × Hold X old × LeavesTables X Y s old next × TablesInTurn (limit_after eq most X s) Y steps next new
+      (next : Tables T) × TablesHold X old × LeavesTables X Y s old next × TablesInTurn (limit_after eq most X s) Y steps next new
 
   -- `TablesInTurn` holds of the steps that have replies, whichever list the bag meant
   abbrev pub AreTablesInTurn : {S : Type 0} → Ran T S → Type 0

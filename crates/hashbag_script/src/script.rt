@@ -4,7 +4,7 @@ ghost use Rattle.hashbag_core.specs.Bag.{Means, IsBagOf, limited};
 ghost use Rattle.hashbag_core.specs.Occurrences.{IsBag};
 ghost use Rattle.hashbag_script.specs.Pairs.{ran, IsUnbegunRun, IsStoppedRun};
 ghost use Rattle.hashbag_script.specs.Rows.{insert_row, replace_row, try_take_row, take_all_row, entry_set_row, retain_row, limit_row, quota as quota_of};
-ghost use Rattle.hashbag_script.specs.Script.{step_in, entry_or_in, is_about_room, ShrinksSlots, AppendsReplies, LeavesRun, LeavesLimit, HasRoomFor, IfRoomy, OnRoomyErr, NeedsMemory, AsksForMemory, limit_after};
+ghost use Rattle.hashbag_script.specs.Script.{step_in, entry_or_in, reserves_or_shrinks, ShrinksSlots, AppendsReplies, LeavesRun, LeavesLimit, HasRoomFor, IfRoomy, OnRoomyErr, NeedsMemory, MayAllocate, limit_after};
 ghost use Rattle.hashbag_script.specs.Turns.{LeavesTablesOf, AreTablesInTurn, IsBoundedRun};
 ghost use Rattle.hashbag_table.specs.Retained.{RetainsTables};
 
@@ -181,19 +181,19 @@ fn entry_set<T: Eq + Hash + Drop, S: BuildHasher + Drop>(
 fn entry_or<T: Eq + Hash + Drop, S: BuildHasher + Drop>(
     bag: &mut HashBag<T, S>,
     value: T,
-    quantity: usize,
+    n: usize,
 ) -> Result<Reply<T>, BagError>
-    ensures reply { IfOk result (λ reply. reply ≡ (entry_or_in T.eq value quantity bag.old).1) }
-    ensures left { OnOk result (IsBagOf T.eq bag.old (entry_or_in T.eq value quantity bag.old).0 bag.new) }
+    ensures reply { IfOk result (λ reply. reply ≡ (entry_or_in T.eq value n bag.old).1) }
+    ensures left { OnOk result (IsBagOf T.eq bag.old (entry_or_in T.eq value n bag.old).0 bag.new) }
     ensures memory { IfErr result (λ e. e ≡ BagError.Memory) }
-    ensures asked { OnErr result (NeedsMemory T.eq bag.old.most value quantity bag.old.items) }
+    ensures asked { OnErr result (NeedsMemory T.eq bag.old.most value n bag.old.items) }
     ensures err { OnErr result (bag.new ≡ bag.old) }
-    ensures takes { HasRoomFor T.eq bag.old (entry_or_in T.eq value quantity bag.old).0 → IsOk result }
-    ensures tables { OnOk result (LeavesTablesOf T.eq (Step.EntryOr value quantity) bag.old bag.new) }
+    ensures takes { HasRoomFor T.eq bag.old (entry_or_in T.eq value n bag.old).0 → IsOk result }
+    ensures tables { OnOk result (LeavesTablesOf T.eq (Step.EntryOr value n) bag.old bag.new) }
 {
     // Only for the proof: it uses the clause `bag` of `len`.
     let _len = bag.len();
-    match bag.entry(value).or_insert_many(quantity) {
+    match bag.entry(value).or_insert_many(n) {
         Ok(count) => Ok(Reply::Count(count)),
         Err(BagError::TooMany) => Ok(Reply::TooMany),
         Err(BagError::Memory) => Err(BagError::Memory),
@@ -254,12 +254,12 @@ fn apply<T: Eq + Hash + Drop, S: BuildHasher + Drop>(
 
     // Only an allocation can fail, and only in a step that allocates.
     ensures memory { IfErr result (λ e. e ≡ BagError.Memory) }
-    ensures asked { OnErr result (AsksForMemory T.eq bag.old.most bag.old.items bag.old.tables step) }
+    ensures asked { OnErr result (MayAllocate T.eq bag.old.most bag.old.items bag.old.tables step) }
     ensures err { OnErr result (bag.new ≡ bag.old) }
 
     // `takes`: if there is room for what a step inserts, the step can't fail, unless it is `Reserve` or `ShrinkToFit`. `turns`: how a step changes
     // the tables. `fewer`: `ShrinkToFit` makes no larger table.
-    ensures takes { is_about_room step ≡ false → HasRoomFor T.eq bag.old (step_in T.eq step bag.old).0 → IsOk result }
+    ensures takes { reserves_or_shrinks step ≡ false → HasRoomFor T.eq bag.old (step_in T.eq step bag.old).0 → IsOk result }
     ensures turns { OnOk result (LeavesTablesOf T.eq step bag.old bag.new) }
     ensures fewer { OnOk result (ShrinksSlots step bag.old bag.new) }
 {
@@ -270,11 +270,11 @@ fn apply<T: Eq + Hash + Drop, S: BuildHasher + Drop>(
         Step::InsertMany(value, n) => insert(bag, value, n),
         Step::Replace(value) => replace(bag, value),
         Step::Remove(value) => Ok(Reply::Count(bag.remove(&value))),
-        Step::RemoveUpTo(value, quantity) => Ok(Reply::Count(bag.remove_up_to(&value, quantity))),
+        Step::RemoveUpTo(value, n) => Ok(Reply::Count(bag.remove_up_to(&value, n))),
         Step::TryTake(value) => Ok(try_take(bag, &value)),
         Step::TakeAll(value) => Ok(take_all(bag, &value)),
         Step::EntrySet(value, n) => Ok(entry_set(bag, value, n)),
-        Step::EntryOr(value, quantity) => entry_or(bag, value, quantity),
+        Step::EntryOr(value, n) => entry_or(bag, value, n),
         Step::Retain(list) => {
             retain(bag, &list);
             Ok(Reply::Done)

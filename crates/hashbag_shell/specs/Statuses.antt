@@ -19,7 +19,7 @@ status_of (Random error) = 4
 status_of (Write error) = 4
 
 -- a message is written, except for `Printed`, and for a write to a pipe that nobody reads any more
-abbrev pub IsSaid : Trouble → Type 0
-IsSaid (Printed status) = ⊥
-IsSaid (Write error) = error_kind error ≢ BrokenPipe
-IsSaid _ = ⊤
+abbrev pub IsReported : Trouble → Type 0
+IsReported (Printed status) = ⊥
+IsReported (Write error) = error_kind error ≢ BrokenPipe
+IsReported _ = ⊤

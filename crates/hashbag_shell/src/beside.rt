@@ -8,7 +8,7 @@ use std::os::unix::fs::MetadataExt;
 use std::rt::Files;
 
 // The greatest number of names that are tried.
-const NAMES: u32 = 1000;
+const MOST_NAMES: u32 = 1000;
 
 // Returns whether this name is the open file itself, and no link to the file.
 fn is_named<R: Files>(rt: &R, file: &File, name: &str) -> bool {
@@ -66,7 +66,7 @@ pub fn create_beside<R: Files<File = File> + AllocGlobal>(
     output: &str,
 ) -> io::Result<(File, String)> {
     let alloc = rt.alloc();
-    for i in 0..NAMES {
+    for i in 0..MOST_NAMES {
         let name = match output.rsplit_once('/') {
             Some((folder, _)) => format!(in alloc; "{folder}/.hashbag-{i}.tmp")?,
             None => format!(in alloc; ".hashbag-{i}.tmp")?,

@@ -23,11 +23,11 @@ fn read_all<'a, F: Read>(
     for _ in 0..u64::MAX {
         match reader.by_ref().take(PART).read_to_end(&mut text) {
             Ok(0) => break,
-            Ok(n) => progress.tell(rt, shown_name(file), n),
+            Ok(n) => progress.add_read(rt, shown_name(file), n),
             Err(error) => return Err(Trouble::of_file(file, error)),
         }
     }
-    progress.tell_whole(rt, shown_name(file));
+    progress.report_whole(rt, shown_name(file));
     Ok(text)
 }
 

@@ -10,7 +10,7 @@ use std::os::unix::fs::{MetadataExt, fchown};
 use std::rt::Files;
 
 // The greatest number of links that are followed.
-const LINKS: u32 = 40;
+const MOST_LINKS: u32 = 40;
 
 // The two names of the rename at the end.
 #[derive(Drop)]
@@ -83,7 +83,7 @@ fn target_of(alloc: Global, link: &str, text: &str) -> Result<String, AllocError
 // Follows symbolic links, at most 40, and returns the last target, or `name` if it is no link.
 fn end_of_links<R: Files + AllocGlobal>(rt: &R, name: &str) -> io::Result<String> {
     let mut end = name.to_string(rt.alloc())?;
-    for _ in 0..LINKS {
+    for _ in 0..MOST_LINKS {
         match fs::read_link(rt, end.as_str()) {
             Ok(text) => end = target_of(rt.alloc(), end.as_str(), text.as_str())?,
             Err(error) if error.kind() == ErrorKind::OutOfMemory => return Err(error),
@@ -110,7 +110,7 @@ impl OutputFile {
     }
 
     // Flushes what was written, and syncs a temporary file to the device.
-    fn settle(&mut self) -> io::Result<()> {
+    fn flush_and_sync(&mut self) -> io::Result<()> {
         self.file.flush()?;
         if self.names.is_some() {
             self.file.sync_all()?;
@@ -121,7 +121,7 @@ impl OutputFile {
     // Renames the temporary file to the output. If a write or the rename fails, removes the temporary file.
     fn end<R: Files>(mut self, rt: &R, written: io::Result<()>) -> io::Result<()> {
         let mut ended = match written {
-            Ok(()) => self.settle(),
+            Ok(()) => self.flush_and_sync(),
             Err(error) => Err(error),
         };
         if let Some(names) = &self.names

@@ -19,7 +19,10 @@ pub fn words_of<'a, R: Env + AllocGlobal>(rt: &R) -> Result<Vec<String>, Trouble
 }
 
 // Writes the parser's error to standard error, and returns `Printed` with the exit status.
-fn mistake<'a, R: Eprint + AllocGlobal>(rt: &R, error: &Error) -> Result<Trouble<'a>, AllocError> {
+fn print_error<'a, R: Eprint + AllocGlobal>(
+    rt: &R,
+    error: &Error,
+) -> Result<Trouble<'a>, AllocError> {
     let alloc = rt.alloc();
     let message = error.to_string(alloc)?;
     let message = without_far_tip(alloc, message.as_str())?;
@@ -35,7 +38,7 @@ pub fn printed<'a, R: Print + Eprint + AllocGlobal>(rt: &R, error: &Error) -> Tr
         return Trouble::Memory;
     }
     if error.use_stderr() {
-        return mistake(rt, error).unwrap_or(Trouble::Memory);
+        return print_error(rt, error).unwrap_or(Trouble::Memory);
     }
     Trouble::Printed(if error.print(rt).is_err() {
         IO_FAILED

@@ -7,7 +7,7 @@ use std::io::IsTerminal;
 use std::time::{Duration, Instant};
 
 // How many characters of a name a terminal shows.
-const NAME: usize = 20;
+const MOST_CHARS: usize = 20;
 
 // If the inputs have at least this many bytes, the progress is reported whenever an input was read whole, even in the first two seconds:
 // the work that follows takes long.
@@ -64,7 +64,7 @@ fn whole_of(rt: &HostRuntime, names: &[&str]) -> Option<u64> {
 fn short_name(alloc: Global, name: &str) -> Result<String, AllocError> {
     let last = name.rsplit_once('/').map_or(name, |parts| parts.1);
     let mut short = String::new(alloc);
-    for c in last.chars().take(NAME) {
+    for c in last.chars().take(MOST_CHARS) {
         short.push(if c.is_control() { '?' } else { c })?;
     }
     Ok(short)
@@ -80,20 +80,24 @@ impl Progress {
     /// Returns the progress at the start of work on the inputs of these names. Nothing is reported if the clock can't be read.
     pub fn new(rt: &HostRuntime, reports: Reports, names: &[&str]) -> Progress {
         let overwrites = rt.stderr().is_terminal();
-        let is_told = match reports {
+        let is_reported = match reports {
             Reports::Never => false,
             Reports::OnTerminal => overwrites && !is_typed(rt, names),
             Reports::Always => true,
         };
         let times = match Instant::now(rt) {
-            Ok(now) if is_told => Some((now, now)),
+            Ok(now) if is_reported => Some((now, now)),
             _ => None,
         };
         Progress {
             times,
             overwrites,
             is_shown: false,
-            whole: if is_told { whole_of(rt, names) } else { None },
+            whole: if is_reported {
+                whole_of(rt, names)
+            } else {
+                None
+            },
             done: 0,
         }
     }
@@ -160,7 +164,7 @@ impl Progress {
 
     /// Adds bytes that were read from the input of this name. Reports the progress if the last report is at least a second old. On a
     /// terminal nothing is reported in the first two seconds.
-    pub fn tell(&mut self, rt: &HostRuntime, name: &str, bytes: usize) {
+    pub fn add_read(&mut self, rt: &HostRuntime, name: &str, bytes: usize) {
         self.done = self.done.saturating_add(bytes as u64);
         let Some((start, last)) = self.times else {
             return;
@@ -179,7 +183,7 @@ impl Progress {
 
     /// Reports that the input of this name was read whole, and that the work on it begins. On a terminal it is reported only if the work has
     /// taken two seconds, or if the inputs are large.
-    pub fn tell_whole(&mut self, rt: &HostRuntime, name: &str) {
+    pub fn report_whole(&mut self, rt: &HostRuntime, name: &str) {
         let Some((start, _)) = self.times else {
             return;
         };

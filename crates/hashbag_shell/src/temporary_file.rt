@@ -7,7 +7,7 @@ use std::os::unix::fs::OpenOptionsExt;
 use std::rt::Files;
 
 // The greatest number of names that are tried.
-const NAMES: u32 = 1000;
+const MOST_NAMES: u32 = 1000;
 
 /// Creates a file in a folder, removes its name, and returns the file, open to write and to read. Until the name is removed, only the owner
 /// may open the file. `number`, the number of the process, is a part of the name.
@@ -20,7 +20,7 @@ pub fn create_unnamed<R: Files + AllocGlobal>(
     folder: &str,
     number: u32,
 ) -> io::Result<R::File> {
-    for i in 0..NAMES {
+    for i in 0..MOST_NAMES {
         let name = format!(in rt.alloc(); "{folder}/hashbag.{number}.{i}")?;
         match OpenOptions::new()
             .read(true)

@@ -1,6 +1,6 @@
 //! Why a program failed, its message and its status.
 ghost use Rattle.std.specs.Prelude.{◌≡◌, ◌↔◌, IsTrue};
-ghost use Rattle.hashbag_shell.specs.Statuses.{IsSaid, status_of};
+ghost use Rattle.hashbag_shell.specs.Statuses.{IsReported, status_of};
 
 use crate::status::{BAD_INPUT, IO_FAILED, NO_MEMORY, TOTAL_TOO_LARGE};
 use std::alloc::AllocError;
@@ -103,7 +103,7 @@ impl<'a> Trouble<'a> {
 
     /// Returns whether a message is written: not for `Printed`, and not for a write to a pipe that nobody reads any more.
     pub fn is_reported(&self) -> bool
-        ensures { IsTrue result ↔ IsSaid self.now }
+        ensures { IsTrue result ↔ IsReported self.now }
     {
         match self {
             Trouble::Printed(_) => false,

@@ -5,7 +5,7 @@ use Rattle.std.proofs.Math.Seq.{take-add}
 use Rattle.std.proofs.lemmas.List.{ext_get_or, drop-drop, length-set, length-drop, take_more, get_or-drop}
 use Rattle.hashbag_slots.specs.declared.slots.Slot.{Slot}
 use Rattle.hashbag_slots.specs.declared.slots.Slot.TheVariants.{Empty, Removed, Moved, Live}
-use Rattle.hashbag_slots.specs.Slots.{is_live, holds, live_count, removed_count, is_removed, slot_at, IsAbsent, IsSet, entries, Places, PlacesAll, carried, Carries, entries_in, AreApart}
+use Rattle.hashbag_slots.specs.Slots.{is_live, holds, live_count, removed_count, is_removed, slot_at, IsAbsent, IsSet, entries, Places, PlacesAll, moved, Carries, entries_in, AreApart}
 use Rattle.hashbag_slots.specs.Columns.{Columns, CarriesInto, IsReached}
 use Rattle.hashbag_slots.proofs.Probing.{false_by}
 use Rattle.hashbag_slots.proofs.Edits.{set_cases, count-set}
@@ -61,7 +61,7 @@ module _ {T : Type 0} where
       ap entries (take_more (drop from ss) k Empty (let l = length-drop from ss in omega arith) ∙ ap (λ s. take k (drop from ss) ++ s ∷ []) (get_or-drop from ss k Empty)) ∙ entries-append (take k (drop from ss)) (slot_at ss (from + k) ∷ [])
 
   -- a slot that is not Live is left as it is
-  pub carried_same : (s : Slot T) → is_live s ≡ false → carried s ≡ s
+  pub carried_same : (s : Slot T) → is_live s ≡ false → moved s ≡ s
   carried_same Empty h = refl
   carried_same Removed h = refl
   carried_same Moved h = refl
@@ -76,17 +76,17 @@ module _ {T : Type 0} where
   pub Carries-none : (from : ℕ) (ss : List (Slot T)) → Carries from 0 ss ss
   Carries-none from ss = record { same_length = refl; inside = λ p a b. absurd (omega arith); outside = λ p h. refl }
 
-  pub Carries-more : (from k : ℕ) (old mid new : List (Slot T)) → from + k < length old → Carries from k old mid → new ≡ slice_set mid (from + k) (carried (slot_at mid (from + k))) → Carries from (k + 1) old new
+  pub Carries-more : (from k : ℕ) (old mid new : List (Slot T)) → from + k < length old → Carries from k old mid → new ≡ slice_set mid (from + k) (moved (slot_at mid (from + k))) → Carries from (k + 1) old new
   Carries-more from k old mid new lt carry after =
       let at = from + k in
-      let s = carried (slot_at mid at) in
+      let s = moved (slot_at mid at) in
       let within : at < length mid = let e = carry.same_length in omega arith in
       let here : slot_at mid at ≡ slot_at old at = carry.outside at (inr (omega arith)) in
       subst (Carries from (k + 1) old) (sym after) (record {
         same_length = length-set mid at s ∙ carry.same_length;
         inside = λ p a b.
             elim (set_cases mid at s within p) [
-              | inl x ↦ x.1 ∙ ap carried (here ∙ ap (slot_at old) (sym x.0))
+              | inl x ↦ x.1 ∙ ap moved (here ∙ ap (slot_at old) (sym x.0))
               | inr x ↦ x.1 ∙ carry.inside p a (let ne = x.0 in elim (cases_lt p at) [ inl y ↦ y | inr y ↦ absurd (ne (let z : p ≡ at = omega arith in z)) ])
             ];
         outside = λ p h.
@@ -97,10 +97,10 @@ module _ {T : Type 0} where
       })
 
   -- one slot
-  pub Carries-one : (at : ℕ) (old new : List (Slot T)) → at < length old → new ≡ slice_set old at (carried (slot_at old at)) → Carries at 1 old new
+  pub Carries-one : (at : ℕ) (old new : List (Slot T)) → at < length old → new ≡ slice_set old at (moved (slot_at old at)) → Carries at 1 old new
   Carries-one at old new lt after =
       let e : at ≡ at + 0 = omega arith in
-      Carries-more at 0 old old new (omega arith) (Carries-none at old) (subst (λ p. new ≡ slice_set old p (carried (slot_at old p))) e after)
+      Carries-more at 0 old old new (omega arith) (Carries-none at old) (subst (λ p. new ≡ slice_set old p (moved (slot_at old p))) e after)
 
   pub entries_in_one : (at : ℕ) (ss : List (Slot T)) → at < length ss → entries_in at 1 ss ≡ entries (slot_at ss at ∷ [])
   entries_in_one at ss lt = entries_in_more at 0 ss (omega arith) ∙ ap (λ p. entries (slot_at ss p ∷ [])) (let e : at + 0 ≡ at = omega arith in e)
@@ -133,7 +133,7 @@ module _ {T : Type 0} where
     same_length = b.same_length ∙ a.same_length;
     inside = λ p x y. elim (cases_lt p at) [
       | inl before ↦ b.outside p (inl before) ∙ a.inside p x (omega arith)
-      | inr beyond ↦ b.inside p beyond (omega arith) ∙ ap carried (a.outside p (inr (omega arith)))
+      | inr beyond ↦ b.inside p beyond (omega arith) ∙ ap moved (a.outside p (inr (omega arith)))
     ];
     outside = λ p h. elim h [
       | inl before ↦ b.outside p (inl (omega arith)) ∙ a.outside p (inl before)

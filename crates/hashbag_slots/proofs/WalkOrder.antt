@@ -15,7 +15,7 @@ use Rattle.hashbag_slots.proofs.Paths.{count_bound}
 use Rattle.hashbag_slots.specs.declared.slots.Slot.{Slot}
 use Rattle.hashbag_slots.specs.Slots.{IsSlotCount, is_live, slot_entry, entries, live_count}
 use Rattle.hashbag_slots.specs.Cells.{cell_at}
-use Rattle.hashbag_slots.specs.Walks.{pass_of, of_turn, live_places, live_places_from, in_pass, turns, turn_places, entry_in, entries_left, first_course, IsCourse, IsWalk}
+use Rattle.hashbag_slots.specs.Walks.{pass_of, of_turn, live_places, live_places_from, in_pass, turns, turn_places, entry_at_turn, entries_left, first_course, IsCourse, IsWalk}
 use Rattle.hashbag_slots.proofs.Maps.{no_entry}
 use Rattle.hashbag_slots.proofs.Reading.{dead_slot, no_cell, length-slots_of}
 use Rattle.hashbag_slots.proofs.Walking.{is_fingerprint, filter_in, filter_out, length-entries_live}
@@ -129,16 +129,16 @@ module _ {T : Type 0} where
   entries_of_cells ts cs agree = entries_at cs 0 ts cs agree.same_length (λ i. let e : 0 + i ≡ i = omega arith in ap (λ k. get_or cs k None) e) (λ i low. no_cell ts cs agree i low)
 
   module _ (ts us : List ℕ) (cs ds : List (Option (T × ℕ))) where
-    of_places : (turn : ℕ) (ps : List ℕ) → filter_map (entry_in cs ds) (map (λ p. (turn, p)) ps) ≡ filter_map (cell_at (of_turn turn cs ds)) ps
+    of_places : (turn : ℕ) (ps : List ℕ) → filter_map (entry_at_turn cs ds) (map (λ p. (turn, p)) ps) ≡ filter_map (cell_at (of_turn turn cs ds)) ps
     of_places turn [] = refl
     of_places turn (p ∷ ps) = ap (cons_option (cell_at (of_turn turn cs ds) p)) (of_places turn ps)
 
     abbrev pass : ℕ → List ℕ → List (Option (T × ℕ)) → List (T × ℕ)
     pass r vs es = of_pass (cell_at es) r (live_places_from 0 vs)
 
-    turn_first : (turn : ℕ) → filter_map (entry_in cs ds) (turns (suc turn) ts us) ≡ pass (turn / 2) (of_turn turn ts us) (of_turn turn cs ds) ++ filter_map (entry_in cs ds) (turns turn ts us)
+    turn_first : (turn : ℕ) → filter_map (entry_at_turn cs ds) (turns (suc turn) ts us) ≡ pass (turn / 2) (of_turn turn ts us) (of_turn turn cs ds) ++ filter_map (entry_at_turn cs ds) (turns turn ts us)
     turn_first turn =
-        filter_map-append (entry_in cs ds) (turn_places turn 0 ts us) (turns turn ts us) ∙ ap (λ l. l ++ filter_map (entry_in cs ds) (turns turn ts us)) (of_places turn (in_pass (turn / 2) (live_places_from 0 (of_turn turn ts us))))
+        filter_map-append (entry_at_turn cs ds) (turn_places turn 0 ts us) (turns turn ts us) ∙ ap (λ l. l ++ filter_map (entry_at_turn cs ds) (turns turn ts us)) (of_places turn (in_pass (turn / 2) (live_places_from 0 (of_turn turn ts us))))
 
     by_turns : entries_left 5 0 ts us cs ds ≡ pass 2 ts cs ++ (pass 2 us ds ++ (pass 1 ts cs ++ (pass 1 us ds ++ (pass 0 ts cs ++ (pass 0 us ds ++ [])))))
     by_turns =

@@ -9,7 +9,7 @@ use Rattle.hashbag_slots.specs.declared.live.Course.{Course}
 use Rattle.hashbag_slots.specs.Cells.{cell_at}
 use Rattle.hashbag_slots.specs.Columns.{Agree, tag_at}
 use Rattle.hashbag_slots.specs.Group.{from_place_on}
-use Rattle.hashbag_slots.specs.Walks.{pass_of, of_turn, live_places, live_places_from, in_pass, turns, turn_places, places_left, entry_in, entries_left, IsCourse, IsNextOn, IsWalk}
+use Rattle.hashbag_slots.specs.Walks.{pass_of, of_turn, live_places, live_places_from, in_pass, turns, turn_places, places_left, entry_at_turn, entries_left, IsCourse, IsNextOn, IsWalk}
 use Rattle.hashbag_slots.proofs.GroupLemmas.{from_place_on-behind, from_place_on-before, tells_same}
 use Rattle.hashbag_slots.proofs.Walking.{is_fingerprint, filter_out, of_turn-odd, of_turn-even}
 use Rattle.hashbag_slots.proofs.Writing.{Agree-empty}
@@ -30,12 +30,12 @@ module _ {T : Type 0} (ts us : List ℕ) (cs ds : List (Option (T × ℕ))) (tur
   agree_in t = agree_of (nat_eq (t % 2) 1) ts us cs ds walk.agree walk.older_agree
 
   pub walk_ends : places_left turn next ts us ≡ [] → entries_left turn next ts us cs ds ≡ []
-  walk_ends none = ap (filter_map (entry_in cs ds)) none
+  walk_ends none = ap (filter_map (entry_at_turn cs ds)) none
 
   module _ (p : ℕ) (c : Course) (on : IsNextOn ts us turn next p c) (e : T × ℕ) (cell : cell_at (of_turn c.turn cs ds) p ≡ Some e) where
     -- the entry at the next place is the first to come
     pub walk_gives : entries_left turn next ts us cs ds ≡ e ∷ entries_left c.turn c.next ts us cs ds
-    walk_gives = ap (filter_map (entry_in cs ds)) on.first ∙ ap (λ o. cons_option o (entries_left c.turn c.next ts us cs ds)) cell
+    walk_gives = ap (filter_map (entry_at_turn cs ds)) on.first ∙ ap (λ o. cons_option o (entries_left c.turn c.next ts us cs ds)) cell
 
     pub some_left : 1 ≤ left
     some_left = let l = ap length walk_gives in let i = walk.count in omega arith
@@ -169,7 +169,7 @@ module _ (turn p : ℕ) (on_pass : pass_of p ≡ turn / 2) (ts us vs ws : List �
   }
 
   module _ {T : Type 0} (cs ds es fs : List (Option (T × ℕ))) (cells : IsEdit turn (λ l. slice_set l p None) cs ds es fs) where
-    entry_same : (x : ℕ × ℕ) → IsOther x → entry_in es fs x ≡ entry_in cs ds x
+    entry_same : (x : ℕ × ℕ) → IsOther x → entry_at_turn es fs x ≡ entry_at_turn cs ds x
     entry_same x other = elim (cells x.0) [
       | inl e ↦ ap (λ l. cell_at l x.1) e
       | inr e ↦ ap (λ l. cell_at l x.1) e.1 ∙ elim other [
@@ -181,8 +181,8 @@ module _ (turn p : ℕ) (on_pass : pass_of p ≡ turn / 2) (ts us vs ws : List �
     -- what is left stays
     pub left_same : (next : ℕ) → next ≡ p + 1 → entries_left turn next vs ws es fs ≡ entries_left turn next ts us cs ds
     left_same next behind =
-        ap (λ n. entries_left turn n vs ws es fs) behind ∙ ap (filter_map (entry_in es fs)) places_same
-        ∙ filter_map_same (entry_in es fs) (entry_in cs ds) (places_left turn (p + 1) ts us) (weaken IsOther (λ x. entry_in es fs x ≡ entry_in cs ds x) entry_same (places_left turn (p + 1) ts us) others)
+        ap (λ n. entries_left turn n vs ws es fs) behind ∙ ap (filter_map (entry_at_turn es fs)) places_same
+        ∙ filter_map_same (entry_at_turn es fs) (entry_at_turn cs ds) (places_left turn (p + 1) ts us) (weaken IsOther (λ x. entry_at_turn es fs x ≡ entry_at_turn cs ds x) entry_same (places_left turn (p + 1) ts us) others)
         ∙ sym (ap (λ n. entries_left turn n ts us cs ds) behind)
 
 -- the next slot of a walk became Removed, and its entry was the first of those that were left
@@ -198,11 +198,11 @@ module _ {T : Type 0} (ts us : List ℕ) (cs ds : List (Option (T × ℕ))) (tur
   module _ (vs ws : List ℕ) (es fs : List (Option (T × ℕ))) (tags : IsEdit c.turn (λ l. slice_set l p 1) ts us vs ws) (cells : IsEdit c.turn (λ l. slice_set l p None) cs ds es fs) where
     taken : (e : T × ℕ) → cell_at (of_turn c.turn cs ds) p ≡ Some e → Agree vs es → Agree ws fs → length vs % 16 ≡ 0 → length ws % 16 ≡ 0 → IsTaken vs ws es fs c (left - 1) e (entries_left turn next ts us cs ds)
     taken e cell agree older_agree sixteens older_sixteens =
-        let same = left_same c.turn p on.on_pass ts us vs ws tags cs ds es fs cells c.next on.behind in
+        let same = left_same c.turn p on.on_pass ts us vs ws tags cs ds es fs cells c.next on.after in
         let count = (walk_goes_on ts us cs ds turn next left walk p c on e cell).count ∙ sym (ap length same) in
         record {
           walk = record { agree = agree; older_agree = older_agree; sixteens = sixteens; older_sixteens = older_sixteens; count = count };
-          course = course_goes_on c.turn p on.on_pass ts us vs ws tags c.next c.ahead c.until on.behind on.course;
+          course = course_goes_on c.turn p on.on_pass ts us vs ws tags c.next c.ahead c.until on.after on.course;
           gives = walk_gives ts us cs ds turn next left walk p c on e cell ∙ ap (λ l. e ∷ l) (sym same);
         }
 

@@ -143,7 +143,7 @@ module _ (newer older : List ℕ) where
         within = omega arith;
         live = live;
         on_pass = here;
-        behind = refl;
+        after = refl;
         first = left_skip turn next place low (λ q a b i. leb-false 128 (tag_at ts q) (first.before q a b)) ∙ left_comes turn place live here;
         course = record {
           mask = subst (λ b. IsMaskOf (from_place_on (is_fingerprint ts) (place + 1)) b (base + 16) rest) back tells;
@@ -158,4 +158,4 @@ module _ (newer older : List ℕ) where
 
   -- from an earlier place on, where no slot between is Live
   pub next_on_earlier : (earlier turn next from place : ℕ) (c : Course) → places_left earlier next newer older ≡ places_left turn from newer older → IsNextOn newer older turn from place c → IsNextOn newer older earlier next place c
-  next_on_earlier earlier turn next from place c same on = record { within = on.within; live = on.live; on_pass = on.on_pass; behind = on.behind; first = same ∙ on.first; course = on.course }
+  next_on_earlier earlier turn next from place c same on = record { within = on.within; live = on.live; on_pass = on.on_pass; after = on.after; first = same ∙ on.first; course = on.course }

@@ -103,8 +103,8 @@ module _ {T : Type 0} where
   CarriesUnder key b h s from many newer older newer' older' = CarriesInto key.eq (hash_under key.hash_input b h s) from many newer older newer' older'
 
   -- equal values have one hash
-  abbrev pub IsAlike : (T → T → Bool) → (T → ℕ) → Type 0
-  IsAlike eq hash = (v w : T) → eq v w ≡ true → hash v ≡ hash w
+  abbrev pub HashesAlike : (T → T → Bool) → (T → ℕ) → Type 0
+  HashesAlike eq hash = (v w : T) → eq v w ≡ true → hash v ≡ hash w
 
   -- the invariant of a table, over its columns and its two counters
   pub record IsColumns (eq : T → T → Bool) (ts : List ℕ) (cs : List (Option (T × ℕ))) (live removed : ℕ) : Type 0 where

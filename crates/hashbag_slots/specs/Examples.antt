@@ -5,7 +5,7 @@ use Rattle.hashbag_slots.specs.declared.slots.Slot.{Slot}
 use Rattle.hashbag_slots.specs.declared.slots.Slot.TheVariants.{Empty, Removed, Moved, Live}
 use Rattle.hashbag_slots.specs.Cells.{cell_at, filled_values}
 use Rattle.hashbag_slots.specs.Columns.{fingerprint_of, tag_at, slots_of}
-use Rattle.hashbag_slots.specs.Slots.{IsSlotCount, path_slot, is_live, holds, live_count, removed_count, slot_at, HoldsAt, IsNextLive, entry_at, entries, recounted, raised, count_in, Places, PlacesAll, carried, entries_in}
+use Rattle.hashbag_slots.specs.Slots.{IsSlotCount, path_slot, is_live, holds, live_count, removed_count, slot_at, HoldsAt, IsNextLive, entry_at, entries, recounted, raised, count_in, Places, PlacesAll, moved, entries_in}
 
 -- 16 slots. The home of 31 is the last slot, which 15 has, so 31 is in slot 0. The value of slot 1 was removed, and the value of slot 2 was carried
 abbrev table : List (Slot ℕ)
@@ -91,10 +91,10 @@ two = refl
 none : count_in (slot_at table 1) ≡ 0
 none = refl
 
-carried_away : carried (slot_at table 0) ≡ Moved
+carried_away : moved (slot_at table 0) ≡ Moved
 carried_away = refl
 
-stays_removed : carried (slot_at table 1) ≡ Removed
+stays_removed : moved (slot_at table 1) ≡ Removed
 stays_removed = refl
 
 -- the home of 47 is the last slot too. Its path goes past 15 and 31 to the Removed slot, into which it is placed

@@ -13,23 +13,23 @@ from_place_on test from p = nat_le from p && test p
 abbrev pub IsMaskOf : (ℕ → Bool) → ℕ → ℕ → ℕ → Type 0
 IsMaskOf test from until bits = (i : ℕ) → bit_at bits i ≡ (if nat_lt (from + i) until then (if test (from + i) then 1 else 0) else 0)
 
--- bit i is 1 if the place from + i is not before `at`, is below `until`, and passes the test, and 0 otherwise
+-- bit i is 1 if the place from + i is not before `first`, is below `until`, and passes the test, and 0 otherwise
 abbrev pub IsMaskFrom : (ℕ → Bool) → ℕ → ℕ → ℕ → ℕ → Type 0
-IsMaskFrom test from at until bits = IsMaskOf (from_place_on test at) from until bits
+IsMaskFrom test from first until bits = IsMaskOf (from_place_on test first) from until bits
 
 -- p is the place of the lowest set bit, if bit 0 is of the place `from`. This is stated by masks: if the bits are the mask of a test, at the places
--- from some `at` to before some `until`, then p is the first of these places that passes the test
+-- from some `first` to before some `until`, then p is the first of these places that passes the test
 abbrev pub IsLowestOf : ℕ → ℕ → ℕ → Type 0
-IsLowestOf from bits p = (test : ℕ → Bool) (at until : ℕ) → from ≤ at → IsMaskFrom test from at until bits → IsFirstPlace test at until p
+IsLowestOf from bits p = (test : ℕ → Bool) (first until : ℕ) → from ≤ first → IsMaskFrom test from first until bits → IsFirstPlace test first until p
 
--- if the bits are the mask of a test, at the places from some `at` to before some `until`, then p is before `until`
+-- if the bits are the mask of a test, at the places from some `first` to before some `until`, then p is before `until`
 abbrev pub IsWithinMask : ℕ → ℕ → ℕ → Type 0
-IsWithinMask from bits p = (test : ℕ → Bool) (at until : ℕ) → IsMaskFrom test from at until bits → p < until
+IsWithinMask from bits p = (test : ℕ → Bool) (first until : ℕ) → IsMaskFrom test from first until bits → p < until
 
 -- `rest` are the bits without the bit of the place p. This is stated by masks: if the bits are the mask of a test, then `rest` is the mask of the
 -- same test at the places after p
 abbrev pub IsRestAfter : ℕ → ℕ → ℕ → ℕ → Type 0
-IsRestAfter from bits p rest = (test : ℕ → Bool) (at until : ℕ) → IsMaskFrom test from at until bits → IsMaskFrom test from (p + 1) until rest
+IsRestAfter from bits p rest = (test : ℕ → Bool) (first until : ℕ) → IsMaskFrom test from first until bits → IsMaskFrom test from (p + 1) until rest
 
 -- the bits are the mask of the tags that are `tag`, at the places from `from` to before `until`
 abbrev pub IsTagMask : List ℕ → ℕ → ℕ → ℕ → ℕ → Type 0

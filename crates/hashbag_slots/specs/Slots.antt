@@ -88,8 +88,8 @@ module _ {T : Type 0} where
   entry_at ss (Some p) = slot_entry (slot_at ss p)
 
   -- the entry at `place` and the first entry whose value passes the test are the same, or there is neither
-  abbrev pub IsPlaceOf : (T → Bool) → List (Slot T) → Option ℕ → Type 0
-  IsPlaceOf test ss place = entry_at ss place ≡ lookup_entry test (entries ss)
+  abbrev pub IsEntryPlace : (T → Bool) → List (Slot T) → Option ℕ → Type 0
+  IsEntryPlace test ss place = entry_at ss place ≡ lookup_entry test (entries ss)
 
   -- a probe for a Live value among n slots meets no Empty slot before that value's slot
   pub record IsPathRule (n : ℕ) (hash : T → ℕ) (ss : List (Slot T)) : Type 0 where
@@ -159,16 +159,16 @@ module _ {T : Type 0} where
   PlacesAll hash (e ∷ es) old new = (next : List (Slot T)) × PlacesFirst hash e.0 e.1 old next × PlacesAll hash es next new
 
   -- how a carry changes a slot
-  abbrev pub carried : Slot T → Slot T
-  carried Empty = Empty
-  carried Removed = Removed
-  carried Moved = Moved
-  carried (Live v n) = Moved
+  abbrev pub moved : Slot T → Slot T
+  moved Empty = Empty
+  moved Removed = Removed
+  moved Moved = Moved
+  moved (Live v n) = Moved
 
   -- `many` slots from the place `from` on are carried, and all others are as they were
   pub record Carries (from many : ℕ) (old new : List (Slot T)) : Type 0 where
     pub same_length : length new ≡ length old
-    pub inside : (p : ℕ) → from ≤ p → p < from + many → slot_at new p ≡ carried (slot_at old p)
+    pub inside : (p : ℕ) → from ≤ p → p < from + many → slot_at new p ≡ moved (slot_at old p)
     pub outside : (p : ℕ) → (p < from) ⊎ (from + many ≤ p) → slot_at new p ≡ slot_at old p
 
   -- the entries of `many` slots from the place `from` on

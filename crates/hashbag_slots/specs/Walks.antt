@@ -73,7 +73,7 @@ pub record IsNextOn (newer older : List ℕ) (turn next place : ℕ) (c : Course
   pub within : place < length (of_turn c.turn newer older)
   pub live : 128 ≤ tag_at (of_turn c.turn newer older) place
   pub on_pass : pass_of place ≡ c.turn / 2
-  pub behind : c.next ≡ place + 1
+  pub after : c.next ≡ place + 1
   pub first : places_left turn next newer older ≡ (c.turn, place) ∷ places_left c.turn c.next newer older
   pub course : IsCourse newer older c
 
@@ -83,12 +83,12 @@ first_course = record { turn = 5; next = 0; ahead = 0; until = 0 }
 
 module _ {T : Type 0} where
   -- the entry at a place of a turn's table
-  abbrev pub entry_in : List (Option (T × ℕ)) → List (Option (T × ℕ)) → ℕ × ℕ → Option (T × ℕ)
-  entry_in newer older x = cell_at (of_turn x.0 newer older) x.1
+  abbrev pub entry_at_turn : List (Option (T × ℕ)) → List (Option (T × ℕ)) → ℕ × ℕ → Option (T × ℕ)
+  entry_at_turn newer older x = cell_at (of_turn x.0 newer older) x.1
 
   -- the entries left to a walk whose tables have the tags ts and us and the cells cs and ds
   abbrev pub entries_left : ℕ → ℕ → List ℕ → List ℕ → List (Option (T × ℕ)) → List (Option (T × ℕ)) → List (T × ℕ)
-  entries_left turn next ts us cs ds = filter_map (entry_in cs ds) (places_left turn next ts us)
+  entries_left turn next ts us cs ds = filter_map (entry_at_turn cs ds) (places_left turn next ts us)
 
   -- the invariant of a walk in this turn at `next`, which has `left` entries left
   pub record IsWalk (ts us : List ℕ) (cs ds : List (Option (T × ℕ))) (turn next left : ℕ) : Type 0 where

@@ -61,26 +61,26 @@ fn put_into<T>(store: Store<T>, cell: (usize, T, Global)) -> (Store<T>, ())
 }
 
 impl<T> Cells<T> {
-    /// Returns `count` empty cells.
+    /// Returns `cells` empty cells.
     ///
     /// # Errors
     ///
-    /// `AllocError` if the allocation fails, or if the cells have more bytes than an allocation can have. With `count` 0 it doesn't allocate
+    /// `AllocError` if the allocation fails, or if the cells have more bytes than an allocation can have. With `cells` 0 it doesn't allocate
     /// and can't fail.
-    pub fn new(alloc: Global, count: usize) -> Result<Cells<T>, AllocError>
-        ensures cells { IfOk result (λ c. c ≡ replicate count None) }
-        ensures none { count ≡ 0 → IsOk result }
+    pub fn new(alloc: Global, cells: usize) -> Result<Cells<T>, AllocError>
+        ensures cells { IfOk result (λ c. c ≡ replicate cells None) }
+        ensures none { cells ≡ 0 → IsOk result }
     {
-        if count == 0 {
+        if cells == 0 {
             return Ok(Cells {
                 store: Store::Nothing,
                 alloc,
             });
         }
-        if !may_hold::<T>(count) {
+        if !may_hold::<T>(cells) {
             return Err(AllocError);
         }
-        let (block, deed) = allocate(&alloc, count)?;
+        let (block, deed) = allocate(&alloc, cells)?;
         Ok(Cells {
             store: Store::Unwritten(block, deed),
             alloc,

@@ -15,10 +15,10 @@ pub fn next_live(tags: &[u8], from: usize) -> Option<usize>
     ensures some { IfSome result (IsNextLiveTag tags.now from) }
     ensures none { IfNone result ((q : ℕ) → from ≤ q → tag_at tags.now q < 128) }
 {
-    let count = tags.len();
+    let slots = tags.len();
     let mut at = from;
-    'places: while at < count {
-        if at + GROUP_WIDTH <= count {
+    'places: while at < slots {
+        if at + GROUP_WIDTH <= slots {
             let lane = first_live(tags, at);
             if lane < GROUP_WIDTH {
                 return Some(at + lane);
@@ -39,7 +39,7 @@ pub fn next_live(tags: &[u8], from: usize) -> Option<usize>
 const PASSES: usize = 3;
 
 /// How many slots a block has. Their cells are some kilobytes, so that a pass brings only cells of its own blocks into the cache.
-const BLOCK: usize = 256;
+const BLOCK_SLOTS: usize = 256;
 
 /// How far a walk over two tables is.
 #[derive(Clone, Copy)]
@@ -72,7 +72,7 @@ impl Course {
 // Returns the next group of a pass, from the place `from` on, that has a Live slot: the first place of the group, and a bit for each of its 16 slots.
 // Only groups of the pass are read.
 #[inline(always)]
-fn live_group(tags: &[u8], pass: usize, from: usize) -> Option<(usize, u64)>
+fn next_live_group(tags: &[u8], pass: usize, from: usize) -> Option<(usize, u64)>
     requires sixteens { length tags.now % 16 ≡ 0 }
     requires from { from % 16 ≡ 0 }
     requires within { from ≤ length tags.now }
@@ -82,23 +82,23 @@ fn live_group(tags: &[u8], pass: usize, from: usize) -> Option<(usize, u64)>
     if pass >= PASSES {
         return None;
     }
-    let count = tags.len();
-    let block = from / BLOCK;
+    let slots = tags.len();
+    let block = from / BLOCK_SLOTS;
     // `pass - block` modulo `PASSES`, without going below 0: the number of blocks to skip.
     let skipped = (pass + (PASSES - 1) * block) % PASSES;
     let mut at = if skipped == 0 {
         from
     } else {
-        (block + skipped) * BLOCK
+        (block + skipped) * BLOCK_SLOTS
     };
-    'groups: while at + GROUP_WIDTH <= count {
+    'groups: while at + GROUP_WIDTH <= slots {
         let ahead = match_live(tags, at);
         if ahead != 0 {
             return Some((at, ahead));
         }
         at += GROUP_WIDTH;
-        if at % BLOCK == 0 {
-            at += (PASSES - 1) * BLOCK;
+        if at % BLOCK_SLOTS == 0 {
+            at += (PASSES - 1) * BLOCK_SLOTS;
         }
     }
     None
@@ -107,7 +107,7 @@ fn live_group(tags: &[u8], pass: usize, from: usize) -> Option<(usize, u64)>
 // Returns the first Live slot at or after `from` in this turn, or in a later turn, and the course after it. `next_on_course` calls it if its
 // course has no bit left.
 #[inline(always)]
-fn seek(newer: &[u8], older: &[u8], turn: usize, from: usize) -> Option<(usize, Course)>
+fn next_in_turns(newer: &[u8], older: &[u8], turn: usize, from: usize) -> Option<(usize, Course)>
     requires newer { length newer.now % 16 ≡ 0 }
     requires older { length older.now % 16 ≡ 0 }
     requires from { from % 16 ≡ 0 }
@@ -119,7 +119,7 @@ fn seek(newer: &[u8], older: &[u8], turn: usize, from: usize) -> Option<(usize, 
     let mut from = from;
     'turns: loop {
         let tags = if turn % 2 == 1 { newer } else { older };
-        if let Some((at, ahead)) = live_group(tags, turn / 2, from) {
+        if let Some((at, ahead)) = next_live_group(tags, turn / 2, from) {
             let (place, rest) = take_lowest(ahead, at);
             let course = Course {
                 turn,
@@ -165,7 +165,7 @@ pub fn next_on_course(newer: &[u8], older: &[u8], course: Course) -> Option<(usi
         };
         return Some((place, course));
     }
-    seek(newer, older, turn, until)
+    next_in_turns(newer, older, turn, until)
 }
 
 // Drops the value of each Live slot among the 16 from the place `from` on, and empties its cell.
@@ -191,9 +191,9 @@ pub fn drop_live<T: Drop>(tags: &[u8], cells: &mut Cells<(T, usize)>)
     requires agree { Agree tags.now cells.old }
     ensures { cells.new ≡ replicate (length tags.now) None }
 {
-    let count = tags.len();
+    let slots = tags.len();
     let mut from = 0;
-    'groups: while from < count {
+    'groups: while from < slots {
         drop_group(tags, cells, from);
         from += GROUP_WIDTH;
     }

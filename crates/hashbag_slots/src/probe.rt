@@ -39,16 +39,16 @@ pub enum FirstGroup {
     Open,
 }
 
-// Returns the place of the slot that a probe for a hash reads after `step` steps, among `count` slots. The path begins at the hash modulo `count`,
+// Returns the place of the slot that a probe for a hash reads after `step` steps, among `slots` slots. The path begins at the hash modulo `slots`,
 // and goes on at slot 0 after the last slot.
 #[inline(always)]
-fn path_slot(hash: u64, step: usize, count: usize) -> usize
-    requires count { IsSlotCount count }
-    requires step { step < count }
-    ensures value { result ≡ path_slot count hash step }
-    ensures bound { result < count }
+fn path_slot(hash: u64, step: usize, slots: usize) -> usize
+    requires slots { IsSlotCount slots }
+    requires step { step < slots }
+    ensures value { result ≡ path_slot slots hash step }
+    ensures bound { result < slots }
 {
-    ((hash & (count as u64 - 1)) as usize + step) & (count - 1)
+    ((hash & (slots as u64 - 1)) as usize + step) & (slots - 1)
 }
 
 // Returns whether a key names the value in a cell.
@@ -72,18 +72,18 @@ fn find_probing<T: Eq + Hash, S: BuildHasher, Q: Key<T>>(
     key: Q,
 ) -> Option<usize>
     requires hashed { hash ≡ hash_under Q.hash_input S.BuildHasher S.Hasher.Hasher state.now key }
-    requires count { IsSlotCount (length tags.now) }
+    requires slots { IsSlotCount (length tags.now) }
     requires agree { Agree tags.now cells.now }
     requires reached { AreReached (hash_under T.hash_input S.BuildHasher S.Hasher.Hasher state.now) tags.now cells.now }
     ensures found { IfSome result (HoldsAt (Q.names key) (slots_of tags.now cells.now)) }
     ensures absent { IfNone result (IsAbsent (Q.names key) (slots_of tags.now cells.now)) }
 {
-    let count = tags.len();
+    let slots = tags.len();
     let fingerprint = fingerprint_of(hash);
     let mut step = 0;
-    'steps: while step < count {
-        let place = path_slot(hash, step, count);
-        if place + GROUP_WIDTH <= count {
+    'steps: while step < slots {
+        let place = path_slot(hash, step, slots);
+        if place + GROUP_WIDTH <= slots {
             let lane = first_equal(tags, place, fingerprint);
             if lane < GROUP_WIDTH {
                 if is_named(cells, place + lane, key) {
@@ -146,18 +146,18 @@ fn find_tagged<T: Eq + Hash, Q: Key<T>>(
 /// It reads sixteen tags at once, from the place backwards, and may miss an Empty slot that is less than sixteen after the first slot.
 #[inline(always)]
 pub fn is_empty_before(tags: &[u8], hash: u64, place: usize) -> bool
-    requires count { IsSlotCount (length tags.now) }
+    requires slots { IsSlotCount (length tags.now) }
     requires within { place ≤ length tags.now }
 
     // With `first` the first slot of the path. `true`: an Empty slot is in `first..place`. `false`: none is in `first + 16..place`.
     ensures met { result ≡ true → HasEmptyIn tags.now (path_slot (length tags.now) hash 0) place }
     ensures none { result ≡ false → HasNoEmptyIn tags.now (path_slot (length tags.now) hash 0 + 16) place }
 {
-    let count = tags.len();
-    if count == 0 {
+    let slots = tags.len();
+    if slots == 0 {
         return false;
     }
-    let first = path_slot(hash, 0, count);
+    let first = path_slot(hash, 0, slots);
     let mut at = place;
     'sixteens: while at >= first + GROUP_WIDTH {
         at -= GROUP_WIDTH;
@@ -178,7 +178,7 @@ pub fn probe_first_group<T: Eq + Hash, S: BuildHasher, Q: Key<T>>(
     key: Q,
 ) -> FirstGroup
     requires hashed { hash ≡ hash_under Q.hash_input S.BuildHasher S.Hasher.Hasher state.now key }
-    requires count { IsSlotCount (length tags.now) }
+    requires slots { IsSlotCount (length tags.now) }
     requires agree { Agree tags.now cells.now }
     requires reached { AreReached (hash_under T.hash_input S.BuildHasher S.Hasher.Hasher state.now) tags.now cells.now }
     ensures found { IfFound result (HoldsAt (Q.names key) (slots_of tags.now cells.now)) }
@@ -188,12 +188,12 @@ pub fn probe_first_group<T: Eq + Hash, S: BuildHasher, Q: Key<T>>(
     // No slot among the 16 is Empty, and none has the value; or the table ends before the sixteenth.
     ensures open { IfOpen result (IsUndecided (Q.names key) hash (columns tags.now cells.now)) }
 {
-    let count = tags.len();
-    if count == 0 {
+    let slots = tags.len();
+    if slots == 0 {
         return FirstGroup::Open;
     }
-    let first = path_slot(hash, 0, count);
-    if first + GROUP_WIDTH > count {
+    let first = path_slot(hash, 0, slots);
+    if first + GROUP_WIDTH > slots {
         return FirstGroup::Open;
     }
     let fingerprint = fingerprint_of(hash);
@@ -215,15 +215,15 @@ fn find_at_home<T: Eq + Hash, Q: Key<T>>(
     hash: u64,
     key: Q,
 ) -> Option<usize>
-    requires count { IsSlotCount (length tags.now) }
+    requires slots { IsSlotCount (length tags.now) }
     requires agree { Agree tags.now cells.now }
     ensures found { IfSome result (HoldsAt (Q.names key) (slots_of tags.now cells.now)) }
 {
-    let count = tags.len();
-    if count == 0 {
+    let slots = tags.len();
+    if slots == 0 {
         return None;
     }
-    let first = path_slot(hash, 0, count);
+    let first = path_slot(hash, 0, slots);
     if tags[first] == fingerprint_of(hash) && is_named(cells, first, key) {
         return Some(first);
     }
@@ -247,23 +247,23 @@ pub fn find_place<T: Eq + Hash, S: BuildHasher, Q: Key<T>>(
     key: Q,
 ) -> Option<usize>
     requires hashed { hash ≡ hash_under Q.hash_input S.BuildHasher S.Hasher.Hasher state.now key }
-    requires count { IsSlotCount (length tags.now) }
+    requires slots { IsSlotCount (length tags.now) }
     requires agree { Agree tags.now cells.now }
     requires reached { AreReached (hash_under T.hash_input S.BuildHasher S.Hasher.Hasher state.now) tags.now cells.now }
     ensures found { IfSome result (HoldsAt (Q.names key) (slots_of tags.now cells.now)) }
     ensures absent { IfNone result (IsAbsent (Q.names key) (slots_of tags.now cells.now)) }
 {
-    let count = tags.len();
-    if count > MOST_CACHED
+    let slots = tags.len();
+    if slots > MOST_CACHED
         && let Some(place) = find_at_home(tags, cells, hash, key)
     {
         return Some(place);
     }
-    if count == 0 {
+    if slots == 0 {
         return None;
     }
-    let first = path_slot(hash, 0, count);
-    if first + GROUP_WIDTH > count {
+    let first = path_slot(hash, 0, slots);
+    if first + GROUP_WIDTH > slots {
         return find_probing(tags, cells, state, hash, key);
     }
     let fingerprint = fingerprint_of(hash);
@@ -283,7 +283,7 @@ pub fn find_place<T: Eq + Hash, S: BuildHasher, Q: Key<T>>(
 /// store to one of these bytes, as when a neighbour was just placed. After the first 16 slots it reads sixteen at once.
 #[inline(always)]
 pub fn first_free(tags: &[u8], hash: u64) -> usize
-    requires count { IsSlotCount (length tags.now) }
+    requires slots { IsSlotCount (length tags.now) }
     requires room { (p : ℕ) × (p < length tags.now) × (tag_at tags.now p < 128) }
 
     // The place is on the path of the hash, and all slots before it on that path are Live: their tags are 128 or more.
@@ -291,10 +291,10 @@ pub fn first_free(tags: &[u8], hash: u64) -> usize
     ensures bound { result < length tags.now }
     ensures free { tag_at tags.now result < 128 }
 {
-    let count = tags.len();
+    let slots = tags.len();
     let mut step = 0;
     'near: while step < GROUP_WIDTH {
-        let place = path_slot(hash, step, count);
+        let place = path_slot(hash, step, slots);
         if tags[place] < LEAST_LIVE {
             return place;
         }
@@ -306,18 +306,18 @@ pub fn first_free(tags: &[u8], hash: u64) -> usize
 // Returns the same as `first_free`. The first `passed` slots of the path must be Live, and aren't read.
 #[inline(never)]
 fn first_free_from(tags: &[u8], hash: u64, passed: usize) -> usize
-    requires count { IsSlotCount (length tags.now) }
+    requires slots { IsSlotCount (length tags.now) }
     requires room { (p : ℕ) × (p < length tags.now) × (tag_at tags.now p < 128) }
     requires passed { AreLiveTags hash tags.now passed }
     ensures path { IsPastLiveTags hash tags.now result }
     ensures bound { result < length tags.now }
     ensures free { tag_at tags.now result < 128 }
 {
-    let count = tags.len();
+    let slots = tags.len();
     let mut step = passed;
-    'steps: while step < count {
-        let place = path_slot(hash, step, count);
-        if place + GROUP_WIDTH <= count {
+    'steps: while step < slots {
+        let place = path_slot(hash, step, slots);
+        if place + GROUP_WIDTH <= slots {
             let lane = first_not_live(tags, place);
             if lane < GROUP_WIDTH {
                 return place + lane;

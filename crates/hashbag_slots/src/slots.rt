@@ -18,7 +18,7 @@ ghost use Rattle.std.specs.Option.{option_map};
 ghost use Rattle.hashbag_slots.specs.FirstGroup.{IfFound, IfAbsent};
 ghost use Rattle.hashbag_slots.specs.Hashing.{hash_under};
 ghost use Rattle.hashbag_slots.specs.Slots.{IsSlotCount, is_live, holds, live_count, removed_count, slot_at, HoldsAt, IsAbsent, IsNextLive, IsFirstFree, IsSet, slot_entry, entry_at, entries, recounted, raised, count_in, with_value, Places, PlacesAlong};
-ghost use Rattle.hashbag_slots.specs.Columns.{slot_of, IsReached, PlacesBy, IsAlike};
+ghost use Rattle.hashbag_slots.specs.Columns.{slot_of, IsReached, PlacesBy, HashesAlike};
 
 pub mod blank;
 mod carry;
@@ -28,7 +28,7 @@ use crate::cells::Cells;
 use crate::live::{Course, drop_if_live, next_live};
 pub use crate::probe::FirstGroup;
 use crate::probe::first_free;
-use crate::tags::{LEAST_LIVE, REMOVED, empty, empty_tags, fingerprint_of};
+use crate::tags::{LEAST_LIVE, REMOVED, empty_tags, fingerprint_of, make_all_empty};
 use crate::walk::{IntoWalk, Walk};
 use std::alloc::{AllocError, Global};
 use std::hash::{BuildHasher, Hash};
@@ -217,8 +217,8 @@ impl<T: Eq> Slots<T> {
         ensures former { slot_at self.old.slots place ≡ Slot.Live result (count_in (slot_at self.old.slots place)) }
         ensures after { self.new.slots ≡ slice_set self.old.slots place (with_value value (slot_at self.old.slots place)) }
 
-        // If equal values have one `hash` (`IsAlike`), and a probe found each value by its `hash` before, a probe still does.
-        ensures reached { (hash : T → ℕ) → IsAlike T.eq hash → IsReached hash self.old → IsReached hash self.new }
+        // If equal values have one `hash` (`HashesAlike`), and a probe found each value by its `hash` before, a probe still does.
+        ensures reached { (hash : T → ℕ) → HashesAlike T.eq hash → IsReached hash self.old → IsReached hash self.new }
     {
         let (former, count) = self.cells.take(place);
         self.cells.put(place, (value, count));
@@ -268,7 +268,7 @@ impl<T: Eq> Slots<T> {
         ensures reached { (hash : T → ℕ) → IsReached hash self.new }
     {
         drop_if_live(self.tags.as_slice(), &mut self.cells, self.live);
-        empty(self.tags.as_mut_slice());
+        make_all_empty(self.tags.as_mut_slice());
         self.live = 0;
         self.removed = 0;
     }

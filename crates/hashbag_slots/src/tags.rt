@@ -32,22 +32,22 @@ pub fn fingerprint_of(hash: u64) -> u8
     (hash >> 57) as u8 + LEAST_LIVE
 }
 
-/// Returns `count` tags of Empty slots.
+/// Returns the tags of `slots` Empty slots.
 ///
 /// # Errors
 ///
-/// `AllocError` if the allocation fails. With `count` 0 it can't fail.
-pub fn empty_tags(alloc: Global, count: usize) -> Result<Vec<u8>, AllocError>
-    ensures tags { IfOk result (λ v. v.items ≡ replicate count 0) }
-    ensures none { count ≡ 0 → IsOk result }
+/// `AllocError` if the allocation fails. With `slots` 0 it can't fail.
+pub fn empty_tags(alloc: Global, slots: usize) -> Result<Vec<u8>, AllocError>
+    ensures tags { IfOk result (λ v. v.items ≡ replicate slots 0) }
+    ensures none { slots ≡ 0 → IsOk result }
 {
-    let mut tags = Vec::with_capacity(alloc, count)?;
-    tags.resize(count, EMPTY)?;
+    let mut tags = Vec::with_capacity(alloc, slots)?;
+    tags.resize(slots, EMPTY)?;
     Ok(tags)
 }
 
 /// Makes each tag Empty.
-pub fn empty(tags: &mut [u8])
+pub fn make_all_empty(tags: &mut [u8])
     ensures { tags.new ≡ replicate (length tags.old) 0 }
 {
     tags.fill(EMPTY);

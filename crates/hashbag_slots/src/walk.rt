@@ -24,7 +24,7 @@ use std::marker::Model;
 
 // The cells of the table whose turn it is.
 #[inline(always)]
-pub(crate) fn cells_of<'a, T>(
+pub(crate) fn cells_of_turn<'a, T>(
     turn: usize,
     newer: &'a Cells<(T, usize)>,
     older: &'a Cells<(T, usize)>,
@@ -95,7 +95,7 @@ impl<'a, T> Iterator for Walk<'a, T> {
                 let cells = if course.turn == self.course.turn {
                     self.cells
                 } else {
-                    cells_of(course.turn, self.newer, self.older)
+                    cells_of_turn(course.turn, self.newer, self.older)
                 };
                 let entry = cells.get(place);
                 self.cells = cells;
@@ -219,7 +219,7 @@ impl<T> IntoWalk<T> {
             newer: &self.newer,
             older_tags: self.older_tags.as_slice(),
             older: &self.older,
-            cells: cells_of(self.course.turn, &self.newer, &self.older),
+            cells: cells_of_turn(self.course.turn, &self.newer, &self.older),
             course: self.course,
             left: self.left,
         }

@@ -9,7 +9,7 @@ use Rattle.std.proofs.lemmas.List.{length-drop, length-take, take-append-drop, g
 use Rattle.std.proofs.lemmas.List.Sorted.{IsPermutation-refl, IsPermutation-trans, IsPermutation-append_left, IsPermutation-append_comm}
 use Rattle.hashbag_slots.specs.declared.slots.Slot.{Slot}
 use Rattle.hashbag_slots.specs.declared.slots.Slot.TheVariants.{Empty, Removed, Moved, Live}
-use Rattle.hashbag_slots.specs.Slots.{is_live, is_removed, holds, live_count, removed_count, slot_at, Places, PlacesAll, carried, Carries, entries, entries_in, AreApart}
+use Rattle.hashbag_slots.specs.Slots.{is_live, is_removed, holds, live_count, removed_count, slot_at, Places, PlacesAll, moved, Carries, entries, entries_in, AreApart}
 use Rattle.hashbag_slots.specs.Columns.{Columns, IsReached}
 use Rattle.hashbag_slots.proofs.Edits.{count-set, set_cases}
 use Rattle.hashbag_slots.proofs.Tables.{within_table}
@@ -27,13 +27,13 @@ IsCounted-nil T eq = record { distinct = tt; positive = λ k d lt. absurd (omega
 
 module _ {T : Type 0} where
   pub Fills-none : (ss : List (Slot T)) → Fills 0 ss ss
-  Fills-none ss = record { same_length = refl; places = []; few = omega arith; each = λ p. inl refl }
+  Fills-none ss = record { same_length = refl; places = []; at_most = omega arith; each = λ p. inl refl }
 
   pub Fills-Places : (v : T) (n : ℕ) (old new : List (Slot T)) → Places v n old new → Fills 1 old new
   Fills-Places v n old new put = record {
     same_length = length-Places v n old new put;
     places = put.at ∷ [];
-    few = omega arith;
+    at_most = omega arith;
     each = λ p.
         elim (set_cases old put.at (Live v n) put.within p) [
           | inl x ↦ inr ((0, omega arith, sym x.0), ap (λ q. is_live (slot_at old q)) x.0 ∙ put.free, ap (λ ss. is_live (slot_at ss p)) put.after ∙ ap is_live x.1)
@@ -47,7 +47,7 @@ module _ {T : Type 0} where
       record {
         same_length = h.same_length ∙ f.same_length;
         places = f.places ++ h.places;
-        few = let x = f.few in let y = h.few in omega arith;
+        at_most = let x = f.at_most in let y = h.at_most in omega arith;
         each = λ p.
             elim (f.each p) [
               | inl x ↦ elim (h.each p) [
@@ -74,9 +74,9 @@ module _ {T : Type 0} where
       subst (λ n. Fills n a b) k (Fills-then 1 (length es) a h.0 b (Fills-Places e.0 e.1 a h.0 h.1.places) (Fills-PlacesAll hash es h.0 b h.2))
 
   pub Fills-more : (j k : ℕ) (a b : List (Slot T)) → j ≤ k → Fills j a b → Fills k a b
-  Fills-more j k a b le f = record { same_length = f.same_length; places = f.places; few = let x = f.few in omega arith; each = f.each }
+  Fills-more j k a b le f = record { same_length = f.same_length; places = f.places; at_most = let x = f.at_most in omega arith; each = f.each }
 
-  -- a carry: so many slots of the older table are looked at, at most k
+  -- a carry: at most k slots of the older table are looked at
   pub Fills-carry : (hash : T → ℕ) (k from many : ℕ) (older a b : List (Slot T)) → many ≤ k → PlacesAll hash (entries_in from many older) a b → Fills k a b
   Fills-carry hash k from many older a b few all =
       let es = entries_in from many older in
@@ -97,7 +97,7 @@ module _ {T : Type 0} where
       get_or_default (drop (from + many) new) k d Empty lt ∙ get_or-drop (from + many) new k Empty ∙ carry.outside (from + many + k) (inr (omega arith)) ∙ sym (get_or-drop (from + many) old k Empty)
       ∙ sym (get_or_default (drop (from + many) old) k d Empty lt_old))
 
-  carried_dead : (s : Slot T) → is_live (carried s) ≡ false
+  carried_dead : (s : Slot T) → is_live (moved s) ≡ false
   carried_dead Empty = refl
   carried_dead Removed = refl
   carried_dead Moved = refl
@@ -116,14 +116,14 @@ module _ {T : Type 0} (eq : T → T → Bool) (hash : T → ℕ) (newer older ne
     (newer_reached : IsReached hash newer1) (older_reached : IsReached hash older1) where
   dead : (p : ℕ) → p < carried_to + many → is_live (slot_at older1.slots p) ≡ false
   dead p lt = elim (cases_lt p carried_to) [
-    | inl a ↦ ap is_live (left.outside p (inl a)) ∙ tables.carried_slots_dead p a
+    | inl a ↦ ap is_live (left.outside p (inl a)) ∙ tables.carried_not_live p a
     | inr b ↦ ap is_live (left.inside p b lt) ∙ carried_dead (slot_at older.slots p)
   ]
 
   pub kept_after : live_count newer1.slots + live_count (drop (carried_to + many) older1.slots) ≡ live_count newer.slots + live_count (drop carried_to older.slots)
   kept_after =
       let same = left.same_length in
-      let a = live-drop older.slots carried_to tables.carried_within tables.carried_slots_dead in
+      let a = live-drop older.slots carried_to tables.carried_within tables.carried_not_live in
       let b = live-drop older1.slots (carried_to + many) (omega (arith, within, same)) dead in
       omega (arith, a, b, kept)
 
@@ -134,7 +134,7 @@ module _ {T : Type 0} (eq : T → T → Bool) (hash : T → ℕ) (newer older ne
     apart = apart;
     unmoved = unmoved_filled _ newer.slots newer1.slots (Fills-PlacesAll hash _ newer.slots newer1.slots placed) tables.unmoved;
     carried_within = let same = left.same_length in omega (arith, within, same);
-    carried_slots_dead = dead;
+    carried_not_live = dead;
     fits = let k = kept_after in let f = tables.fits in let l : most_used (length newer1.slots) ≡ most_used (length newer.slots) = ap most_used slots in omega (arith, k, f, l, removed);
   }
 
@@ -187,7 +187,7 @@ module _ {T : Type 0} (eq : T → T → Bool) (hash : T → ℕ) where
         apart = λ p v n here q lt. absurd (let w = within_table none.slots p (ap is_live here) in omega arith);
         unmoved = tables.unmoved;
         carried_within = omega arith;
-        carried_slots_dead = λ p lt. absurd (omega arith);
+        carried_not_live = λ p lt. absurd (omega arith);
         fits = let f = tables.fits in let c : live_count (drop 0 none.slots) ≡ 0 = ap live_count empty in omega arith;
       }
 
@@ -264,7 +264,7 @@ IsTables-blank {T = T} eq hash newer older n e f r s =
         apart = λ p v k here q lt. ap (λ ss. holds (eq v) (slot_at ss q)) e ∙ ap (holds (eq v)) (slot_at-replicate n q);
         unmoved = unmoved_blank newer.slots n e;
         carried_within = omega arith;
-        carried_slots_dead = λ p lt. absurd (omega arith);
+        carried_not_live = λ p lt. absurd (omega arith);
         fits = let a = ap live_count e ∙ live_empty T n in let b = ap removed_count e ∙ removed_empty T n in let c = ap live_count f in omega (arith, a, b, c);
       };
       counted = subst (λ es. IsCounted eq (es ++ entries (drop 0 older.slots))) (sym (ap entries e ∙ entries_empty T n)) (subst (λ ss. IsCounted eq (entries ss)) (sym f) (IsCounted-nil T eq));
@@ -335,7 +335,7 @@ module _ {T : Type 0} (eq : T → T → Bool) (laws : IsEquivalence eq) (hash : 
     -- what is Live in the older table waits, and is not the new value
     other : (x : T) (m p : ℕ) → slot_at older.slots p ≡ Live x m → eq x v ≡ false
     other x m p here = elim (cases_lt p carried_to) [
-      | inl a ↦ absurd (let d = before.tables.carried_slots_dead p a in let h : is_live (slot_at older.slots p) ≡ true = ap is_live here in cc)
+      | inl a ↦ absurd (let d = before.tables.carried_not_live p a in let h : is_live (slot_at older.slots p) ≡ true = ap is_live here in cc)
       | inr b ↦
           let e : carried_to + (p - carried_to) ≡ p = omega arith in
           let at : slot_at w (p - carried_to) ≡ Live x m = get_or-drop carried_to older.slots (p - carried_to) Empty ∙ ap (slot_at older.slots) e ∙ here in
@@ -356,7 +356,7 @@ module _ {T : Type 0} (eq : T → T → Bool) (laws : IsEquivalence eq) (hash : 
             apart = λ p x m here. IsAbsent-Places (eq x) v n newer.slots newer1.slots (before.tables.apart p x m here) put (other x m p here);
             unmoved = unmoved_filled 1 newer.slots newer1.slots (Fills-Places v n newer.slots newer1.slots put) before.tables.unmoved;
             carried_within = before.tables.carried_within;
-            carried_slots_dead = before.tables.carried_slots_dead;
+            carried_not_live = before.tables.carried_not_live;
             fits = let f = before.tables.fits in omega (arith, room, live, fewer, limits, f);
           };
           counted = counted_rearranged laws _ _ (entries_settled v n newer.slots newer1.slots w put) (IsCounted-cons eq v n (entries_of newer.slots w) absent some before.counted);
@@ -380,7 +380,7 @@ module _ {T : Type 0} where
 pub ready_alone : {T : Type 0} (t : Tables T) → t.waiting ≡ [] → 0 < room t → IsReady t t
 ready_alone t alone some = record {
   with_room = λ pos. record {
-    fills = record { same_length = refl; places = []; few = omega arith; each = λ p. inl refl };
+    fills = record { same_length = refl; places = []; at_most = omega arith; each = λ p. inl refl };
     waits = alone ∙ sym (drop_all 16 t.waiting (let l = ap length alone in omega arith));
     entries = IsPermutation-refl _;
     live = refl;

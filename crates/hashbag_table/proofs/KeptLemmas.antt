@@ -1,4 +1,4 @@
--- What the answers of a closure leave of a map, and of two tables of slots.
+-- What the numbers that a closure returned leave of a map, and of two tables of slots.
 use Rattle.std.proofs.Common.{◌≡◌, ℕ, ◌+◌, ◌<◌, ◌≤◌, ◌^◌, min, Bool, true, false, cond, ltb, List, [], ◌∷◌, ◌++◌, length, drop, refl, sym, ap, subst, ◌∙◌, inl, inr, arith, append_assoc}
 use denote.Ref.{Bor}
 use denote.Param.Members.{Mut}
@@ -10,11 +10,11 @@ use Rattle.std.proofs.lemmas.List.Sorted.{IsPermutation-refl}
 use Rattle.std.proofs.lemmas.Map.Keys.{IsDistinct-cons, IsDistinct-head, IsDistinct-tail}
 use Rattle.hashbag_slots.specs.Slots.{is_live, live_count, removed_count, entries}
 use Rattle.hashbag_slots.specs.Columns.{Columns, IsReached}
-use Rattle.hashbag_table.specs.Asked.{MayAskInTurn, AnswersInTurn, Retains, kept}
+use Rattle.hashbag_table.specs.Returned.{MayCallInTurn, ReturnsInTurn, Retains, retained_entries}
 use Rattle.hashbag_table.specs.Entries.{IsCounted, total}
 use Rattle.hashbag_table.specs.Retained.{RetainsFrom}
 use Rattle.hashbag_table.specs.Tables.{most_used, room_of, entries_of, AreTables, IsTables}
-use Rattle.hashbag_table.proofs.AskedLemmas.{total_kept, positive_kept}
+use Rattle.hashbag_table.proofs.ReturnedLemmas.{total_kept, positive_kept}
 use Rattle.hashbag_table.proofs.ListLemmas.{IsPermutation-same}
 use Rattle.hashbag_table.proofs.RetainLemmas.{answers_left, counts_left, retained_live, retained_moved, retained_absent}
 
@@ -28,24 +28,24 @@ module _ {T : Type 0} where
   keys_step P true v m es p h = (p, h)
   keys_step P false v m es p h = h
 
-  keys_kept : (P : T → Type 0) (es : List (T × ℕ)) (answers : List ℕ) → AllByRecursion P (keys_of es) → AllByRecursion P (keys_of (kept es answers))
-  keys_kept P [] answers h = tt
+  keys_kept : (P : T → Type 0) (es : List (T × ℕ)) (returned : List ℕ) → AllByRecursion P (keys_of es) → AllByRecursion P (keys_of (retained_entries es returned))
+  keys_kept P [] returned h = tt
   keys_kept P (e ∷ es) [] h = tt
-  keys_kept P (e ∷ es) (a ∷ answers) h = keys_step P (ltb 0 (min a e.1)) e.0 (min a e.1) (kept es answers) h.0 (keys_kept P es answers h.1)
+  keys_kept P (e ∷ es) (a ∷ returned) h = keys_step P (ltb 0 (min a e.1)) e.0 (min a e.1) (retained_entries es returned) h.0 (keys_kept P es returned h.1)
 
   distinct_step : (eq : T → T → Bool) (b : Bool) (v : T) (m : ℕ) (es : List (T × ℕ)) → AllByRecursion (λ y. eq v y ≡ false) (keys_of es) → IsDistinct eq (keys_of es) → IsDistinct eq (keys_of (cond b ((v, m) ∷ es) es))
   distinct_step eq true v m es p h = IsDistinct-cons eq v (keys_of es) p h
   distinct_step eq false v m es p h = h
 
-  distinct_kept : (eq : T → T → Bool) (es : List (T × ℕ)) (answers : List ℕ) → IsDistinct eq (keys_of es) → IsDistinct eq (keys_of (kept es answers))
-  distinct_kept eq [] answers h = distinct_nil T eq
+  distinct_kept : (eq : T → T → Bool) (es : List (T × ℕ)) (returned : List ℕ) → IsDistinct eq (keys_of es) → IsDistinct eq (keys_of (retained_entries es returned))
+  distinct_kept eq [] returned h = distinct_nil T eq
   distinct_kept eq (e ∷ es) [] h = distinct_nil T eq
-  distinct_kept eq (e ∷ es) (a ∷ answers) h =
-      distinct_step eq (ltb 0 (min a e.1)) e.0 (min a e.1) (kept es answers) (keys_kept (λ y. eq e.0 y ≡ false) es answers (IsDistinct-head eq e.0 (keys_of es) h))
-      (distinct_kept eq es answers (IsDistinct-tail eq e.0 (keys_of es) h))
+  distinct_kept eq (e ∷ es) (a ∷ returned) h =
+      distinct_step eq (ltb 0 (min a e.1)) e.0 (min a e.1) (retained_entries es returned) (keys_kept (λ y. eq e.0 y ≡ false) es returned (IsDistinct-head eq e.0 (keys_of es) h))
+      (distinct_kept eq es returned (IsDistinct-tail eq e.0 (keys_of es) h))
 
-  pub counted_kept : (eq : T → T → Bool) (es : List (T × ℕ)) (answers : List ℕ) → IsCounted eq es → IsCounted eq (kept es answers)
-  counted_kept eq es answers h = record { distinct = distinct_kept eq es answers h.distinct; positive = positive_kept es answers }
+  pub counted_kept : (eq : T → T → Bool) (es : List (T × ℕ)) (returned : List ℕ) → IsCounted eq es → IsCounted eq (retained_entries es returned)
+  counted_kept eq es returned h = record { distinct = distinct_kept eq es returned h.distinct; positive = positive_kept es returned }
 
   append_step : (b : Bool) (v : T) (m : ℕ) (all front back : List (T × ℕ)) → all ≡ front ++ back → cond b ((v, m) ∷ all) all ≡ cond b ((v, m) ∷ front) front ++ back
   append_step true v m all front back h = ap (λ l. (v, m) ∷ l) h
@@ -53,27 +53,27 @@ module _ {T : Type 0} where
 
 module _ {F T : Type 0} (g : Mut F (Bor T × (ℕ × Unit {0})) ℕ) where
   -- one walk, and then another one
-  kept_both : (f f' : F) (es fs : List (T × ℕ)) (ms ns : List ℕ) → AnswersInTurn g f es ms f' → kept (es ++ fs) (ms ++ ns) ≡ kept es ms ++ kept fs ns
+  kept_both : (f f' : F) (es fs : List (T × ℕ)) (ms ns : List ℕ) → ReturnsInTurn g f es ms f' → retained_entries (es ++ fs) (ms ++ ns) ≡ retained_entries es ms ++ retained_entries fs ns
   kept_both f f' [] fs [] ns h = refl
   kept_both f f' [] fs (a ∷ ms) ns h = absurd h
   kept_both f f' (e ∷ es) fs [] ns h = absurd h
-  kept_both f f' (e ∷ es) fs (a ∷ ms) ns h = append_step (ltb 0 (min a e.1)) e.0 (min a e.1) (kept (es ++ fs) (ms ++ ns)) (kept es ms) (kept fs ns) (kept_both h.0 f' es fs ms ns h.2)
+  kept_both f f' (e ∷ es) fs (a ∷ ms) ns h = append_step (ltb 0 (min a e.1)) e.0 (min a e.1) (retained_entries (es ++ fs) (ms ++ ns)) (retained_entries es ms) (retained_entries fs ns) (kept_both h.0 f' es fs ms ns h.2)
 
-  answers_both : (f f1 f2 : F) (es fs : List (T × ℕ)) (ms ns : List ℕ) → AnswersInTurn g f es ms f1 → AnswersInTurn g f1 fs ns f2 → AnswersInTurn g f (es ++ fs) (ms ++ ns) f2
-  answers_both f f1 f2 [] fs [] ns h k = subst (λ x. AnswersInTurn g x fs ns f2) (sym h) k
+  answers_both : (f f1 f2 : F) (es fs : List (T × ℕ)) (ms ns : List ℕ) → ReturnsInTurn g f es ms f1 → ReturnsInTurn g f1 fs ns f2 → ReturnsInTurn g f (es ++ fs) (ms ++ ns) f2
+  answers_both f f1 f2 [] fs [] ns h k = subst (λ x. ReturnsInTurn g x fs ns f2) (sym h) k
   answers_both f f1 f2 [] fs (a ∷ ms) ns h k = absurd h
   answers_both f f1 f2 (e ∷ es) fs [] ns h k = absurd h
   answers_both f f1 f2 (e ∷ es) fs (a ∷ ms) ns h k = (h.0, h.1, answers_both h.0 f1 f2 es fs ms ns h.2 k)
 
-  pub asks_first : (f : F) (es fs all : List (T × ℕ)) → es ++ fs ≡ all → MayAskInTurn g f all → MayAskInTurn g f es
-  asks_first f es fs all is asks = record {
-    at = λ before after e answers last split asked. asks.at before (after ++ fs) e answers last (sym is ∙ ap (λ l. l ++ fs) split ∙ append_assoc before (e ∷ after) fs) asked;
+  pub callable_first : (f : F) (es fs all : List (T × ℕ)) → es ++ fs ≡ all → MayCallInTurn g f all → MayCallInTurn g f es
+  callable_first f es fs all is callable = record {
+    at = λ before after e returned last split asked. callable.at before (after ++ fs) e returned last (sym is ∙ ap (λ l. l ++ fs) split ∙ append_assoc before (e ∷ after) fs) asked;
   }
 
-  asks_then : (f f1 : F) (es fs : List (T × ℕ)) (ms : List ℕ) → MayAskInTurn g f (es ++ fs) → AnswersInTurn g f es ms f1 → MayAskInTurn g f1 fs
-  asks_then f f1 es fs ms asks first = record {
-    at = λ before after e answers last split asked.
-        asks.at (es ++ before) after e (ms ++ answers) last (ap (λ l. es ++ l) split ∙ sym (append_assoc es before (e ∷ after))) (answers_both f f1 last es before ms answers first asked);
+  callable_then : (f f1 : F) (es fs : List (T × ℕ)) (ms : List ℕ) → MayCallInTurn g f (es ++ fs) → ReturnsInTurn g f es ms f1 → MayCallInTurn g f1 fs
+  callable_then f f1 es fs ms callable first = record {
+    at = λ before after e returned last split asked.
+        callable.at (es ++ before) after e (ms ++ returned) last (ap (λ l. es ++ l) split ∙ sym (append_assoc es before (e ∷ after))) (answers_both f f1 last es before ms returned first asked);
   }
 
   pub total_both : (es fs : List (T × ℕ)) → total (es ++ fs) ≡ total es + total fs
@@ -84,11 +84,11 @@ module _ {F T : Type 0} (g : Mut F (Bor T × (ℕ × Unit {0})) ℕ) where
   total_fits es fs all is fits = let both = total_both es fs in (omega (arith, both, is, fits), omega (arith, both, is, fits))
 
   -- the newer table, and then the slots that wait
-  pub asks_waiting : (newer waiting newer1 : Columns T) (carried_to : ℕ) (f f1 : F) → RetainsFrom g 0 f newer.slots newer1.slots f1 → (all : List (T × ℕ)) → entries_of newer.slots (drop carried_to waiting.slots) ≡ all → MayAskInTurn g f all
-      → MayAskInTurn g f1 (entries (drop carried_to waiting.slots))
-  asks_waiting newer waiting newer1 carried_to f f1 first all is asks =
+  pub callable_waiting : (newer waiting newer1 : Columns T) (carried_to : ℕ) (f f1 : F) → RetainsFrom g 0 f newer.slots newer1.slots f1 → (all : List (T × ℕ)) → entries_of newer.slots (drop carried_to waiting.slots) ≡ all → MayCallInTurn g f all
+      → MayCallInTurn g f1 (entries (drop carried_to waiting.slots))
+  callable_waiting newer waiting newer1 carried_to f f1 first all is callable =
       let a = answers_left g f f1 newer.slots newer1.slots first.left in
-      asks_then f f1 (entries newer.slots) (entries (drop carried_to waiting.slots)) a.0 (subst (MayAskInTurn g f) (sym is) asks) a.1
+      callable_then f f1 (entries newer.slots) (entries (drop carried_to waiting.slots)) a.0 (subst (MayCallInTurn g f) (sym is) callable) a.1
 
   pub record WalksBoth (newer older newer1 older1 : Columns T) (carried_to : ℕ) (f f1 f2 : F) : Type 0 where
     pub first : RetainsFrom g 0 f newer.slots newer1.slots f1
@@ -98,8 +98,8 @@ module _ {F T : Type 0} (g : Mut F (Bor T × (ℕ × Unit {0})) ℕ) where
     pub length_waiting : length (drop carried_to older1.slots) ≡ length (drop carried_to older.slots)
     length_waiting = let a = length-drop carried_to older1.slots in let b = length-drop carried_to older.slots in let same = walked.second.same_length in omega (arith, a, b, same)
 
-    both_left : (answers : List ℕ) × AnswersInTurn g f (entries_of newer.slots (drop carried_to older.slots)) answers f2
-        × (entries_of newer1.slots (drop carried_to older1.slots) ≡ kept (entries_of newer.slots (drop carried_to older.slots)) answers)
+    both_left : (returned : List ℕ) × ReturnsInTurn g f (entries_of newer.slots (drop carried_to older.slots)) returned f2
+        × (entries_of newer1.slots (drop carried_to older1.slots) ≡ retained_entries (entries_of newer.slots (drop carried_to older.slots)) returned)
     both_left =
         let w = drop carried_to older.slots in let w1 = drop carried_to older1.slots in
         let a = answers_left g f f1 newer.slots newer1.slots walked.first.left in
@@ -115,10 +115,10 @@ module _ {F T : Type 0} (g : Mut F (Bor T × (ℕ × Unit {0})) ℕ) where
         record {
           walk = entries_of newer.slots (drop carried_to older.slots);
           order = IsPermutation-refl _;
-          answers = all.0;
+          returned = all.0;
           last = f2;
-          asked = all.1;
-          kept = IsPermutation-same _ _ (sym all.2);
+          calls = all.1;
+          retained = IsPermutation-same _ _ (sym all.2);
         }
 
     pub total_left : total (entries newer1.slots) + total (entries (drop carried_to older1.slots)) ≤ total (entries_of newer.slots (drop carried_to older.slots))
@@ -149,7 +149,7 @@ module _ {F T : Type 0} (g : Mut F (Bor T × (ℕ × Unit {0})) ℕ) where
             retained_absent g 0 f f1 newer.slots newer1.slots walked.first (eq v) (before.tables.apart p v was.0 was.1);
         unmoved = λ p here. before.tables.unmoved p (retained_moved g 0 f f1 newer.slots newer1.slots walked.first p here);
         carried_within = let l = before.tables.carried_within in let same = walked.second.same_length in omega (arith, l, same);
-        carried_slots_dead = λ p lt. ap is_live (walked.second.before p lt) ∙ before.tables.carried_slots_dead p lt;
+        carried_not_live = λ p lt. ap is_live (walked.second.before p lt) ∙ before.tables.carried_not_live p lt;
         fits = let used = used_left in let l = limit_left in let t = before.tables.fits in omega (arith, used, l, t);
       }
 

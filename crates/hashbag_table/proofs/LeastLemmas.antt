@@ -1,4 +1,4 @@
--- The least number of slots of which so many may be Live.
+-- The least number of slots of which a given number may be Live.
 use Rattle.std.proofs.Common.{◌≡◌, ℕ, suc, ◌+◌, ◌*◌, ◌^◌, ◌<◌, ◌≤◌, List, [], length, refl, ap, subst, ◌∙◌, inl, inr, arith, pow-suc}
 use Rattle.std.proofs.lemmas.List.{length-append}
 use lib.Pow.{pow_mono}

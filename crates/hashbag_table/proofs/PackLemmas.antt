@@ -53,7 +53,7 @@ module _ {T : Type 0} (eq : T → T → Bool) (laws : IsEquivalence eq) where
           apart = λ p v n here q lt. absurd (let w = within_table none.slots p (ap is_live here) in omega arith);
           unmoved = before.tables.unmoved;
           carried_within = omega arith;
-          carried_slots_dead = λ p lt. absurd (omega arith);
+          carried_not_live = λ p lt. absurd (omega arith);
           fits = let f = before.tables.fits in omega (arith, f, live);
         };
         counted = subst (λ ss. IsCounted eq (entries newer.slots ++ entries ss)) (sym empty) (subst (IsCounted eq) (sym (append-nil (entries newer.slots))) counted);
@@ -88,7 +88,7 @@ module _ {T : Type 0} {eq : T → T → Bool} {hash : T → ℕ} {newer older bl
   pub room_blank : live_count blank.slots + live_count older.slots ≤ length blank.slots
   room_blank =
       let a = live_fresh blank.slots may.empty in
-      let b = live-drop older.slots carried_to may.before.tables.carried_within may.before.tables.carried_slots_dead in
+      let b = live-drop older.slots carried_to may.before.tables.carried_within may.before.tables.carried_not_live in
       let c = all_values in let d = limit_few (length blank.slots) in let enough = may.enough in omega (arith, a, b, c, d, enough)
 
 module _ {T : Type 0} {eq : T → T → Bool} (laws : IsEquivalence eq) {hash : T → ℕ} {newer older blank blank1 : Columns T} {carried_to many : ℕ}

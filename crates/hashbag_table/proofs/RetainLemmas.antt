@@ -1,4 +1,4 @@
--- What the answers of a closure leave of one table of slots.
+-- What the numbers that a closure returned leave of one table of slots.
 use Rattle.std.proofs.Common.{◌≡◌, ℕ, zero, suc, ◌+◌, ◌-◌, ◌<◌, ◌≤◌, min, Bool, true, false, cond, ltb, List, [], ◌∷◌, length, drop, Some, refl, sym, ap, subst, ◌∙◌, inl, inr, arith, slice_set}
 use borrow.Author.Tests.{lt-ltb}
 use denote.Ref.{Bor}
@@ -9,10 +9,10 @@ use Rattle.std.proofs.lemmas.List.Sums.{sum_by-cons}
 use Rattle.hashbag_slots.specs.declared.slots.Slot.{Slot}
 use Rattle.hashbag_slots.specs.declared.slots.Slot.TheVariants.{Empty, Removed, Moved, Live}
 use Rattle.hashbag_slots.specs.Slots.{is_live, is_removed, holds, live_count, removed_count, slot_at, slot_entry, count_in, entries, IsAbsent, IsNextLive}
-use Rattle.hashbag_table.specs.Asked.{MayAsk, MayAnswer, MayAskInTurn, AnswersInTurn, kept}
+use Rattle.hashbag_table.specs.Returned.{MayCall, MayReturn, MayCallInTurn, ReturnsInTurn, retained_entries}
 use Rattle.hashbag_table.specs.Entries.{total}
-use Rattle.hashbag_table.specs.Retained.{slot_left, slot_kept, LeavesSlot, LeavesSlots, RetainsFrom, RetainsSlots}
-use Rattle.hashbag_table.proofs.AskedLemmas.{lesser}
+use Rattle.hashbag_table.specs.Retained.{live_retained, slot_retained, LeavesSlot, LeavesSlots, RetainsFrom, RetainsSlots}
+use Rattle.hashbag_table.proofs.ReturnedLemmas.{lesser}
 use Rattle.hashbag_table.proofs.SlotLemmas.{length-entries, entries-drop}
 
 module _ {T : Type 0} where
@@ -30,10 +30,10 @@ module _ {T : Type 0} where
   pub written_at : (ss ts : List (Slot T)) (p : ℕ) (s : Slot T) → p < length ss → ts ≡ slice_set ss p s → slot_at ts p ≡ s
   written_at ss ts p s within e = ap (λ us. slot_at us p) e ∙ get_or-set_same ss p s Empty within
 
-  pub left_some : (v : T) (n a : ℕ) → 0 < min a n → slot_left v n a ≡ Live v (min a n)
+  pub left_some : (v : T) (n a : ℕ) → 0 < min a n → live_retained v n a ≡ Live v (min a n)
   left_some v n a pos = ap (λ b. cond b (Live v (min a n)) Removed) (lt-ltb 0 (min a n) pos)
 
-  pub left_none : (v : T) (n a : ℕ) → min a n ≡ 0 → slot_left v n a ≡ Removed
+  pub left_none : (v : T) (n a : ℕ) → min a n ≡ 0 → live_retained v n a ≡ Removed
   left_none v n a e = ap (λ m. cond (ltb 0 m) (Live v m) Removed) e
 
   pub total_slots : (s : Slot T) (ss : List (Slot T)) → total (entries (s ∷ ss)) ≡ count_in s + total (entries ss)
@@ -115,7 +115,7 @@ module _ {F T : Type 0} (g : Mut F (Bor T × (ℕ × Unit {0})) ℕ) where
   leaves_dead f Moved h = (refl, refl)
   leaves_dead f (Live v n) h = absurd (cc)
 
-  pub leaves_live : (f f' : F) (s t : Slot T) (v : T) (n a : ℕ) → s ≡ Live v n → MayAnswer g f (v, n) a f' → t ≡ slot_left v n a → LeavesSlot g f s t f'
+  pub leaves_live : (f f' : F) (s t : Slot T) (v : T) (n a : ℕ) → s ≡ Live v n → MayReturn g f (v, n) a f' → t ≡ live_retained v n a → LeavesSlot g f s t f'
   leaves_live f f' s t v n a here may is = subst (λ x. LeavesSlot g f x t f') (sym here) (a, may, is)
 
   slot_live : (f f' : F) (s t : Slot T) (v : T) (n : ℕ) → LeavesSlot g f s t f' → t ≡ Live v n → (m : ℕ) × (s ≡ Live v m)
@@ -148,13 +148,13 @@ module _ {F T : Type 0} (g : Mut F (Bor T × (ℕ × Unit {0})) ℕ) where
   count_left f f' Moved t h = let e = ap count_in h.0 in omega (arith, e)
   count_left f f' (Live w m) t h = subst (λ x. count_in x ≤ m) (sym h.2) (left_count _ w _ m (lesser h.0 m))
 
-  slot_some : (f f' : F) (s t : Slot T) → LeavesSlot g f s t f' → (a : ℕ) × (t ≡ slot_kept a s)
+  slot_some : (f f' : F) (s t : Slot T) → LeavesSlot g f s t f' → (a : ℕ) × (t ≡ slot_retained a s)
   slot_some f f' Empty t h = (0, h.0)
   slot_some f f' Removed t h = (0, h.0)
   slot_some f f' Moved t h = (0, h.0)
   slot_some f f' (Live v n) t h = (h.0, h.2)
 
-  slots_some : (f f' : F) (ss ts : List (Slot T)) → LeavesSlots g f ss ts f' → (p : ℕ) → (a : ℕ) × (slot_at ts p ≡ slot_kept a (slot_at ss p))
+  slots_some : (f f' : F) (ss ts : List (Slot T)) → LeavesSlots g f ss ts f' → (p : ℕ) → (a : ℕ) × (slot_at ts p ≡ slot_retained a (slot_at ss p))
   slots_some f f' [] [] h p = (0, refl)
   slots_some f f' [] (t ∷ ts) h p = absurd h
   slots_some f f' (s ∷ ss) [] h p = absurd h
@@ -169,26 +169,26 @@ module _ {F T : Type 0} (g : Mut F (Bor T × (ℕ × Unit {0})) ℕ) where
   }
 
   -- what may be asked
-  asks_later : (f f' : F) (e : T × ℕ) (walk : List (T × ℕ)) (a : ℕ) → MayAskInTurn g f (e ∷ walk) → MayAnswer g f e a f' → MayAskInTurn g f' walk
-  asks_later f f' e walk a asks may = record {
-    at = λ before after d answers last split asked. asks.at (e ∷ before) after d (a ∷ answers) last (ap (λ l. e ∷ l) split) (f', may, asked);
+  callable_later : (f f' : F) (e : T × ℕ) (walk : List (T × ℕ)) (a : ℕ) → MayCallInTurn g f (e ∷ walk) → MayReturn g f e a f' → MayCallInTurn g f' walk
+  callable_later f f' e walk a callable may = record {
+    at = λ before after d returned last split asked. callable.at (e ∷ before) after d (a ∷ returned) last (ap (λ l. e ∷ l) split) (f', may, asked);
   }
 
-  asks_left : (f f' : F) (s t : Slot T) (ss : List (Slot T)) → MayAskInTurn g f (entries (s ∷ ss)) → LeavesSlot g f s t f' → MayAskInTurn g f' (entries ss)
-  asks_left f f' Empty t ss asks h = subst (λ x. MayAskInTurn g x (entries ss)) h.1 asks
-  asks_left f f' Removed t ss asks h = subst (λ x. MayAskInTurn g x (entries ss)) h.1 asks
-  asks_left f f' Moved t ss asks h = subst (λ x. MayAskInTurn g x (entries ss)) h.1 asks
-  asks_left f f' (Live v n) t ss asks h = asks_later f f' (v, n) (entries ss) h.0 asks h.1
+  callable_left : (f f' : F) (s t : Slot T) (ss : List (Slot T)) → MayCallInTurn g f (entries (s ∷ ss)) → LeavesSlot g f s t f' → MayCallInTurn g f' (entries ss)
+  callable_left f f' Empty t ss callable h = subst (λ x. MayCallInTurn g x (entries ss)) h.1 callable
+  callable_left f f' Removed t ss callable h = subst (λ x. MayCallInTurn g x (entries ss)) h.1 callable
+  callable_left f f' Moved t ss callable h = subst (λ x. MayCallInTurn g x (entries ss)) h.1 callable
+  callable_left f f' (Live v n) t ss callable h = callable_later f f' (v, n) (entries ss) h.0 callable h.1
 
-  asks_slot : (f : F) (s : Slot T) (ss : List (Slot T)) → MayAskInTurn g f (entries (s ∷ ss)) → (e : T × ℕ) → slot_entry s ≡ Some e → MayAsk g f e
-  asks_slot f Empty ss asks e h = absurd (cc)
-  asks_slot f Removed ss asks e h = absurd (cc)
-  asks_slot f Moved ss asks e h = absurd (cc)
-  asks_slot f (Live v n) ss asks e h = let z : (v, n) ≡ e = cc in subst (MayAsk g f) z (asks.at [] (entries ss) (v, n) [] f refl refl)
+  callable_slot : (f : F) (s : Slot T) (ss : List (Slot T)) → MayCallInTurn g f (entries (s ∷ ss)) → (e : T × ℕ) → slot_entry s ≡ Some e → MayCall g f e
+  callable_slot f Empty ss callable e h = absurd (cc)
+  callable_slot f Removed ss callable e h = absurd (cc)
+  callable_slot f Moved ss callable e h = absurd (cc)
+  callable_slot f (Live v n) ss callable e h = let z : (v, n) ≡ e = cc in subst (MayCall g f) z (callable.at [] (entries ss) (v, n) [] f refl refl)
 
   -- the value at a place may be asked for
-  pub asks_at : (f : F) (ss : List (Slot T)) (p : ℕ) → p < length ss → MayAskInTurn g f (entries (drop p ss)) → (e : T × ℕ) → slot_entry (slot_at ss p) ≡ Some e → MayAsk g f e
-  asks_at f ss p within asks = asks_slot f (slot_at ss p) (drop (p + 1) ss) (subst (λ l. MayAskInTurn g f (entries l)) (drop_more ss p Empty within) asks)
+  pub callable_at : (f : F) (ss : List (Slot T)) (p : ℕ) → p < length ss → MayCallInTurn g f (entries (drop p ss)) → (e : T × ℕ) → slot_entry (slot_at ss p) ≡ Some e → MayCall g f e
+  callable_at f ss p within callable = callable_slot f (slot_at ss p) (drop (p + 1) ss) (subst (λ l. MayCallInTurn g f (entries l)) (drop_more ss p Empty within) callable)
 
   -- where no slot is Live nothing is asked
   leaves_all : (f : F) (ss : List (Slot T)) → ((q : ℕ) → is_live (slot_at ss q) ≡ false) → LeavesSlots g f ss ss f
@@ -221,8 +221,8 @@ module _ {F T : Type 0} (g : Mut F (Bor T × (ℕ × Unit {0})) ℕ) where
     pub same_ahead : entries (drop p ss) ≡ entries (drop from ss)
     same_ahead = let n = next.within in entries_ahead ss from p next.after (omega (arith, n)) next.between
 
-    pub asks_ahead : MayAskInTurn g f (entries (drop from ss)) → MayAskInTurn g f (entries (drop p ss))
-    asks_ahead asks = subst (MayAskInTurn g f) (sym same_ahead) asks
+    pub callable_ahead : MayCallInTurn g f (entries (drop from ss)) → MayCallInTurn g f (entries (drop p ss))
+    callable_ahead callable = subst (MayCallInTurn g f) (sym same_ahead) callable
 
     module _ (last : List (Slot T)) (f' : F) (later : RetainsFrom g p f ss last f') where
       pub retained_ahead : RetainsFrom g from f ss last f'
@@ -255,10 +255,10 @@ module _ {F T : Type 0} (g : Mut F (Bor T × (ℕ × Unit {0})) ℕ) where
     pub length_next : length ts ≡ length ss
     length_next = ap length set ∙ length-set ss p (slot_at ts p)
 
-    pub asks_next : MayAskInTurn g f (entries (drop p ss)) → MayAskInTurn g f1 (entries (drop (p + 1) ts))
-    asks_next asks =
-        subst (λ l. MayAskInTurn g f1 (entries l)) (sym rest_is)
-        (asks_left f f1 (slot_at ss p) (slot_at ts p) (drop (p + 1) ss) (subst (λ l. MayAskInTurn g f (entries l)) head_is asks) leaves)
+    pub callable_next : MayCallInTurn g f (entries (drop p ss)) → MayCallInTurn g f1 (entries (drop (p + 1) ts))
+    callable_next callable =
+        subst (λ l. MayCallInTurn g f1 (entries l)) (sym rest_is)
+        (callable_left f f1 (slot_at ss p) (slot_at ts p) (drop (p + 1) ss) (subst (λ l. MayCallInTurn g f (entries l)) head_is callable) leaves)
 
     pub total_next : count_in (slot_at ts p) + total (entries (drop (p + 1) ts)) ≤ total (entries (drop p ss))
     total_next =
@@ -286,16 +286,16 @@ module _ {F T : Type 0} (g : Mut F (Bor T × (ℕ × Unit {0})) ℕ) where
       total_last = ap (λ l. total (entries l)) last_head ∙ total_slots (slot_at ts p) (drop (p + 1) last)
 
   -- all slots
-  pub answers_left : (f f' : F) (ss ts : List (Slot T)) → LeavesSlots g f ss ts f' → (answers : List ℕ) × AnswersInTurn g f (entries ss) answers f' × (entries ts ≡ kept (entries ss) answers)
+  pub answers_left : (f f' : F) (ss ts : List (Slot T)) → LeavesSlots g f ss ts f' → (returned : List ℕ) × ReturnsInTurn g f (entries ss) returned f' × (entries ts ≡ retained_entries (entries ss) returned)
   answers_left f f' [] [] h = ([], h, refl)
   answers_left f f' [] (t ∷ ts) h = absurd h
   answers_left f f' (s ∷ ss) [] h = absurd h
-  answers_left f f' (Empty ∷ ss) (t ∷ ts) h = let r = answers_left h.0 f' ss ts h.2 in (r.0, subst (λ x. AnswersInTurn g x (entries ss) r.0 f') (sym h.1.1) r.1, ap (λ x. entries (x ∷ ts)) h.1.0 ∙ r.2)
-  answers_left f f' (Removed ∷ ss) (t ∷ ts) h = let r = answers_left h.0 f' ss ts h.2 in (r.0, subst (λ x. AnswersInTurn g x (entries ss) r.0 f') (sym h.1.1) r.1, ap (λ x. entries (x ∷ ts)) h.1.0 ∙ r.2)
-  answers_left f f' (Moved ∷ ss) (t ∷ ts) h = let r = answers_left h.0 f' ss ts h.2 in (r.0, subst (λ x. AnswersInTurn g x (entries ss) r.0 f') (sym h.1.1) r.1, ap (λ x. entries (x ∷ ts)) h.1.0 ∙ r.2)
+  answers_left f f' (Empty ∷ ss) (t ∷ ts) h = let r = answers_left h.0 f' ss ts h.2 in (r.0, subst (λ x. ReturnsInTurn g x (entries ss) r.0 f') (sym h.1.1) r.1, ap (λ x. entries (x ∷ ts)) h.1.0 ∙ r.2)
+  answers_left f f' (Removed ∷ ss) (t ∷ ts) h = let r = answers_left h.0 f' ss ts h.2 in (r.0, subst (λ x. ReturnsInTurn g x (entries ss) r.0 f') (sym h.1.1) r.1, ap (λ x. entries (x ∷ ts)) h.1.0 ∙ r.2)
+  answers_left f f' (Moved ∷ ss) (t ∷ ts) h = let r = answers_left h.0 f' ss ts h.2 in (r.0, subst (λ x. ReturnsInTurn g x (entries ss) r.0 f') (sym h.1.1) r.1, ap (λ x. entries (x ∷ ts)) h.1.0 ∙ r.2)
   answers_left f f' (Live v n ∷ ss) (t ∷ ts) h =
       let r = answers_left h.0 f' ss ts h.2 in
-      (h.1.0 ∷ r.0, (h.0, h.1.1, r.1), ap (λ x. entries (x ∷ ts)) h.1.2 ∙ left_entry (ltb 0 (min h.1.0 n)) v (min h.1.0 n) ts (kept (entries ss) r.0) r.2)
+      (h.1.0 ∷ r.0, (h.0, h.1.1, r.1), ap (λ x. entries (x ∷ ts)) h.1.2 ∙ left_entry (ltb 0 (min h.1.0 n)) v (min h.1.0 n) ts (retained_entries (entries ss) r.0) r.2)
 
   live_left : (f f' : F) (ss ts : List (Slot T)) → LeavesSlots g f ss ts f' → (p : ℕ) (v : T) (n : ℕ) → slot_at ts p ≡ Live v n → (m : ℕ) × (slot_at ss p ≡ Live v m)
   live_left f f' [] [] h p v n here = absurd (cc)

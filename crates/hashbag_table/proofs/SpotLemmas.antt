@@ -121,7 +121,7 @@ module _ {T : Type 0} (eq : T → T → Bool) (hash : T → ℕ) (newer older : 
   -- a Live slot that waits was not looked at
   pub later : (p : ℕ) → is_live (slot_at older.slots p) ≡ true → carried_to ≤ p
   later p h = elim (cases_lt p carried_to) [
-    | inl a ↦ absurd (let d = before.tables.carried_slots_dead p a in cc)
+    | inl a ↦ absurd (let d = before.tables.carried_not_live p a in cc)
     | inr b ↦ b
   ]
 
@@ -155,7 +155,7 @@ module _ {T : Type 0} (eq : T → T → Bool) (hash : T → ℕ) (newer older : 
                 ];
             unmoved = subst NoneMoved (sym now) (unmoved_set newer.slots p s lt not_moved before.tables.unmoved);
             carried_within = before.tables.carried_within;
-            carried_slots_dead = before.tables.carried_slots_dead;
+            carried_not_live = before.tables.carried_not_live;
             fits = let f = before.tables.fits in omega (arith, sum, limits, f);
           };
           counted = counted;
@@ -191,11 +191,11 @@ module _ {T : Type 0} (eq : T → T → Bool) (hash : T → ℕ) (newer older : 
                 ];
             unmoved = before.tables.unmoved;
             carried_within = let l = before.tables.carried_within in omega (arith, l, len);
-            carried_slots_dead = λ q below.
+            carried_not_live = λ q below.
                 ap (λ ss. is_live (slot_at ss q)) now
                 ∙ elim (set_cases older.slots (carried_to + p) s lt q) [
                   | inl at ↦ absurd (let e = at.0 in omega (arith, below, e))
-                  | inr at ↦ ap is_live at.1 ∙ before.tables.carried_slots_dead q below
+                  | inr at ↦ ap is_live at.1 ∙ before.tables.carried_not_live q below
                 ];
             fits = let f = before.tables.fits in omega (arith, fewer, f);
           };

@@ -5,25 +5,25 @@ use denote.Param.Members.{Mut}
 use Rattle.hashbag_slots.specs.declared.slots.Slot.{Slot}
 use Rattle.hashbag_slots.specs.declared.slots.Slot.TheVariants.{Empty, Removed, Moved, Live}
 use Rattle.hashbag_slots.specs.Slots.{slot_at}
-use Rattle.hashbag_table.specs.Asked.{MayAnswer}
+use Rattle.hashbag_table.specs.Returned.{MayReturn}
 use Rattle.hashbag_table.specs.Tables.{Tables}
 
 -- a Live slot with the value v and the count n, after a was returned for v: the count is the lesser of n and a, or the slot is Removed if that is 0
-abbrev pub slot_left : {T : Type 0} → T → ℕ → ℕ → Slot T
-slot_left v n a = if nat_lt 0 (min a n) then Live v (min a n) else Removed
+abbrev pub live_retained : {T : Type 0} → T → ℕ → ℕ → Slot T
+live_retained v n a = if nat_lt 0 (min a n) then Live v (min a n) else Removed
 
 module _ {T : Type 0} where
   -- how the returned number a changes a slot. A slot that is not Live is unchanged
-  abbrev pub slot_kept : ℕ → Slot T → Slot T
-  slot_kept a Empty = Empty
-  slot_kept a Removed = Removed
-  slot_kept a Moved = Moved
-  slot_kept a (Live v n) = slot_left v n a
+  abbrev pub slot_retained : ℕ → Slot T → Slot T
+  slot_retained a Empty = Empty
+  slot_retained a Removed = Removed
+  slot_retained a Moved = Moved
+  slot_retained a (Live v n) = live_retained v n a
 
-  -- each slot follows by `slot_kept` from the slot at the same place, with some number. So no value is in another slot than before
+  -- each slot follows by `slot_retained` from the slot at the same place, with some number. So no value is in another slot than before
   pub record RetainsSlots (old new : List (Slot T)) : Type 0 where
     pub same_length : length new ≡ length old
-    pub each : (p : ℕ) → (a : ℕ) × (slot_at new p ≡ slot_kept a (slot_at old p))
+    pub each : (p : ℕ) → (a : ℕ) × (slot_at new p ≡ slot_retained a (slot_at old p))
 
   -- `RetainsSlots` holds of the newer slots and of the waiting slots. No table was built
   pub record RetainsTables (old new : Tables T) : Type 0 where
@@ -37,7 +37,7 @@ module _ {F T : Type 0} (g : Mut F (Bor T × (ℕ × Unit {0})) ℕ) where
   LeavesSlot f Empty t f' = (t ≡ Empty) × (f ≡ f')
   LeavesSlot f Removed t f' = (t ≡ Removed) × (f ≡ f')
   LeavesSlot f Moved t f' = (t ≡ Moved) × (f ≡ f')
-  LeavesSlot f (Live v n) t f' = (a : ℕ) × MayAnswer g f (v, n) a f' × (t ≡ slot_left v n a)
+  LeavesSlot f (Live v n) t f' = (a : ℕ) × MayReturn g f (v, n) a f' × (t ≡ live_retained v n a)
 
   -- f, called with the entry of each Live slot in turn, may leave these slots, and become f'. Each call gets the closure as the previous call
   -- left it

@@ -52,7 +52,7 @@ module _ {T : Type 0} where
   pub record Fills (k : ℕ) (old new : List (Slot T)) : Type 0 where
     pub same_length : length new ≡ length old
     pub places : List ℕ
-    pub few : length places ≤ k
+    pub at_most : length places ≤ k
     pub each : (p : ℕ) → (slot_at new p ≡ slot_at old p) ⊎ (((i : ℕ) × (i < length places) × (slice_index places i ≡ p)) × (is_live (slot_at old p) ≡ false) × (is_live (slot_at new p) ≡ true))
 
   -- how many absent values can be inserted before a growth
@@ -72,7 +72,7 @@ module _ {T : Type 0} where
     pub apart : AreApart eq older.slots newer.slots
     pub unmoved : NoneMoved newer.slots
     pub carried_within : carried_to ≤ length older.slots
-    pub carried_slots_dead : (p : ℕ) → p < carried_to → is_live (slot_at older.slots p) ≡ false
+    pub carried_not_live : (p : ℕ) → p < carried_to → is_live (slot_at older.slots p) ≡ false
     pub fits : live_count newer.slots + removed_count newer.slots + live_count (drop carried_to older.slots) ≤ most_used (length newer.slots)
 
   -- what holds between two calls. The waiting slots are at most 16 times the room. There are none, or at least 16 fewer than newer slots. If all
@@ -141,7 +141,7 @@ module _ {T : Type 0} where
   fresh t = replicate (grown_slots (length t.newer) (values t)) Empty
 
   -- if there was room, no table was built; else one was built, and it is the newer one now
-  pub record Builds (old new : Tables T) : Type 0 where
+  pub record BuildsTable (old new : Tables T) : Type 0 where
     pub with_room : 0 < room old → new.built ≡ old.built
     pub grown : room old ≡ 0 → new.built ≡ old.built + length new.newer
 
@@ -151,7 +151,7 @@ module _ {T : Type 0} where
     pub grown : room old ≡ 0 → Carried 16 (fresh old) old.newer new.newer new.waiting × (old.waiting ≡ [])
     pub some : 0 < room new
     pub carries : length new.waiting ≤ 16 * (room new - 1)
-    pub built : Builds old new
+    pub built : BuildsTable old new
 
   -- What the insertion of an absent value leaves. If there was room: at most 17 newer slots became Live, and the others are the same; the first 16
   -- waiting slots were carried; room is at most 1 lower; no table was built. If there was none: a new table of `grown_slots` was built, of which at
@@ -162,7 +162,7 @@ module _ {T : Type 0} where
     pub grown : room old ≡ 0 → Settles 17 (fresh old) old.newer new
     pub room_kept : 0 < room old → room old ≤ room new + 1
     pub room_grown : room old ≡ 0 → room new ≡ most_used (length new.newer) - values old - 1
-    pub built : Builds old new
+    pub built : BuildsTable old new
 
   -- the newer table has the least number of slots, not below n, of which k may be Live
   abbrev pub HasLeast : ℕ → ℕ → Tables T → Type 0

@@ -2,7 +2,7 @@
 ghost use Rattle.std.specs.Prelude.{◌≡◌, ℕ, ◌<◌, ◌≤◌, ◌^◌, true, Some, drop, length, slice_set};
 ghost use Rattle.hashbag_slots.specs.Slots.{is_live, slot_at, slot_entry, count_in, entries};
 ghost use Rattle.hashbag_slots.specs.Columns.{IsReached};
-ghost use Rattle.hashbag_table.specs.Asked.{MayAsk, MayAskInTurn};
+ghost use Rattle.hashbag_table.specs.Returned.{MayCall, MayCallInTurn};
 ghost use Rattle.hashbag_table.specs.Entries.{total};
 ghost use Rattle.hashbag_table.specs.Retained.{LeavesSlot, RetainsFrom};
 
@@ -16,8 +16,8 @@ fn retain_at<T: Eq + Drop, F: FnMut(&T, usize) -> usize>(
     f: &mut F,
 ) -> usize
     requires live { is_live (slot_at slots.old.slots place) ≡ true }
-    requires asks { (e : T × ℕ) → slot_entry (slot_at slots.old.slots place) ≡ Some e → MayAsk F.FnMut f.old e }
-    ensures asked { LeavesSlot F.FnMut f.old (slot_at slots.old.slots place) (slot_at slots.new.slots place) f.new }
+    requires callable { (e : T × ℕ) → slot_entry (slot_at slots.old.slots place) ≡ Some e → MayCall F.FnMut f.old e }
+    ensures called { LeavesSlot F.FnMut f.old (slot_at slots.old.slots place) (slot_at slots.new.slots place) f.new }
     ensures others { slots.new.slots ≡ slice_set slots.old.slots place (slot_at slots.new.slots place) }
     ensures left { result ≡ count_in (slot_at slots.new.slots place) }
     ensures reached { (hash : T → ℕ) → IsReached hash slots.old → IsReached hash slots.new }
@@ -46,11 +46,11 @@ pub fn retain_slots<T: Eq + Drop, F: FnMut(&T, usize) -> usize>(
     f: &mut F,
 ) -> usize
     requires within { from ≤ length slots.old.slots }
-    requires asks { MayAskInTurn F.FnMut f.old (entries (drop from slots.old.slots)) }
+    requires callable { MayCallInTurn F.FnMut f.old (entries (drop from slots.old.slots)) }
     requires fits { total (entries (drop from slots.old.slots)) < 2 ^ 64 }
 
     // `f` was called in turn and became `f.new`. The slots from `from` on are what its numbers left; the slots before are unchanged.
-    ensures kept { RetainsFrom F.FnMut from f.old slots.old.slots slots.new.slots f.new }
+    ensures retained { RetainsFrom F.FnMut from f.old slots.old.slots slots.new.slots f.new }
     ensures total { result ≡ total (entries (drop from slots.new.slots)) }
 
     // If the values were found under a hash before, they are still.
@@ -58,14 +58,14 @@ pub fn retain_slots<T: Eq + Drop, F: FnMut(&T, usize) -> usize>(
 {
     let mut sum = 0;
     let mut at = from;
-    let mut ahead = slots.live();
-    'values: while ahead > 0 {
+    let mut live_left = slots.live();
+    'values: while live_left > 0 {
         let Some(place) = slots.next_live(at) else {
             return sum;
         };
         sum += retain_at(slots, place, f);
         at = place + 1;
-        ahead -= 1;
+        live_left -= 1;
     }
     sum
 }

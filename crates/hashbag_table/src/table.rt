@@ -13,7 +13,7 @@ ghost use Rattle.hashbag_slots.specs.FirstGroup.{IfAbsent};
 ghost use Rattle.hashbag_slots.specs.Hashing.{hash_under};
 ghost use Rattle.hashbag_slots.specs.Slots.{IsSlotCount, entries, IsAbsent, IsFirstFree, Places};
 ghost use Rattle.hashbag_table.specs.Additions.{Adds, Stores, FailsIfFull};
-ghost use Rattle.hashbag_table.specs.Asked.{MayAskInTurn, Retains};
+ghost use Rattle.hashbag_table.specs.Returned.{MayCallInTurn, Retains};
 ghost use Rattle.hashbag_table.specs.Named.{named_count, named_entry};
 ghost use Rattle.hashbag_table.specs.Entries.{entry_of, count_of, without, with_count, with_instance, total, IsCounted};
 ghost use Rattle.hashbag_table.specs.Retained.{RetainsTables};
@@ -105,8 +105,8 @@ impl<T: Eq + Hash + Drop, S: BuildHasher + Drop> Table<T, S> {
 
     /// Only for proofs: its contract says that the entries are the Live slots of both tables, and that they are a map. It does nothing at run time.
     #[inline(always)]
-    pub fn held(&self)
-        ensures held { self.now.entries ≡ entries_of self.now.tables.newer self.now.tables.waiting }
+    pub fn show_invariant(&self)
+        ensures entries { self.now.entries ≡ entries_of self.now.tables.newer self.now.tables.waiting }
         ensures counted { IsCounted T.eq self.now.entries }
     {
         // By the use of a field the proof learns the table's invariant.
@@ -213,7 +213,7 @@ impl<T: Eq + Hash + Drop, S: BuildHasher + Drop> Table<T, S> {
         ensures counted { IsCounted T.eq self.new.entries }
         ensures fails { FailsIfFull T.eq value self.old self.new result }
     {
-        self.held();
+        self.show_invariant();
         self.carry_or_grow()?;
         let place = self.newer.first_free(hash);
         self.place_absent(place, hash, value, count);
@@ -265,7 +265,7 @@ impl<T: Eq + Hash + Drop, S: BuildHasher + Drop> Table<T, S> {
     /// # Complexity
     ///
     /// It hashes the key once and doesn't allocate.
-    pub fn take<Q: Key<T>>(&mut self, key: Q, n: usize) -> usize
+    pub fn take_up_to<Q: Key<T>>(&mut self, key: Q, n: usize) -> usize
         ensures before { result ≡ named_count (Q.names key) self.old.entries }
 
         // The value that the key names has `n` fewer, and is absent if it had no more than `n`.
@@ -336,7 +336,7 @@ impl<T: Eq + Hash + Drop, S: BuildHasher + Drop> Table<T, S> {
         ensures counted { IsCounted T.eq self.new.entries }
         ensures fails { FailsIfFull T.eq value self.old self.new result }
     {
-        self.held();
+        self.show_invariant();
         if let Some(spot) = self.spot_after_first_group(hash, &value, first) {
             let before = self.raise_spot(spot, n);
             return Ok(before);
@@ -435,9 +435,9 @@ impl<T: Eq + Hash + Drop, S: BuildHasher + Drop> Table<T, S> {
     /// It hashes nothing and doesn't allocate. It reads sixteen tags at once. In each of the two tables it stops after the last Live slot. If there
     /// is no value it reads no tag, however many slots there are.
     pub fn retain<F: FnMut(&T, usize) -> usize + Drop>(&mut self, mut f: F) -> usize
-        requires asks { (walk : _) → IsPermutation self.old.entries walk → MayAskInTurn F.FnMut f walk }
+        requires callable { (walk : _) → IsPermutation self.old.entries walk → MayCallInTurn F.FnMut f walk }
         requires fits { total self.old.entries < 2 ^ 64 }
-        ensures kept { Retains F.FnMut f self.old.entries self.new.entries }
+        ensures retained { Retains F.FnMut f self.old.entries self.new.entries }
         ensures total { result ≡ total self.new.entries }
         ensures hasher { self.new.hasher ≡ self.old.hasher }
         ensures counted { IsCounted T.eq self.new.entries }

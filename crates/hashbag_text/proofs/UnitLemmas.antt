@@ -4,7 +4,7 @@ use Rattle.std.proofs.lemmas.Bool.{ltb-true, leb-true}
 use Rattle.std.specs.Prelude.{option_map}
 use Rattle.core.specs.Char.Utf16.{is_high_surrogate, is_low_surrogate, lone_unit_char, surrogate_pair_char, utf16_chars}
 use Rattle.core.proofs.str.Utf16.{lone_unit_char_surrogate}
-use Rattle.hashbag_text.specs.Encodings.{after_char, text_of, text_of_all, text_of_units, yields}
+use Rattle.hashbag_text.specs.Encodings.{after_char, text_of, text_of_any_units, text_of_units, yields}
 use Rattle.hashbag_text.specs.States.{with_high}
 use Rattle.hashbag_text.specs.declared.high.High.{High}
 use Rattle.hashbag_text.proofs.TextLemmas.{both}
@@ -79,11 +79,11 @@ yields_none (Some c) = refl
 pub all_more : (high after : Option High) (u : ℕ) (c : Option ℕ)
     → ((us : List ℕ) → text_of_units (with_high high (u ∷ us)) ≡ yields c (text_of_units (with_high after us)))
     → (m : Option (List ℕ))
-    → text_of_all (option_map (with_high high) (option_map (λ (us : List ℕ). u ∷ us) m)) ≡ yields c (text_of_all (option_map (with_high after) m))
+    → text_of_any_units (option_map (with_high high) (option_map (λ (us : List ℕ). u ∷ us) m)) ≡ yields c (text_of_any_units (option_map (with_high after) m))
 all_more high after u c each None = sym (yields_none c)
 all_more high after u c each (Some us) = each us
 
 pub all_none : (high : Option High) (u : ℕ) → ((us : List ℕ) → text_of_units (with_high high (u ∷ us)) ≡ None)
-    → (m : Option (List ℕ)) → text_of_all (option_map (with_high high) (option_map (λ (us : List ℕ). u ∷ us) m)) ≡ None
+    → (m : Option (List ℕ)) → text_of_any_units (option_map (with_high high) (option_map (λ (us : List ℕ). u ∷ us) m)) ≡ None
 all_none high u each None = refl
 all_none high u each (Some us) = each us

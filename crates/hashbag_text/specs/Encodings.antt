@@ -31,12 +31,12 @@ middle = 0x20AC ∷ 0 ∷ 0x201A ∷ 0x0192 ∷ 0x201E ∷ 0x2026 ∷ 0x2020 ∷
     ∷ 0x0152 ∷ 0 ∷ 0x017D ∷ 0 ∷ 0 ∷ 0x2018 ∷ 0x2019 ∷ 0x201C ∷ 0x201D ∷ 0x2022 ∷ 0x2013 ∷ 0x2014 ∷ 0x02DC ∷ 0x2122
     ∷ 0x0161 ∷ 0x203A ∷ 0x0153 ∷ 0 ∷ 0x017E ∷ 0x0178 ∷ []
 
-abbrev pub unless_zero : ℕ → Option ℕ
-unless_zero c = if c == 0 then None else Some c
+abbrev pub none_if_zero : ℕ → Option ℕ
+none_if_zero c = if c == 0 then None else Some c
 
 -- the character of a byte in Windows-1252: its character in `middle` if the byte is from 0x80 to 0x9F, else the character with the byte's number
 abbrev pub windows_1252 : ℕ → Option ℕ
-windows_1252 b = if nat_le 0x80 b && nat_lt b 0xA0 then unless_zero (get_or middle (b - 0x80) 0) else Some b
+windows_1252 b = if nat_le 0x80 b && nat_lt b 0xA0 then none_if_zero (get_or middle (b - 0x80) 0) else Some b
 
 -- the unit of two bytes
 abbrev pub unit_of : ByteOrder → ℕ → ℕ → ℕ
@@ -54,9 +54,9 @@ abbrev pub text_of_units : List ℕ → Option (List ℕ)
 text_of_units units = text_of (utf16_chars units)
 
 -- the text of these units; `None` of `None`
-abbrev pub text_of_all : Option (List ℕ) → Option (List ℕ)
-text_of_all None = None
-text_of_all (Some units) = text_of_units units
+abbrev pub text_of_any_units : Option (List ℕ) → Option (List ℕ)
+text_of_any_units None = None
+text_of_any_units (Some units) = text_of_units units
 
 -- the order of units whose byte order mark is these two bytes
 abbrev pub order_of : ℕ → ℕ → Option ByteOrder
@@ -65,7 +65,7 @@ order_of first second = if first == 0xFF && second == 0xFE then Some Little else
 -- the text of bytes in UTF-16, if their order is known
 abbrev pub ordered : Option ByteOrder → List ℕ → Option (List ℕ)
 ordered None bytes = None
-ordered (Some o) bytes = text_of_all (units_in o bytes)
+ordered (Some o) bytes = text_of_any_units (units_in o bytes)
 
 -- the text of bytes in UTF-16 that begin with a byte order mark, without the mark. An empty input needs no mark
 abbrev pub marked : List ℕ → Option (List ℕ)

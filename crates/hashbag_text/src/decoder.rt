@@ -1,7 +1,7 @@
 //! Decoding of bytes that are given in blocks, wherever a block ends.
 ghost use Rattle.std.specs.Prelude.{◌≡◌, ◌++◌, [], ℕ, List, None, Some, string_bytes, IfErr, OnOk};
 ghost use Rattle.hashbag_text.specs.Encodings.{decoded};
-ghost use Rattle.hashbag_text.specs.Decoders.{DecodesTo, DecodesToNone, IfLine, left_of};
+ghost use Rattle.hashbag_text.specs.Decoders.{DecodesTo, DecodesToNone, IfLine, text_from_decoder};
 ghost use Rattle.hashbag_text.specs.States.{spelled};
 
 use crate::bad_bytes::DecodeError;
@@ -10,7 +10,7 @@ use crate::state::State;
 
 /// A decoder of bytes that are given block by block. It keeps the bytes that aren't a character yet.
 ///
-/// In contracts `left_of decoder bytes` is the text of these bytes, if they come next, and of what the decoder keeps; `None` if they aren't text.
+/// In contracts `text_from_decoder decoder bytes` is the text of these bytes, if they come next, and of what the decoder keeps; `None` if they aren't text.
 #[derive(Drop)]
 pub struct Decoder {
     state: State,
@@ -43,7 +43,7 @@ impl Decoder {
     /// Returns a decoder that was given nothing.
     pub fn new(encoding: Encoding) -> Decoder
         // For any bytes that come next, the text is what these bytes mean in the encoding, or `None` if they aren't text in it.
-        ensures { (bytes : List ℕ) → left_of result bytes ≡ decoded encoding bytes }
+        ensures { (bytes : List ℕ) → text_from_decoder result bytes ≡ decoded encoding bytes }
     {
         Decoder {
             state: State::new(encoding),
@@ -91,8 +91,8 @@ impl Decoder {
     /// `Line` if the last character isn't whole.
     pub fn end(self) -> Result<(), DecodeError>
         // If no bytes follow, the text of what the decoder keeps is empty (`whole`), or there is none (`bad_bytes`).
-        ensures whole { OnOk result (left_of self [] ≡ Some []) }
-        ensures bad_bytes { IfErr result (λ e. left_of self [] ≡ None) }
+        ensures whole { OnOk result (text_from_decoder self [] ≡ Some []) }
+        ensures bad_bytes { IfErr result (λ e. text_from_decoder self [] ≡ None) }
     {
         match self.state.end() {
             Ok(()) => Ok(()),

@@ -1,7 +1,7 @@
 //! The state of a decoder after the bytes so far.
 ghost use Rattle.std.specs.Prelude.{◌≡◌, ◌∷◌, [], ℕ, List, None, Some, IfOk, OnErr, OnOk};
 ghost use Rattle.hashbag_text.specs.Encodings.{decoded, yields};
-ghost use Rattle.hashbag_text.specs.States.{left};
+ghost use Rattle.hashbag_text.specs.States.{text_from};
 
 use crate::bad_bytes::BadBytes;
 use crate::encoding::Encoding;
@@ -25,8 +25,8 @@ pub enum State {
 impl State {
     /// Returns the state before any byte.
     pub fn new(encoding: Encoding) -> State
-        // `left` is the text of the bytes that the state keeps and of `bytes`. A new state keeps none: `left` is the text of `bytes` in the encoding.
-        ensures { (bytes : List ℕ) → left result bytes ≡ decoded encoding bytes }
+        // `text_from` is the text of the bytes that the state keeps and of `bytes`. A new state keeps none: `text_from` is the text of `bytes` in the encoding.
+        ensures { (bytes : List ℕ) → text_from result bytes ≡ decoded encoding bytes }
     {
         match encoding {
             Encoding::Utf16 => State::Mark(None),
@@ -44,10 +44,10 @@ impl State {
     /// What is wrong with the bytes, if they can't be text with this byte.
     pub fn after(self, byte: u8) -> Result<(State, Option<char>), BadBytes>
         // Whatever bytes follow, the text is that character, if there is one, and then what is left.
-        ensures character { IfOk result (λ r. (bytes : List ℕ) → left self (byte ∷ bytes) ≡ yields r.1 (left r.0 bytes)) }
+        ensures character { IfOk result (λ r. (bytes : List ℕ) → text_from self (byte ∷ bytes) ≡ yields r.1 (text_from r.0 bytes)) }
 
         // Whatever bytes follow, there is no text.
-        ensures bad_bytes { OnErr result ((bytes : List ℕ) → left self (byte ∷ bytes) ≡ None) }
+        ensures bad_bytes { OnErr result ((bytes : List ℕ) → text_from self (byte ∷ bytes) ≡ None) }
     {
         match self {
             State::Mark(None) => Ok((State::Mark(Some(byte)), None)),
@@ -75,8 +75,8 @@ impl State {
     /// What is missing.
     pub fn end(self) -> Result<(), BadBytes>
         // If no bytes follow, the text of what the state keeps is empty (`whole`), or there is none (`bad_bytes`).
-        ensures whole { OnOk result (left self [] ≡ Some []) }
-        ensures bad_bytes { OnErr result (left self [] ≡ None) }
+        ensures whole { OnOk result (text_from self [] ≡ Some []) }
+        ensures bad_bytes { OnErr result (text_from self [] ≡ None) }
     {
         match self {
             State::Mark(None) => Ok(()),

@@ -49,7 +49,7 @@ impl<'a> KeepsRuns<'a> for BagRuns<'_, 'a> {
 /// # Errors
 ///
 /// `Random` if the system gives no random keys.
-pub fn empty<'a>(rt: &HostRuntime) -> Result<Bag, Trouble<'a>>
+pub fn empty_bag<'a>(rt: &HostRuntime) -> Result<Bag, Trouble<'a>>
     ensures { IfOk result (λ bag. bag.items ≡ []) }
 {
     match RandomState::new(rt) {

@@ -136,7 +136,7 @@ impl<'a> Blocks<'a> for HostBlocks<'_, 'a> {
         // The contents of the block before are counted by now.
         let n = self.reader.block().len();
         if n > 0 {
-            self.progress.tell(self.rt, self.name, n);
+            self.progress.add_read(self.rt, self.name, n);
         }
         if let Err(error) = self.reader.read() {
             return Err(Trouble::of_file(self.name, error));

@@ -2,7 +2,7 @@
 use crate::bag::{Bag, BagRuns};
 use crate::blocks::HostBlocks;
 use crate::input::Input;
-use crate::output::{Rendered, look_of};
+use crate::output::look_of;
 use hashbag_csv::delimiter::Delimiter;
 use hashbag_csv::fault::in_file;
 use hashbag_shell::input::shown_name;
@@ -15,19 +15,20 @@ use hashbag_words_lib::columns::count_column;
 use hashbag_words_lib::feeding::{Counter, end};
 use hashbag_words_lib::gauge::Gauge;
 use hashbag_words_lib::inputs::{Blocks, count_all};
-use hashbag_words_lib::jobs::{self, Reading};
+use hashbag_words_lib::jobs::{self, JobText, Reading};
 use hashbag_words_lib::row_counter::RowCounter;
 use hashbag_words_lib::rows::RowForm;
 use hashbag_words_lib::rule::Rule;
 use hashbag_words_lib::troubles::{of_input, of_text};
 use memchr::memchr;
 use regex::Regex;
+use std::fs::File;
 use std::hash::RandomState;
 use std::{io, mem};
 
-/// The inputs of a job.
+/// What a job works with: what the arguments ask for, and the inputs.
 #[derive(Drop)]
-pub struct Inputs<'s, 'a, 'm> {
+pub struct Work<'s, 'a, 'm> {
     /// The runtime.
     pub rt: &'s HostRuntime,
     /// What the arguments ask for.
@@ -55,7 +56,7 @@ fn read_whole<'a>(rt: &HostRuntime, name: &'a str) -> Result<String, Trouble<'a>
     read.map_err(|error| of_text(rt.alloc(), shown_name(name), error))
 }
 
-impl<'s, 'a, 'm> Inputs<'s, 'a, 'm> {
+impl<'s, 'a, 'm> Work<'s, 'a, 'm> {
     /// Counts what the inputs of these names have, in order.
     ///
     /// # Errors
@@ -95,7 +96,7 @@ impl<'s, 'a, 'm> Inputs<'s, 'a, 'm> {
         &mut self,
         rule: Rule<'_>,
         bag: &'b mut Bag,
-    ) -> Result<Rendered<'b>, Trouble<'a>> {
+    ) -> Result<JobText<'b, File>, Trouble<'a>> {
         let (alloc, reading) = (self.rt.alloc(), self.reading());
         let (choice, look) = (self.settings.choice, look_of(self.rt, self.settings));
         let (inputs, runs) = (&mut self.blocks, &mut self.runs);
@@ -113,7 +114,7 @@ impl<'s, 'a, 'm> Inputs<'s, 'a, 'm> {
         &mut self,
         form: RowForm,
         bag: &'b mut Bag,
-    ) -> Result<Rendered<'b>, Trouble<'a>> {
+    ) -> Result<JobText<'b, File>, Trouble<'a>> {
         let (alloc, reading) = (self.rt.alloc(), self.reading());
         let (choice, look) = (self.settings.choice, look_of(self.rt, self.settings));
         let (inputs, runs) = (&mut self.blocks, &mut self.runs);
@@ -127,7 +128,7 @@ impl<'s, 'a, 'm> Inputs<'s, 'a, 'm> {
     /// # Errors
     ///
     /// Same as [`jobs::show_both`].
-    pub fn show<'b>(&mut self, bag: &'b mut Bag) -> Result<Rendered<'b>, Trouble<'a>> {
+    pub fn show<'b>(&mut self, bag: &'b mut Bag) -> Result<JobText<'b, File>, Trouble<'a>> {
         self.blocks.end_report();
         let look = look_of(self.rt, self.settings);
         jobs::show_both(

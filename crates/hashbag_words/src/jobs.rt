@@ -1,9 +1,9 @@
 //! The jobs of the program: each reads its inputs into a bag, and writes the text that shows the bag.
-use crate::bag::{Bag, BagRuns, empty};
+use crate::bag::{Bag, BagRuns, empty_bag};
 use crate::blocks::{BY_COMMAND, BY_OPTION, HostBlocks};
-use crate::inputs::Inputs;
+use crate::inputs::Work;
 use crate::names::check;
-use crate::output::{Rendered, look_of, write};
+use crate::output::{look_of, write};
 use crate::runs::{no_runs, runs_of};
 use hashbag_ops::{keep_common, take_away};
 use hashbag_shell::output::Output;
@@ -16,13 +16,14 @@ use hashbag_words_lib::choice::Choice;
 use hashbag_words_lib::counter::TextCounter;
 use hashbag_words_lib::gauge::Gauge;
 use hashbag_words_lib::inputs::Blocks;
-use hashbag_words_lib::jobs::Made;
+use hashbag_words_lib::jobs::JobText;
 use hashbag_words_lib::lines::BadLines;
 use hashbag_words_lib::row_source::SourceKind;
 use hashbag_words_lib::rows::RowForm;
 use hashbag_words_lib::rule::{Pieces, Rule};
 use regex::Regex;
 use std::alloc::Global;
+use std::fs::File;
 use std::mem;
 
 /// Returns the pattern that the arguments name, if they name one.
@@ -71,31 +72,31 @@ fn pieces_of<'r>(by: By<'_>, pattern: Option<&'r Regex>) -> Pieces<'r> {
 
 // Counts the tokens of the inputs, and returns the text that shows the tokens.
 fn count<'a, 'b>(
-    inputs: &mut Inputs<'_, 'a, '_>,
+    work: &mut Work<'_, 'a, '_>,
     tokens: Tokens<'a>,
     bag: &'b mut Bag,
-) -> Result<Rendered<'b>, Trouble<'a>> {
+) -> Result<JobText<'b, File>, Trouble<'a>> {
     if let By::Column(name, delimiter) = tokens.by {
-        inputs.count_columns(name, delimiter, tokens.fold, bag)?;
-        return inputs.show(bag);
+        work.count_columns(name, delimiter, tokens.fold, bag)?;
+        return work.show(bag);
     }
     let rule = Rule {
-        pieces: pieces_of(tokens.by, inputs.pattern),
+        pieces: pieces_of(tokens.by, work.pattern),
         fold: tokens.fold,
         lossy: tokens.lossy,
     };
-    inputs.show_tokens(rule, bag)
+    work.show_tokens(rule, bag)
 }
 
 // Reads the two inputs of a job on a pair: the first into the bag, and the second into a new bag.
 fn take_pair<'a>(
-    inputs: &mut Inputs<'_, 'a, '_>,
+    work: &mut Work<'_, 'a, '_>,
     pair: Pair<'a>,
     bag: &mut Bag,
 ) -> Result<Bag, Trouble<'a>> {
-    let mut other = empty(inputs.rt)?;
-    inputs.add_all(pair.rows, bag, &[pair.first])?;
-    inputs.add_all(pair.rows, &mut other, &[pair.second])?;
+    let mut other = empty_bag(work.rt)?;
+    work.add_all(pair.rows, bag, &[pair.first])?;
+    work.add_all(pair.rows, &mut other, &[pair.second])?;
 
     // From here on tokens are only looked up in it. With all slots carried, a look-up reads one table.
     other.finish_carry();
@@ -120,49 +121,49 @@ fn cure_of(ask: Ask<'_, '_>) -> &'static str {
 
 // Merges the inputs, whose lines have this form and whose tokens are in ascending order, line by line. Returns the text that shows the sums.
 fn merge_sorted<'a>(
-    inputs: &mut Inputs<'_, 'a, '_>,
+    work: &mut Work<'_, 'a, '_>,
     form: RowForm,
     folder: &'a str,
-) -> Result<Rendered<'static>, Trouble<'a>> {
-    let settings = inputs.settings;
+) -> Result<JobText<'static, File>, Trouble<'a>> {
+    let settings = work.settings;
     let kind = SourceKind::File(form, settings.bad_lines);
-    let mut runs = runs_of(inputs.rt, folder, inputs.names, kind)?;
-    let shown = runs.show(settings.choice, look_of(inputs.rt, settings))?;
-    Ok(Made::OfRuns(shown))
+    let mut runs = runs_of(work.rt, folder, work.names, kind)?;
+    let shown = runs.show(settings.choice, look_of(work.rt, settings))?;
+    Ok(JobText::Runs(shown))
 }
 
 // Does a job on the inputs, with an empty bag. Returns the text that the job writes.
-fn made_of<'a, 'b>(
-    inputs: &mut Inputs<'_, 'a, '_>,
+fn do_job<'a, 'b>(
+    work: &mut Work<'_, 'a, '_>,
     folder: &'a str,
     bag: &'b mut Bag,
-) -> Result<Rendered<'b>, Trouble<'a>> {
-    match inputs.settings.ask {
-        Ask::Count(tokens, _) => return count(inputs, tokens, bag),
-        Ask::Merge(Some(form), _) => return inputs.show_rows(form, bag),
-        Ask::Merge(None, _) => inputs.add_all(None, bag, inputs.names)?,
-        Ask::MergeSorted(form, _) => return merge_sorted(inputs, form, folder),
+) -> Result<JobText<'b, File>, Trouble<'a>> {
+    match work.settings.ask {
+        Ask::Count(tokens, _) => return count(work, tokens, bag),
+        Ask::Merge(Some(form), _) => return work.show_rows(form, bag),
+        Ask::Merge(None, _) => work.add_all(None, bag, work.names)?,
+        Ask::MergeSorted(form, _) => return merge_sorted(work, form, folder),
         Ask::Less(pair) => {
-            let other = take_pair(inputs, pair, bag)?;
+            let other = take_pair(work, pair, bag)?;
             take_away(bag, &other);
         }
         Ask::Common(pair) => {
-            let other = take_pair(inputs, pair, bag)?;
+            let other = take_pair(work, pair, bag)?;
             keep_common(bag, &other);
         }
     }
-    inputs.show(bag)
+    work.show(bag)
 }
 
 // Does a job on the inputs of these names, with an empty bag. Returns the text that the job writes.
-fn read<'a, 'b>(
+fn text_of_job<'a, 'b>(
     rt: &HostRuntime,
     settings: &Settings<'a, '_>,
     pattern: Option<&Regex>,
     names: &[&'a str],
     folder: &'a str,
     bag: &'b mut Bag,
-) -> Result<Rendered<'b>, Trouble<'a>> {
+) -> Result<JobText<'b, File>, Trouble<'a>> {
     let memory = settings.ask.many().and_then(|many| many.memory);
     let runs = match memory {
         Some(_) => Some(BagRuns {
@@ -172,7 +173,7 @@ fn read<'a, 'b>(
     };
     let encoding = settings.ask.encoding();
     let progress = Progress::new(rt, settings.reports, names);
-    let mut inputs = Inputs {
+    let mut work = Work {
         rt,
         settings,
         names,
@@ -188,9 +189,9 @@ fn read<'a, 'b>(
         gauge: memory.map(|memory| Gauge::new(memory)),
         runs,
     };
-    let made = made_of(&mut inputs, folder, bag);
-    inputs.blocks.end_report();
-    made.map_err(|trouble| with_option(rt.alloc(), trouble, cure_of(settings.ask)))
+    let job_text = do_job(&mut work, folder, bag);
+    work.blocks.end_report();
+    job_text.map_err(|trouble| with_option(rt.alloc(), trouble, cure_of(settings.ask)))
 }
 
 // Does a job on the inputs of these names, with an empty bag, and writes the job's text. Returns whether the text shows no row.
@@ -203,8 +204,8 @@ fn read_and_write<'a>(
     bag: &mut Bag,
 ) -> Result<bool, Trouble<'a>> {
     let output = Output::open(rt, settings.output)?;
-    match read(rt, settings, pattern, names, folder, bag) {
-        Ok(made) => write(rt, output, made),
+    match text_of_job(rt, settings, pattern, names, folder, bag) {
+        Ok(job_text) => write(rt, output, job_text),
         Err(trouble) => {
             output.abandon(rt);
             Err(trouble)
@@ -214,19 +215,19 @@ fn read_and_write<'a>(
 
 // Returns the bag of the lines of a file.
 fn lines_of<'a>(
-    inputs: &mut Inputs<'_, 'a, '_>,
+    work: &mut Work<'_, 'a, '_>,
     name: &'a str,
     fold: bool,
 ) -> Result<Bag, Trouble<'a>> {
-    let (rt, lossy) = (inputs.rt, false);
+    let (rt, lossy) = (work.rt, false);
     let rule = |pieces| Rule {
         pieces,
         fold,
         lossy,
     };
     let lines = rule(Pieces::Lines);
-    let mut counter = TextCounter::new(rt.alloc(), empty(rt)?, lines, BadLines::Rejected, None);
-    inputs.count_all(&mut counter, &[name])?;
+    let mut counter = TextCounter::new(rt.alloc(), empty_bag(rt)?, lines, BadLines::Rejected, None);
+    work.count_all(&mut counter, &[name])?;
     let mut bag = counter.into_bag();
     bag.finish_carry();
     Ok(bag)
@@ -241,7 +242,7 @@ fn excepted<'s, 'a>(
     let Some(name) = settings.except else {
         return Ok(None);
     };
-    let mut inputs = Inputs {
+    let mut work = Work {
         rt,
         settings,
         names,
@@ -257,7 +258,7 @@ fn excepted<'s, 'a>(
         gauge: None,
         runs: None,
     };
-    match lines_of(&mut inputs, name, settings.ask.folds()) {
+    match lines_of(&mut work, name, settings.ask.folds()) {
         Ok(lines) => Ok(Some(lines)),
         Err(trouble) => Err(with_option(rt.alloc(), trouble, BY_COMMAND)),
     }
@@ -285,7 +286,7 @@ pub fn run<'a>(
         choice,
         ..*settings
     };
-    let mut bag = empty(rt)?;
+    let mut bag = empty_bag(rt)?;
     let is_empty = read_and_write(rt, &settings, pattern, names, folder, &mut bag);
     // The program ends soon, and the system then takes all memory back at once.
     mem::forget(bag);

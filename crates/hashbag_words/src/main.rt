@@ -36,7 +36,7 @@ fn with_job(alloc: Global, given: Vec<String>) -> Result<Vec<String>, AllocError
 const PROGRAM: &str = "hashbag_words";
 
 // Does a job on the inputs of these names, and returns the exit status.
-fn do_named(
+fn run_with_temporary_folder(
     rt: &HostRuntime,
     settings: &Settings<'_, '_>,
     pattern: Option<&Regex>,
@@ -64,7 +64,7 @@ fn lent(alloc: Global, texts: &Vec<String>) -> Result<Vec<&str>, AllocError> {
 }
 
 // Does a job on the files in the folders of these names, and returns the exit status.
-fn do_folders(
+fn run_on_folders(
     rt: &HostRuntime,
     settings: &Settings<'_, '_>,
     pattern: Option<&Regex>,
@@ -77,11 +77,11 @@ fn do_folders(
     let Ok(names) = lent(rt.alloc(), &files) else {
         return Trouble::Memory.report(rt, PROGRAM);
     };
-    do_named(rt, settings, pattern, &names)
+    run_with_temporary_folder(rt, settings, pattern, &names)
 }
 
 // Does a job, on the inputs of the list if there is one, and returns the exit status.
-fn do_job(
+fn run_with_names(
     rt: &HostRuntime,
     settings: &Settings<'_, '_>,
     pattern: Option<&Regex>,
@@ -91,27 +91,27 @@ fn do_job(
         return Trouble::Memory.report(rt, PROGRAM);
     };
     if settings.ask.is_recursive() {
-        return do_folders(rt, settings, pattern, &names);
+        return run_on_folders(rt, settings, pattern, &names);
     }
-    do_named(rt, settings, pattern, &names)
+    run_with_temporary_folder(rt, settings, pattern, &names)
 }
 
 // Reads the list of inputs, if one is named, does the job, and returns the exit status.
-fn do_listed(rt: &HostRuntime, settings: &Settings<'_, '_>, pattern: Option<&Regex>) -> u8 {
+fn run_with_list(rt: &HostRuntime, settings: &Settings<'_, '_>, pattern: Option<&Regex>) -> u8 {
     let Some(name) = settings.ask.files_from() else {
-        return do_job(rt, settings, pattern, None);
+        return run_with_names(rt, settings, pattern, None);
     };
     let null = settings.ask.many().is_some_and(|many| many.null);
     match names::read_list(rt, name, null) {
-        Ok(list) => do_job(rt, settings, pattern, Some(&list)),
+        Ok(list) => run_with_names(rt, settings, pattern, Some(&list)),
         Err(trouble) => trouble.report(rt, PROGRAM),
     }
 }
 
 // Compiles the pattern, if there is one, does the job, and returns the exit status. No file is opened for a pattern that is bad.
-fn do_settings(rt: &HostRuntime, settings: &Settings<'_, '_>) -> u8 {
+fn run_with_pattern(rt: &HostRuntime, settings: &Settings<'_, '_>) -> u8 {
     match jobs::pattern_of(rt.alloc(), settings.ask) {
-        Ok(pattern) => do_listed(rt, settings, pattern.as_ref()),
+        Ok(pattern) => run_with_list(rt, settings, pattern.as_ref()),
         Err(trouble) => trouble.report(rt, PROGRAM),
     }
 }
@@ -129,7 +129,7 @@ fn answer<'a>(rt: &HostRuntime, version: &'a str, words: &'a [String]) -> Result
         return Ok(BAD_INPUT);
     };
     let settings = Settings::of(rt.alloc(), job, given)?;
-    Ok(do_settings(rt, &settings))
+    Ok(run_with_pattern(rt, &settings))
 }
 
 // Returns the words of the command line, which name a job.

@@ -2,22 +2,19 @@
 use hashbag_shell::output::Output;
 use hashbag_shell::trouble::Trouble;
 use hashbag_words_args::settings::Settings;
-use hashbag_words_lib::jobs::Made;
+use hashbag_words_lib::jobs::JobText;
 use hashbag_words_lib::merging_runs::ShownRuns;
 use hashbag_words_lib::shown_text::{Look, Shown};
 use std::env;
 use std::fs::File;
 
-/// The text that a job writes. The text of merged runs is in a temporary file.
-pub type Rendered<'b> = Made<'b, File>;
-
 // Returns whether the text shows no row.
-fn is_empty(made: &Rendered<'_>) -> bool {
-    match made {
-        Made::OfBag(Shown::Rows(text)) => text.is_empty(),
-        Made::OfBag(Shown::Bars(text)) => text.is_empty(),
-        Made::OfRuns(ShownRuns::Text(_, is_empty)) => *is_empty,
-        Made::OfRuns(ShownRuns::File(made)) => made.is_empty,
+fn is_empty(job_text: &JobText<'_, File>) -> bool {
+    match job_text {
+        JobText::Bag(Shown::Rows(text)) => text.is_empty(),
+        JobText::Bag(Shown::Bars(text)) => text.is_empty(),
+        JobText::Runs(ShownRuns::Text(_, is_empty)) => *is_empty,
+        JobText::Runs(ShownRuns::File(made)) => made.is_empty,
     }
 }
 
@@ -29,14 +26,14 @@ fn is_empty(made: &Rendered<'_>) -> bool {
 pub fn write<'a>(
     rt: &HostRuntime,
     output: Output<'a>,
-    made: Rendered<'_>,
+    job_text: JobText<'_, File>,
 ) -> Result<bool, Trouble<'a>> {
-    let is_empty = is_empty(&made);
-    match made {
-        Made::OfBag(Shown::Rows(mut text)) => output.copy(rt, &mut text)?,
-        Made::OfBag(Shown::Bars(text)) => output.write(rt, text.as_slice())?,
-        Made::OfRuns(ShownRuns::Text(text, _)) => output.write(rt, text.as_slice())?,
-        Made::OfRuns(ShownRuns::File(mut made)) => output.copy(rt, &mut made.file)?,
+    let is_empty = is_empty(&job_text);
+    match job_text {
+        JobText::Bag(Shown::Rows(mut text)) => output.copy(rt, &mut text)?,
+        JobText::Bag(Shown::Bars(text)) => output.write(rt, text.as_slice())?,
+        JobText::Runs(ShownRuns::Text(text, _)) => output.write(rt, text.as_slice())?,
+        JobText::Runs(ShownRuns::File(mut made)) => output.copy(rt, &mut made.file)?,
     }
     Ok(is_empty)
 }

@@ -14,7 +14,7 @@ use hashbag_words_lib::merging_runs::MergingRuns;
 use hashbag_words_lib::numbered::NumberedTexts;
 use hashbag_words_lib::reads::Reads;
 use hashbag_words_lib::row_source::SourceKind;
-use hashbag_words_lib::sorted_merge::Stop;
+use hashbag_words_lib::sorted_merge::MergeError;
 use hashbag_words_lib::troubles::{of_input, too_many_in_all};
 use std::alloc::AllocError;
 use std::fs::File;
@@ -161,9 +161,9 @@ impl<'a> NumberedTexts<'a> for NumberedFiles<'_, 'a> {
         }
     }
 
-    fn trouble(&self, text: &MergedText<'_>, stop: Stop) -> Trouble<'a> {
-        match stop {
-            Stop::Source(i, fault) => match text.numbers().get(i) {
+    fn trouble(&self, text: &MergedText<'_>, error: MergeError) -> Trouble<'a> {
+        match error {
+            MergeError::Source(i, fault) => match text.numbers().get(i) {
                 Some(number) => of_input(
                     self.rt.alloc(),
                     self.name(*number),
@@ -172,8 +172,8 @@ impl<'a> NumberedTexts<'a> for NumberedFiles<'_, 'a> {
                 ),
                 None => Trouble::Memory,
             },
-            Stop::TooMany => too_many_in_all(self.rt.alloc(), self.folder),
-            Stop::Memory => Trouble::Memory,
+            MergeError::TooMany => too_many_in_all(self.rt.alloc(), self.folder),
+            MergeError::Memory => Trouble::Memory,
         }
     }
 

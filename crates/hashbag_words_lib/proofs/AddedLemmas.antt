@@ -160,7 +160,7 @@ module _ {S : Type 0} where
     read = subst (λ (b : BadLines). AreReadAs form b (unmarked (lines h.ended)) h.rows) bad.0 h.read;
     is = subst (IsNoRow form) (at_number first.line (length (lines h.ended)) line h.line) bad.1;
     line = omega (arith, next, h.line, long_unmarked (lines h.ended));
-    refused = same ∙ bad.0;
+    rejected = same ∙ bad.0;
   }
 
   -- bytes were kept

@@ -300,7 +300,7 @@ module _ {S : Type 0} where
     good = h.passed bad.0;
     is = bad.1;
     line = omega (arith, next, h.line);
-    refused = same ∙ bad.0;
+    rejected = same ∙ bad.0;
   }
 
   -- the last line is bad, and is rejected
@@ -315,7 +315,7 @@ module _ {S : Type 0} where
     good = h.passed bad.0;
     is = bad.1;
     line = omega (arith, next, h.line);
-    refused = same ∙ bad.0;
+    rejected = same ∙ bad.0;
   }
 
   -- bytes were kept

@@ -6,7 +6,7 @@ use Rattle.std.specs.Global.{Global}
 use Rattle.hashbag.specs.Bag.{Bag}
 use Rattle.hashbag_words_lib.specs.Added.{Added, AddsBytes, AreRowsOf, EndsFile, KeepsAddedInRun}
 use Rattle.hashbag_words_lib.specs.Counted.{Counted, CountsBytes, EndsWholeText, HasCounted, KeepsCountedInRun}
-use Rattle.hashbag_words_lib.specs.Feeding.{AreRowsOfAll, EndsText, HasAddedTexts, HasAlso, HasCountedTexts, HasStill, KeepsRun}
+use Rattle.hashbag_words_lib.specs.Feeding.{AreRowsOfAll, EndsText, HasAddedTexts, AddsFed, HasCountedTexts, KeepsCounts, KeepsRun}
 use Rattle.hashbag_words_lib.specs.Runs.{rows_in, run_text, IsRunOf}
 use Rattle.hashbag_words_lib.specs.Tokens.{tokens_of}
 use Rattle.hashbag_words_lib.specs.declared.counter.TextCounter.{TextCounter}
@@ -29,7 +29,7 @@ tokens_more rule texts text =
     sym (flat_map-append (tokens_of rule) texts (text ∷ []) ∙ ap (λ (l : List (List ℕ)). flat_map (tokens_of rule) texts ++ l) (append-nil (tokens_of rule text)))
 
 module _ {S H : Type 0} (old new : TextCounter S H) where
-  pub text_fed : (bytes : List ℕ) → new.rule ≡ old.rule → CountsBytes old new bytes → HasAlso HasCountedTexts old new bytes
+  pub text_fed : (bytes : List ℕ) → new.rule ≡ old.rule → CountsBytes old new bytes → AddsFed HasCountedTexts old new bytes
   text_fed bytes same counts (inl rule) runs texts text h = (same ∙ h.0, counts (flat_map (tokens_of rule) texts) runs text h.1)
   text_fed bytes same counts (inr lines) runs texts text h = h
 
@@ -41,7 +41,7 @@ module _ {S H : Type 0} (old new : TextCounter S H) where
   )
   text_ended same ends (inr lines) runs texts text h = h
 
-  pub text_still : new.rule ≡ old.rule → new.bag ≡ old.bag → new.partial ≡ old.partial → new.reading ≡ old.reading → HasStill HasCountedTexts old new
+  pub text_still : new.rule ≡ old.rule → new.bag ≡ old.bag → new.partial ≡ old.partial → new.reading ≡ old.reading → KeepsCounts HasCountedTexts old new
   text_still same bag partial reading (inl rule) runs texts text h =
       let tokens = flat_map (tokens_of rule) texts in (
         same ∙ h.0,
@@ -64,7 +64,7 @@ all_more form bad_lines (t ∷ texts) text rows more (first, later, of_first, of
     (first, later ++ more, of_first, all_more form bad_lines texts text later more of_later one, ap (λ (l : List (List ℕ × ℕ)). l ++ more) is ∙ append_assoc first later more)
 
 module _ {S H : Type 0} (old new : RowCounter S H) (form : new.form ≡ old.form) (bad_lines : new.reading.bad_lines ≡ old.reading.bad_lines) where
-  pub file_fed : (bytes : List ℕ) → AddsBytes old new bytes → HasAlso HasAddedTexts old new bytes
+  pub file_fed : (bytes : List ℕ) → AddsBytes old new bytes → AddsFed HasAddedTexts old new bytes
   file_fed bytes adds (inl rule) runs texts text h = h
   file_fed bytes adds (inr lines) runs texts text h =
       record { same_form = form ∙ h.same_form; same_lines = bad_lines ∙ h.same_lines; rows = h.rows; are = h.are; added = adds h.rows runs text h.added }
@@ -87,7 +87,7 @@ module _ {S H : Type 0} (old new : RowCounter S H) (form : new.form ≡ old.form
   file_kept run keeps is (inr lines) runs texts text h =
       record { same_form = form ∙ h.same_form; same_lines = bad_lines ∙ h.same_lines; rows = h.rows; are = h.are; added = keeps run is h.rows runs text h.added }
 
-pub file_still : {S H : Type 0} (old new : RowCounter S H) → new.form ≡ old.form → new.bag ≡ old.bag → new.partial ≡ old.partial → new.reading ≡ old.reading → HasStill HasAddedTexts old new
+pub file_still : {S H : Type 0} (old new : RowCounter S H) → new.form ≡ old.form → new.bag ≡ old.bag → new.partial ≡ old.partial → new.reading ≡ old.reading → KeepsCounts HasAddedTexts old new
 file_still old new form bag partial reading (inl rule) runs texts text h = h
 file_still old new form bag partial reading (inr lines) runs texts text h = record {
   same_form = form ∙ h.same_form;

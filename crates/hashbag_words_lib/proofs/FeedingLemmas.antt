@@ -1,16 +1,16 @@
 -- Blocks that were fed one after the other, and the runs that were kept meanwhile.
 use Rattle.std.proofs.Common.{◌≡◌, ℕ, ◌-◌, List, [], ◌∷◌, ◌++◌, length, take, drop, Option, Some, sym, ◌∙◌, ap, subst, append_assoc}
 use Rattle.std.proofs.lemmas.List.{append-nil, take-append-drop, take_rest}
-use Rattle.hashbag_words_lib.specs.Feeding.{CountsTexts, Ends, EndsText, Feeds, HasAlso, HasStill, HaveCounted, HaveStill, How, KeepsRows, KeepsRun}
+use Rattle.hashbag_words_lib.specs.Feeding.{CountsTexts, Ends, EndsText, Feeds, AddsFed, KeepsCounts, HaveCounted, KeepTogether, How, KeepsRows, KeepsRun}
 
 module _ {C R : Type 0} (has : How → C → List (List (List ℕ × ℕ)) → List (List ℕ) → List ℕ → Type 0) (kept : R → List (List (List ℕ × ℕ)) → Type 0) where
   -- a run was kept
-  pub one_run : (old new : C) (keeper keeper' : R) (rows : List (List ℕ × ℕ)) → KeepsRows kept keeper keeper' rows → KeepsRun has old new rows → HaveStill has kept old new (Some keeper) (Some keeper')
+  pub one_run : (old new : C) (keeper keeper' : R) (rows : List (List ℕ × ℕ)) → KeepsRows kept keeper keeper' rows → KeepsRun has old new rows → KeepTogether has kept old new (Some keeper) (Some keeper')
   one_run old new keeper keeper' rows keeps counts how texts text h =
       record { runs = h.runs ++ rows ∷ []; are_kept = keeps h.runs h.are_kept; counted = counts how h.runs texts text h.counted }
 
   -- bytes were fed, and no run was made
-  pub fed_at_once : (old new : C) (keeper : Option R) (bytes : List ℕ) → HasAlso has old new bytes → Feeds has kept old new keeper keeper bytes
+  pub fed_at_once : (old new : C) (keeper : Option R) (bytes : List ℕ) → AddsFed has old new bytes → Feeds has kept old new keeper keeper bytes
   fed_at_once old new keeper bytes also how texts text h = record { runs = h.runs; are_kept = h.are_kept; counted = also how h.runs texts text h.counted }
 
   -- nothing was fed
@@ -23,11 +23,11 @@ module _ {C R : Type 0} (has : How → C → List (List (List ℕ × ℕ)) → L
       subst (λ (t : List ℕ). HaveCounted has kept how new last texts t) (append_assoc text xs ys) (s how texts (text ++ xs) (f how texts text h))
 
   -- runs were made after bytes were fed
-  pub fed_with_runs : (old then new : C) (first mid last : Option R) (xs : List ℕ) → Feeds has kept old then first mid xs → HaveStill has kept then new mid last → Feeds has kept old new first last xs
+  pub fed_with_runs : (old then new : C) (first mid last : Option R) (xs : List ℕ) → Feeds has kept old then first mid xs → KeepTogether has kept then new mid last → Feeds has kept old new first last xs
   fed_with_runs old then new first mid last xs f s how texts text h = s how texts (text ++ xs) (f how texts text h)
 
   -- a text was ended, and then runs may have been made
-  pub ended_with_runs : (old then still new : C) (first last : Option R) → EndsText has old then → HasStill has then still → HaveStill has kept still new first last → Ends has kept old new first last
+  pub ended_with_runs : (old then still new : C) (first last : Option R) → EndsText has old then → KeepsCounts has then still → KeepTogether has kept still new first last → Ends has kept old new first last
   ended_with_runs old then still new first last ends stays makes how texts text h =
       makes how (texts ++ text ∷ []) [] (record { runs = h.runs; are_kept = h.are_kept; counted = stays how h.runs (texts ++ text ∷ []) [] (ends how h.runs texts text h.counted) })
 

@@ -6,7 +6,7 @@ use Rattle.hashbag_text.specs.Encodings.{after_bytes, text_in}
 use Rattle.hashbag_text.specs.declared.decoder.Decoder.{Decoder}
 use Rattle.hashbag_text.specs.declared.encoding.Encoding.{Encoding}
 use Rattle.hashbag_words_lib.specs.Feeding.{Ends, Feeds, How}
-use Rattle.hashbag_words_lib.specs.Inputs.{text_left, Counts, FeedsNext, Reads, ReadsBlock, Takes}
+use Rattle.hashbag_words_lib.specs.Inputs.{text_left, CountsInputs, FeedsNext, ReadsInput, ReadsBlock, CountsInput}
 use Rattle.hashbag_words_lib.proofs.FeedingLemmas.{counted_more, counted_none, counted_one, fed_more, fed_none}
 
 -- ---- texts after others
@@ -72,7 +72,7 @@ module _ {B C R : Type 0} (has : How → C → List (List (List ℕ × ℕ)) →
   -- the input has ended
   pub so_far_ended : (name : List ℕ) (inputs first then : B) (begun begun' : Option (List ℕ × List ℕ)) (decoder : Option Decoder) (old new : C) (keeper keeper' : Option R) (block : List ℕ)
       → SoFar name inputs first begun decoder old new keeper keeper' → ReadsBlock begun (ended first) block begun' (ended then) → true ≡ (length block == 0) → text_left decoder [] ≡ Some []
-      → Reads has kept ended encoding name inputs then old new keeper keeper'
+      → ReadsInput has kept ended encoding name inputs then old new keeper keeper'
   so_far_ended name inputs first then begun begun' decoder old new keeper keeper' block s reads none whole = record {
     bytes = s.bytes;
     read = ended_of (name, s.bytes) (ended first) block begun' (ended then) none (subst (λ (b : Option (List ℕ × List ℕ)). ReadsBlock b (ended first) block begun' (ended then)) s.is reads)
@@ -86,7 +86,7 @@ module _ {B C R : Type 0} (has : How → C → List (List (List ℕ × ℕ)) →
 
   -- an input was read and its text ended
   pub input_counted : (name : List ℕ) (inputs then last : B) (old mid new : C) (first middle keeper : Option R)
-      → Reads has kept ended encoding name inputs then old mid first middle → Ends has kept mid new middle keeper → ended last ≡ ended then → Takes has kept ended encoding name inputs last old new first keeper
+      → ReadsInput has kept ended encoding name inputs then old mid first middle → Ends has kept mid new middle keeper → ended last ≡ ended then → CountsInput has kept ended encoding name inputs last old new first keeper
   input_counted name inputs then last old mid new first middle keeper r e is = record {
     bytes = r.bytes;
     read = is ∙ r.read;
@@ -96,13 +96,13 @@ module _ {B C R : Type 0} (has : How → C → List (List (List ℕ × ℕ)) →
   }
 
   -- no input was counted
-  pub no_inputs : (inputs : B) (c : C) (keeper : Option R) → Counts has kept ended encoding [] inputs inputs c c keeper keeper
+  pub no_inputs : (inputs : B) (c : C) (keeper : Option R) → CountsInputs has kept ended encoding [] inputs inputs c c keeper keeper
   no_inputs inputs c keeper = record { texts = []; read = record { inputs = []; named = refl; read = sym (append-nil (ended inputs)); decoded = refl }; counts = counted_none has kept c keeper }
 
   -- an input more
   pub inputs_more : (names : List (Bor (List ℕ))) (i : ℕ) (d : Bor (List ℕ)) (inputs then last : B) (old mid new : C) (first middle keeper : Option R) → i < length names
-      → Counts has kept ended encoding (take i names) inputs then old mid first middle → Takes has kept ended encoding (get_or names i d).now then last mid new middle keeper
-      → Counts has kept ended encoding (take (i + 1) names) inputs last old new first keeper
+      → CountsInputs has kept ended encoding (take i names) inputs then old mid first middle → CountsInput has kept ended encoding (get_or names i d).now then last mid new middle keeper
+      → CountsInputs has kept ended encoding (take (i + 1) names) inputs last old new first keeper
   inputs_more names i d inputs then last old mid new first middle keeper within all one =
       let input : List ℕ × List ℕ = ((get_or names i d).now, one.bytes) in
       let now_of : Bor (List ℕ) → List ℕ = λ name. name.now in

@@ -10,7 +10,7 @@ use Rattle.hashbag_words_lib.specs.Added.{HasAdded, HaveRows}
 use Rattle.hashbag_words_lib.specs.Counted.{HasCounted, HaveTogether}
 use Rattle.hashbag_words_lib.specs.Counts.{texts_in}
 use Rattle.hashbag_words_lib.specs.Feeding.{AreKeptIn, HasAddedTexts, HasCountedTexts, HasNothing, KeepsRows}
-use Rattle.hashbag_words_lib.specs.Inputs.{AreRead, Counts}
+use Rattle.hashbag_words_lib.specs.Inputs.{AreRead, CountsInputs}
 use Rattle.hashbag_words_lib.specs.Jobs.{AddsFileRows, CountsTokens, KeepsBag, ShowsBoth, ShowsRuns, WritesRows, WritesTokens}
 use Rattle.hashbag_words_lib.specs.Runs.{rows_in, run_text, IsRunOf}
 use Rattle.hashbag_words_lib.specs.Shown.{ShowsCounted}
@@ -77,7 +77,7 @@ module _ {R S : Type 0} (kept : R → List (List (List ℕ × ℕ)) → Type 0) 
     -- tokens were counted
     pub tokens_counted : {H : Type 0} (rule : Rule) (first last : TextCounter S H) → first.rule ≡ rule → HasCounted (texts_in bag) [] first []
         → ((before : List (List ℕ)) → (runs : List (List (List ℕ × ℕ))) → HasCounted before runs last [] → HaveTogether runs bag' before)
-        → Counts HasCountedTexts kept ended encoding names inputs inputs' first last keeper keeper' → CountsTokens kept faithful encoding names (ended inputs) (ended inputs') rule bag bag' keeper keeper'
+        → CountsInputs HasCountedTexts kept ended encoding names inputs inputs' first last keeper keeper' → CountsTokens kept faithful encoding names (ended inputs) (ended inputs') rule bag bag' keeper keeper'
     tokens_counted rule first last same begins together counts = record {
       texts = counts.texts;
       read_all = counts.read;
@@ -91,7 +91,7 @@ module _ {R S : Type 0} (kept : R → List (List (List ℕ × ℕ)) → Type 0) 
     pub rows_added : {H : Type 0} (form : RowForm) (bad_lines : BadLines) (first last : RowCounter S H) → first.form ≡ form → first.reading.bad_lines ≡ bad_lines
         → ((before : List (List ℕ × ℕ)) → HaveRows [] bag before → HasAdded before [] first [])
         → ((before : List (List ℕ × ℕ)) → (runs : List (List (List ℕ × ℕ))) → HasAdded before runs last [] → HaveRows runs bag' before)
-        → Counts HasAddedTexts kept ended encoding names inputs inputs' first last keeper keeper' → AddsFileRows kept faithful encoding names (ended inputs) (ended inputs') form bad_lines bag bag' keeper keeper'
+        → CountsInputs HasAddedTexts kept ended encoding names inputs inputs' first last keeper keeper' → AddsFileRows kept faithful encoding names (ended inputs) (ended inputs') form bad_lines bag bag' keeper keeper'
     rows_added form bad_lines first last same_form same_lines begins together counts = record {
       texts = counts.texts;
       read_all = counts.read;

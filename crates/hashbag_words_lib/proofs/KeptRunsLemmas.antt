@@ -8,7 +8,7 @@ use Rattle.std.proofs.Math.Seq.{get_or-append_seam}
 use Rattle.std.specs.Global.{Vec}
 use Rattle.std.specs.Prelude.{IsSomeAnd, MatchOption}
 use Rattle.hashbag_words_lib.specs.Choice.{shows}
-use Rattle.hashbag_words_lib.specs.KeptRuns.{times_of, AreKept, TakesKind, TakesMerge, TakesOneMerge, WritesRun}
+use Rattle.hashbag_words_lib.specs.KeptRuns.{times_of, AreKept, TakesKind, TakesMerge, TakesMergeIfThere, WritesRun}
 use Rattle.hashbag_words_lib.specs.MergedTexts.{look_in, look_of, ShowsAllRows, BeginsOf, IsRunLayout, WritesAsRun}
 use Rattle.hashbag_words_lib.specs.Shown.{CountTexts}
 use Rattle.hashbag_words_lib.specs.Sorted.{times_in, IsMergeOf}
@@ -177,7 +177,7 @@ both_ok (Err e) P Q R both p q = tt
 pub merge_of : (numbers : Vec ℕ) (kind : SourceKind) (old new : KeptRuns) → TakesKind kind numbers.items old new → (text : MergedText) → text.merge.numbers ≡ numbers → BeginsOf kind text → TakesMerge text old new
 merge_of numbers kind old new takes text is begins = (kind, begins, subst (λ (v : Vec ℕ). TakesKind kind v.items old new) (sym is) takes)
 
-pub one_merge : (numbers : Vec ℕ) (kind : SourceKind) (old new : KeptRuns) → TakesKind kind numbers.items old new → (full : Option MergedText) → IsSomeAnd full (λ text. text.merge.numbers ≡ numbers) → IfSome full (BeginsOf kind) → TakesOneMerge full old new
+pub one_merge : (numbers : Vec ℕ) (kind : SourceKind) (old new : KeptRuns) → TakesKind kind numbers.items old new → (full : Option MergedText) → IsSomeAnd full (λ text. text.merge.numbers ≡ numbers) → IfSome full (BeginsOf kind) → TakesMergeIfThere full old new
 one_merge numbers kind old new takes None is begins = absurd is
 one_merge numbers kind old new takes (Some text) is begins = merge_of numbers kind old new takes text is begins
 

@@ -6,10 +6,10 @@ use Rattle.std.proofs.lemmas.List.Sums.{get_or-le-sum_by, sum_by-le-sum_by}
 use Rattle.std.specs.Cmp.Lexicographic.{bytes_decides}
 use Rattle.hashbag_words_lib.specs.Choice.{shows}
 use Rattle.hashbag_words_lib.specs.Merged.{AreInputs}
-use Rattle.hashbag_words_lib.specs.MergedTexts.{shown_in, whole_text, ShowsAllRows, BeginsOf, HasGivenAndTaken, IsMergedText, KeepsLayout, ShowsRun, WritesAsRun}
+use Rattle.hashbag_words_lib.specs.MergedTexts.{shown_in, whole_text, ShowsAllRows, BeginsOf, HasGivenAndTaken, IsMergedText, KeepsLayout, IsLookOfRun, WritesAsRun}
 use Rattle.hashbag_words_lib.specs.Numbered.{read_of, AreUnlike, HasRead}
 use Rattle.hashbag_words_lib.specs.Runs.{rows_in}
-use Rattle.hashbag_words_lib.specs.Sorted.{number_sum, of_row, times_in, IsMergeOf}
+use Rattle.hashbag_words_lib.specs.Sorted.{count_sum, of_row, times_in, IsMergeOf}
 use Rattle.hashbag_words_lib.specs.Sources.{rows_of}
 use Rattle.hashbag_words_lib.specs.Writing.{text_of}
 use Rattle.hashbag_words_lib.specs.declared.choice.Choice.{Choice}
@@ -65,7 +65,7 @@ within_all : (text : List ℕ) (b : Bool) (n : ℕ) → (if b then n else 0) ≤
 within_all text true n = omega arith
 within_all text false n = omega arith
 
-times_within : (text : List ℕ) (rows : List (List ℕ × ℕ)) → times_in text rows ≤ number_sum rows
+times_within : (text : List ℕ) (rows : List (List ℕ × ℕ)) → times_in text rows ≤ count_sum rows
 times_within text rows = sum_by-le-sum_by (of_row text) (λ (r : List ℕ × ℕ). r.1) rows (λ r. within_all text (bytes_eq text r.0) r.1)
 
 -- the counts of a merge are within 64 bits
@@ -75,12 +75,12 @@ merge_fits inputs rows merged i d lt =
     let same : of_row r.0 r ≡ r.1 = ap (λ (b : Bool). if b then r.1 else 0) ((bytes_decides r.0 r.0).1 refl) in
     let one : of_row r.0 r ≤ times_in r.0 rows = get_or-le-sum_by (of_row r.0) rows i d lt in
     let sums : times_in r.0 rows ≡ sum_by (times_in r.0) inputs = merged.sums r.0 in
-    let all : sum_by (times_in r.0) inputs ≤ sum_by number_sum inputs = sum_by-le-sum_by (times_in r.0) number_sum inputs (λ rows. times_within r.0 rows) in
-    let fits : sum_by number_sum inputs < 2 ^ 64 = merged.fits in
+    let all : sum_by (times_in r.0) inputs ≤ sum_by count_sum inputs = sum_by-le-sum_by (times_in r.0) count_sum inputs (λ rows. times_within r.0 rows) in
+    let fits : sum_by count_sum inputs < 2 ^ 64 = merged.fits in
     omega arith
 
 -- the rows that are read of the text of a merge are the merge
-pub merge_again : (choice : Choice) (format : Format) (bars : Option ℕ) (inputs : List (List (List ℕ × ℕ))) (bytes : List ℕ) → ShowsRun choice format → (text : IsMergedText choice format bars inputs bytes) → rows_in bytes ≡ text.rows
+pub merge_again : (choice : Choice) (format : Format) (bars : Option ℕ) (inputs : List (List (List ℕ × ℕ))) (bytes : List ℕ) → IsLookOfRun choice format → (text : IsMergedText choice format bars inputs bytes) → rows_in bytes ≡ text.rows
 merge_again choice format bars inputs bytes run text =
     ap rows_in
     (text.is

@@ -6,7 +6,7 @@ use Rattle.std.proofs.lemmas.List.Elements.{All-from_get_or}
 use Rattle.std.proofs.lemmas.Option.{same_Some}
 use Rattle.hashbag_words_lib.specs.Merged.{all_with, count_of, run_texts, with_head, AreBegun, AreInputs, AreLeft, AreReadAgain, IsSoFar, MayComeTo, TakesNextRow, TakesRow, TakesRowWhateverComes}
 use Rattle.hashbag_words_lib.specs.Runs.{rows_in, run_text}
-use Rattle.hashbag_words_lib.specs.Sorted.{number_sum, row_of, shown_of, IsMergeOf, IsNoLater, IsNotBelow, Joins, SoFar}
+use Rattle.hashbag_words_lib.specs.Sorted.{count_sum, row_of, done_rows, IsMergeOf, IsNoLater, IsNotBelow, Joins, SoFar}
 use Rattle.hashbag_words_lib.specs.Sources.{left_with, rows_of, MayCome}
 use Rattle.hashbag_words_lib.specs.declared.row_source.SourceKind.{SourceKind}
 use Rattle.hashbag_words_lib.specs.declared.row_source.Next.TheVariants.{Row, End}
@@ -190,7 +190,7 @@ module _ {given : List (SourceKind × List ℕ)} {sources new : List Source} {ou
   }
 
   -- a row was taken, and perhaps one came out
-  pub so_far_row : (row : String Global × ℕ) (done next : Option (String Global × ℕ)) {shown : List (List ℕ × ℕ)} → Took sources before (MergedRow row) new total → Joins held row done next → shown ≡ out ++ shown_of done
+  pub so_far_row : (row : String Global × ℕ) (done next : Option (String Global × ℕ)) {shown : List (List ℕ × ℕ)} → Took sources before (MergedRow row) new total → Joins held row done next → shown ≡ out ++ done_rows done
       → IsSoFar given new next total shown
   so_far_row row done next took joins same = so_far_by took (λ mores inputs left taken so_far. (
     taken.0,
@@ -203,7 +203,7 @@ module _ {given : List (SourceKind × List ℕ)} {sources new : List Source} {ou
   so_far_same took = so_far_by took (λ mores inputs left are so_far. (left, are, subst (SoFar inputs left out held) (sym (and_none before total took.sum)) so_far))
 
   -- no row is left, and the one that was held came out
-  module _ {shown : List (List ℕ × ℕ)} (took : Took sources before MergedEnd new total) (same : shown ≡ out ++ shown_of held) where
+  module _ {shown : List (List ℕ × ℕ)} (took : Took sources before MergedEnd new total) (same : shown ≡ out ++ done_rows held) where
     pub so_far_ends : {next : Option (String Global × ℕ)} → next ≡ None → IsSoFar given new next total shown
     so_far_ends none = subst (λ (h : Option (String Global × ℕ)). IsSoFar given new h total shown) (sym none) (so_far_by took (λ mores inputs left taken so_far. (
       left,
@@ -211,7 +211,7 @@ module _ {given : List (SourceKind × List ℕ)} {sources new : List Source} {ou
       subst₂ (λ (l : List (List ℕ × ℕ)) (n : ℕ). SoFar inputs left l None n) (sym same) (sym (and_none before total took.sum)) (so_far_over inputs left out held before taken.0 so_far),
     )))
 
-    pub so_far_whole : (mores : ℕ → List ℕ) (inputs : List (List (List ℕ × ℕ))) → MayComeTo new mores → AreInputs given mores inputs → IsMergeOf inputs shown × (total ≡ sum_by number_sum inputs)
+    pub so_far_whole : (mores : ℕ → List ℕ) (inputs : List (List (List ℕ × ℕ))) → MayComeTo new mores → AreInputs given mores inputs → IsMergeOf inputs shown × (total ≡ sum_by count_sum inputs)
     so_far_whole mores inputs come are =
         let at = step took mores inputs come are in (
           subst (IsMergeOf inputs) (sym same) (so_far_done inputs at.0 out held before so.fits at.1.0 at.2),

@@ -10,7 +10,7 @@ use Rattle.hashbag_words_lib.specs.Choice.{shows}
 use Rattle.hashbag_words_lib.specs.Merged.{AreInputs, IsWhole}
 use Rattle.hashbag_words_lib.specs.MergedTexts.{look_of, shown_in, whole_text, ShowsAllRows, ArePut, BeginsAs, BuildsEnd, EndsWith, HasGivenAndTaken, HaveCome, KeepsMergeAndLayout, PutsNext, PutsRow}
 use Rattle.hashbag_words_lib.specs.RowParts.{HasBuilt, TakesRowPart}
-use Rattle.hashbag_words_lib.specs.Sorted.{number_sum, row_of, IsMergeOf}
+use Rattle.hashbag_words_lib.specs.Sorted.{count_sum, row_of, IsMergeOf}
 use Rattle.hashbag_words_lib.specs.Top.{KeepsTop, PutsTop}
 use Rattle.hashbag_words_lib.specs.declared.numbered_merge.NumberedMerge.{NumberedMerge}
 use Rattle.hashbag_words_lib.specs.declared.choice.Choice.{Choice}
@@ -184,7 +184,7 @@ put_whole given text taken put over none inputs are = (
   writes_together text.rows.choice text.rows.sink.format text.bars inputs put.out text.merge.merger.total taken whole.0 whole.1 put.begun is,
 )
   where
-    whole : IsMergeOf inputs put.out × (text.merge.merger.total ≡ sum_by number_sum inputs)
+    whole : IsMergeOf inputs put.out × (text.merge.merger.total ≡ sum_by count_sum inputs)
     whole = (put.over over).0 (λ i. []) inputs (λ i lt source ended. refl) are
 
     is : taken ≡ whole_text text.rows.sink.format text.rows.choice.order text.bars (shown_in text.rows.choice put.out)

@@ -4,14 +4,14 @@ use Rattle.std.proofs.lemmas.List.{append-nil, map-append}
 use Rattle.std.proofs.lemmas.List.Elements.{All-nil, All-append, All-cons, All-head}
 use Rattle.std.specs.Global.{Vec}
 use Rattle.hashbag_words_lib.specs.Feeding.{KeepsRows}
-use Rattle.hashbag_words_lib.specs.KeptRuns.{numbers_in, AddsNumber, AreInOrder, HasFiles, HasKept, KeepsKinds, MergesAll, TakesFiles, TakesKind, TakesMerge, TakesOneMerge, TakesTexts, TakesThese}
+use Rattle.hashbag_words_lib.specs.KeptRuns.{numbers_in, AddsNumber, AreInOrder, HasFiles, HasKept, KeepsKinds, MergesAll, TakesFiles, TakesKind, TakesMerge, TakesMergeIfThere, DividesRowsIfThere, DividesRows}
 use Rattle.hashbag_words_lib.specs.Merged.{AreInputs}
 use Rattle.hashbag_words_lib.specs.MergedTexts.{look_in, look_of, EndsWith, KeepsLayout, WritesAsRun}
 use Rattle.hashbag_words_lib.specs.MergingRuns.{AddsFile, AddsRuns, AgreesWith, AllOf, AreUnread, GoesOnMerging, HasRuns, IsGone, Merges, MergesTaken, ShowsAll, TotalsTaken, WritesText}
-use Rattle.hashbag_words_lib.specs.Numbered.{read_of, HasRead, IsNext, ReadsOn, WritesMerge}
+use Rattle.hashbag_words_lib.specs.Numbered.{read_of, HasRead, HasReadAndWants, ReadsOn, WritesMerge}
 use Rattle.hashbag_words_lib.specs.Runs.{rows_in}
 use Rattle.hashbag_words_lib.specs.Shown.{ShowsTexts}
-use Rattle.hashbag_words_lib.specs.Sorted.{number_sum}
+use Rattle.hashbag_words_lib.specs.Sorted.{count_sum}
 use Rattle.hashbag_words_lib.specs.Sources.{rows_of}
 use Rattle.hashbag_words_lib.specs.declared.choice.Choice.{Choice}
 use Rattle.hashbag_words_lib.specs.declared.kept_runs.KeptRuns.{KeptRuns}
@@ -64,9 +64,9 @@ still_gone old new adds n gone =
 
 -- ---- steps, one after the other
 
-empty_of : (number_sum : List ℕ) → length number_sum ≡ 0 → number_sum ≡ []
+empty_of : (numbers : List ℕ) → length numbers ≡ 0 → numbers ≡ []
 empty_of [] none = refl
-empty_of (n ∷ number_sum) none = absurd (omega arith)
+empty_of (n ∷ numbers) none = absurd (omega arith)
 
 module _ {T : Type 0} (read : T → ℕ → List ℕ) where
   -- a merge was read on, and then written
@@ -237,7 +237,7 @@ module _ {T : Type 0} (read : T → ℕ → List ℕ) where
           (subst (λ (m : ℕ). m ≤ get_or taken.items i d) (sym kinds.1) (runs.1 i d lt))
 
   -- what was written is the text of their merge
-  ends_of : (kind : SourceKind) (taken : List ℕ) (rows : ℕ → List (List ℕ × ℕ)) (later : ℕ → List ℕ) (bytes : List ℕ) (done : MergedText) → done.merge.numbers.items ≡ taken → IsNext kind later bytes End done
+  ends_of : (kind : SourceKind) (taken : List ℕ) (rows : ℕ → List (List ℕ × ℕ)) (later : ℕ → List ℕ) (bytes : List ℕ) (done : MergedText) → done.merge.numbers.items ≡ taken → HasReadAndWants kind later bytes End done
       → All (λ n. rows_of kind (later n) ≡ Some (rows n)) taken → EndsWith (map rows taken) bytes done
   ends_of kind taken rows later bytes done same next each =
       next.1.1 (map rows taken) (subst (λ (l : List ℕ). AreInputs (read_of kind later l) (λ i. []) (map rows taken)) (sym same) (are_inputs kind later rows taken each))
@@ -318,13 +318,14 @@ module _ {T : Type 0} (read : T → ℕ → List ℕ) where
         written = adds.written ∙ ap (λ (l : List WrittenRun). l ++ adds.run ∷ []) (sym written);
       }
 
-      merged_ends : IsNext kind (read later) bytes End done → (rows : ℕ → List (List ℕ × ℕ)) → AgreesWith read rows new → EndsWith (map rows taken) bytes done
+      merged_ends : HasReadAndWants kind (read later) bytes End done → (rows : ℕ → List (List ℕ × ℕ)) → AgreesWith read rows new
+          → EndsWith (map rows taken) bytes done
       merged_ends next_is rows agrees =
           ends_of kind taken rows (read later) bytes done (ap (λ v. v.items) numbers_same) next_is
           (kinds_rows kind text.merge.numbers before.kept old.kept rows before.merged new (read later) how unread.order kinds_now adds.reads merged_is agrees)
 
       -- the run has the rows of those that were taken
-      merged_counts : IsNext kind (read later) bytes End done → WritesAsRun done → TakesThese taken before.kept old.kept
+      merged_counts : HasReadAndWants kind (read later) bytes End done → WritesAsRun done → DividesRows taken before.kept old.kept
           → (rows : ℕ → List (List ℕ × ℕ)) → AgreesWith read rows new → (all : List (List (List ℕ × ℕ))) → HasKept before.kept rows all → HasKept new.kept rows all
       merged_counts next_is run these rows agrees all kept =
           let ends : EndsWith (map rows taken) bytes done = merged_ends next_is rows agrees in
@@ -332,17 +333,17 @@ module _ {T : Type 0} (read : T → ℕ → List ℕ) where
           adds.merged rows rows all ends.0.rows taken (these rows all kept) ends.0.merged (last_rows rows bytes mid new adds agrees ∙ is, λ k lt. refl)
 
   -- none was taken
-  pub taken_none : (full : Option MergedText) (old : MergingRuns T) (kept : KeptRuns) → full ≡ None → TakesOneMerge full old.kept kept → TakesTexts full old.kept kept → Merges read old (record old { kept = kept })
+  pub taken_none : (full : Option MergedText) (old : MergingRuns T) (kept : KeptRuns) → full ≡ None → TakesMergeIfThere full old.kept kept → DividesRowsIfThere full old.kept kept → Merges read old (record old { kept = kept })
   taken_none full old kept none takes keeps =
-      merges_none old (record old { kept = kept }) refl refl refl (subst (λ (f : Option MergedText). TakesOneMerge f old.kept kept) none takes)
-      (λ rows all has. subst (λ (f : Option MergedText). TakesTexts f old.kept kept) none keeps rows all has)
+      merges_none old (record old { kept = kept }) refl refl refl (subst (λ (f : Option MergedText). TakesMergeIfThere f old.kept kept) none takes)
+      (λ rows all has. subst (λ (f : Option MergedText). DividesRowsIfThere f old.kept kept) none keeps rows all has)
 
   -- texts were taken and merged
-  pub taken_some : (full : Option MergedText) (text : MergedText) (old new : MergingRuns T) (kept : KeptRuns) → full ≡ Some text → TakesOneMerge full old.kept kept → TakesTexts full old.kept kept → IfSome full WritesAsRun
+  pub taken_some : (full : Option MergedText) (text : MergedText) (old new : MergingRuns T) (kept : KeptRuns) → full ≡ Some text → TakesMergeIfThere full old.kept kept → DividesRowsIfThere full old.kept kept → IfSome full WritesAsRun
       → MergesTaken read text (record old { kept = kept }) new → Merges read old new
   taken_some full text old new kept is takes keeps run merges =
-      merges old refl refl refl (subst (λ (f : Option MergedText). TakesOneMerge f old.kept kept) is takes)
-      (λ rows all has. subst (λ (f : Option MergedText). TakesTexts f old.kept kept) is keeps rows all has)
+      merges old refl refl refl (subst (λ (f : Option MergedText). TakesMergeIfThere f old.kept kept) is takes)
+      (λ rows all has. subst (λ (f : Option MergedText). DividesRowsIfThere f old.kept kept) is keeps rows all has)
       (subst (λ (f : Option MergedText). IfSome f WritesAsRun) is run)
 
   -- they were merged into a run, which was added

@@ -4,7 +4,7 @@ use Rattle.std.proofs.lemmas.Bool.{cases_eq}
 use Rattle.std.proofs.lemmas.List.{append-nil, get_or-map}
 use Rattle.hashbag_words_lib.specs.NumberedMerges.{IsWanted}
 use Rattle.hashbag_words_lib.specs.MergedTexts.{GivesText, HasGivenAndTaken, KeepsGivenAndTaken, KeepsLayout, PutsNext, TakesPart}
-use Rattle.hashbag_words_lib.specs.Numbered.{read_of, AreUnlike, HasRead, IsNext, ReadsText, Wanted}
+use Rattle.hashbag_words_lib.specs.Numbered.{read_of, AreUnlike, HasRead, HasReadAndWants, ReadsText, Wanted}
 use Rattle.hashbag_words_lib.specs.declared.merged_text.MergedText.{MergedText}
 use Rattle.hashbag_words_lib.specs.declared.merged_text.Wants.{Wants}
 use Rattle.hashbag_words_lib.specs.declared.merged_text.Wants.TheVariants.{Block, Part, End}
@@ -90,7 +90,7 @@ next_given given taken (Block number) text next = next.0
 next_given given taken Part text next = next
 next_given given taken End text next = next.0
 
-pub next_read : (kind : SourceKind) (read : ℕ → List ℕ) (taken : List ℕ) (wants : Wants) (text : MergedText) → IsNext kind read taken wants text → HasRead kind read text taken
+pub next_read : (kind : SourceKind) (read : ℕ → List ℕ) (taken : List ℕ) (wants : Wants) (text : MergedText) → HasReadAndWants kind read taken wants text → HasRead kind read text taken
 next_read kind read taken wants text next = record { unlike = next.0; given = next_given (read_of kind read text.merge.numbers.items) taken wants text next.1 }
 
 -- the same text is wanted, if it is wanted
@@ -103,13 +103,13 @@ still_wanted number old new same place over on wanted = record {
 
 -- what is wanted next, where what was read was given
 pub read_next : (kind : SourceKind) (read : ℕ → List ℕ) (taken : List ℕ) (old new : MergedText) (wants : Wants) → new.merge.numbers ≡ old.merge.numbers
-    → ((given : List (SourceKind × List ℕ)) → (taken : List ℕ) → HasGivenAndTaken given old taken → PutsNext given taken wants new) → HasRead kind read old taken → IsNext kind read taken wants new
+    → ((given : List (SourceKind × List ℕ)) → (taken : List ℕ) → HasGivenAndTaken given old taken → PutsNext given taken wants new) → HasRead kind read old taken → HasReadAndWants kind read taken wants new
 read_next kind read taken old new wants same next has = (
   subst (λ v. AreUnlike v.items) (sym same) has.unlike,
   subst (λ v. PutsNext (read_of kind read v.items) taken wants new) (sym same) (next (read_of kind read old.merge.numbers.items) taken has.given),
 )
 
-pub block_wanted : (kind : SourceKind) (read : ℕ → List ℕ) (taken : List ℕ) (number : ℕ) (text : MergedText) → IsNext kind read taken (Block number) text → Wanted number text
+pub block_wanted : (kind : SourceKind) (read : ℕ → List ℕ) (taken : List ℕ) (number : ℕ) (text : MergedText) → HasReadAndWants kind read taken (Block number) text → Wanted number text
 block_wanted kind read taken number text next = record { going = next.1.1; wanted = next.1.2; is = next.1.3 }
 
 -- a text that isn't among these is not the one that is wanted

@@ -85,10 +85,10 @@ none_passed Tsv Rejected marked bytes never known = never refl refl
 none_passed Tsv Skipped marked bytes never known = absurd (cc)
 none_passed Uniq bad_lines marked bytes never known = absurd (cc)
 
-pub known_refused : (form : RowForm) (bad_lines : BadLines) (marked : Bool) (bytes : List ℕ) → IsSome (rows_to_come form bad_lines marked bytes) → bad_lines ≡ Rejected
-known_refused Tsv Rejected marked bytes known = refl
-known_refused Tsv Skipped marked bytes known = absurd (cc)
-known_refused Uniq bad_lines marked bytes known = absurd (cc)
+pub known_rejected : (form : RowForm) (bad_lines : BadLines) (marked : Bool) (bytes : List ℕ) → IsSome (rows_to_come form bad_lines marked bytes) → bad_lines ≡ Rejected
+known_rejected Tsv Rejected marked bytes known = refl
+known_rejected Tsv Skipped marked bytes known = absurd (cc)
+known_rejected Uniq bad_lines marked bytes known = absurd (cc)
 
 -- ---- rows that are known stay so, as far as none is taken
 

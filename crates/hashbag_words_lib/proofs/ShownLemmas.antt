@@ -12,7 +12,7 @@ use Rattle.hashbag.proofs.JsonWriteLemmas.{once_in_walk}
 use Rattle.hashbag_ops.proofs.Sums.{count_written}
 use Rattle.hashbag_ops.specs.Order.{rank}
 use Rattle.hashbag_words_lib.specs.Bars.{bars_text}
-use Rattle.hashbag_words_lib.specs.Choice.{KeepsShown, IsShown}
+use Rattle.hashbag_words_lib.specs.Choice.{KeepsShown, AreChosen}
 use Rattle.hashbag_words_lib.specs.Shown.{HasShown, AreShown, IsShownBars, IsShownText}
 use Rattle.hashbag_words_lib.specs.Sorted.{row_of, text_cmp}
 use Rattle.hashbag_words_lib.specs.Writing.{text_of}
@@ -53,20 +53,20 @@ module _ {S : Type 0} (choice : Choice) (bag : Bag (String Global) S) (texts : L
         ∙ kept text;
   }
 
-  are_shown : (order : Order) (pairs : List (String Global × ℕ)) → IsShown order bag pairs → AreShown order choice texts (map row_of pairs)
+  are_shown : (order : Order) (pairs : List (String Global × ℕ)) → AreChosen order bag pairs → AreShown order choice texts (map row_of pairs)
   are_shown Ascending pairs shown = (has_shown pairs shown.0, rows_rise pairs shown.1)
   are_shown Unordered pairs shown = has_shown pairs shown
   are_shown (MostCommon k) pairs shown =
       (map row_of shown.0, has_shown shown.0 shown.1, ranked_rows shown.0 shown.2, ap (map row_of) shown.3 ∙ take_rows k shown.0)
 
-  pub is_shown_text : (format : Format) (pairs : List (String Global × ℕ)) (bytes : List ℕ) → IsShown choice.order bag pairs → bytes ≡ text_of format (map row_of pairs) → IsShownText choice format texts bytes
+  pub is_shown_text : (format : Format) (pairs : List (String Global × ℕ)) (bytes : List ℕ) → AreChosen choice.order bag pairs → bytes ≡ text_of format (map row_of pairs) → IsShownText choice format texts bytes
   is_shown_text format pairs bytes shown is = record {
     rows = map row_of pairs;
     shown = are_shown choice.order pairs shown;
     is = is;
   }
 
-  pub is_shown_bars : (width : ℕ) (pairs : List (String Global × ℕ)) (bytes : List ℕ) → IsShown choice.order bag pairs → bytes ≡ bars_text width (map row_of pairs) → IsShownBars choice width texts bytes
+  pub is_shown_bars : (width : ℕ) (pairs : List (String Global × ℕ)) (bytes : List ℕ) → AreChosen choice.order bag pairs → bytes ≡ bars_text width (map row_of pairs) → IsShownBars choice width texts bytes
   is_shown_bars width pairs bytes shown is = record {
     rows = map row_of pairs;
     shown = are_shown choice.order pairs shown;

@@ -33,25 +33,25 @@ module _ {T : Type 0} (read : T → ℕ → List ℕ) where
 
   -- rows in a format, or with bars
   pub lays_out : (layout : RowLayout) (choice : Choice) (look : Look) (runs : MergingRuns T) → layout.choice ≡ choice → look_in layout ≡ look → IsOneKind runs.kept → LaysOut read choice look runs runs layout
-  lays_out layout choice look runs same is alike = record {
+  lays_out layout choice look runs same is one_kind = record {
     merges = merges_same read runs;
-    alike = alike;
+    one_kind = one_kind;
     same = same;
     means = λ unread rows agrees all kept tokens counted bytes written. subst (λ (l : Look). ShowsTexts choice l tokens bytes) is written;
   }
 
   pub lays_rows : (format : Format) (choice : Choice) (runs : MergingRuns T) → IsOneKind runs.kept → LaysOut read choice (InRows format) runs runs (record { format = format; choice = choice; bars = None })
-  lays_rows format choice runs alike = lays_out (record { format = format; choice = choice; bars = None }) choice (InRows format) runs refl (rows_look format choice.order) alike
+  lays_rows format choice runs one_kind = lays_out (record { format = format; choice = choice; bars = None }) choice (InRows format) runs refl (rows_look format choice.order) one_kind
 
   pub lays_bars : (width : ℕ) (choice : Choice) (runs : MergingRuns T) → FitsOrder (WithBars width) choice.order → IsOneKind runs.kept → LaysOut read choice (WithBars width) runs runs (record { format = Tsv; choice = choice; bars = Some width })
-  lays_bars width choice runs fits alike = lays_out (record { format = Tsv; choice = choice; bars = Some width }) choice (WithBars width) runs refl (bars_look width choice.order fits) alike
+  lays_bars width choice runs fits one_kind = lays_out (record { format = Tsv; choice = choice; bars = Some width }) choice (WithBars width) runs refl (bars_look width choice.order fits) one_kind
 
   -- rows with shares
   pub lays_shares : (total : ℕ) (choice : Choice) (old new : MergingRuns T) → Merges read old new → IsOneKind new.kept → CountsAll read old new total
       → LaysOut read choice WithShares old new (record { format = Shares total; choice = choice; bars = None })
-  lays_shares total choice old new merges alike counts = record {
+  lays_shares total choice old new merges one_kind counts = record {
     merges = merges;
-    alike = alike;
+    one_kind = one_kind;
     same = refl;
     means = λ unread rows agrees all kept tokens counted bytes written.
         subst (λ (n : ℕ). ShowsTexts choice (InRows (Shares n)) tokens bytes) (counts unread rows agrees all kept tokens counted)

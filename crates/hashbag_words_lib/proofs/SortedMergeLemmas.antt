@@ -5,7 +5,7 @@ use Rattle.std.proofs.lemmas.Bool.{cases_eq}
 use Rattle.std.proofs.lemmas.List.{append-nil, get_or-set_same, get_or-set_other}
 use Rattle.std.proofs.lemmas.List.Elements.{All-nil, All-head, All-tail, All-push, All-set, All-from_get_or}
 use Rattle.std.proofs.lemmas.List.Sums.{sum_by-cons, sum_by-set, sum_by_push}
-use Rattle.hashbag_words_lib.specs.Sorted.{held_of, text_cmp, row_of, of_row, times_in, number_sum, shown_of, AllBelow, HoldsAbove, HoldsFirst, IsAbove, IsMergeOf, IsNotBelow, Joins, Rises, SoFar, TakesLeast}
+use Rattle.hashbag_words_lib.specs.Sorted.{held_of, text_cmp, row_of, of_row, times_in, count_sum, done_rows, AllBelow, HoldsAbove, HoldsFirst, IsAbove, IsMergeOf, IsNotBelow, Joins, Rises, SoFar, TakesLeast}
 use Rattle.hashbag_words_lib.proofs.SortedLemmas.{AllBelow-later, AllBelow-push, Rises-nil, Rises-push, Rises-cons, IsNotBelow-from_above, less_from}
 
 -- ---- what is held
@@ -59,10 +59,10 @@ module _ (old new : List (List (List ℕ × ℕ))) (row : List ℕ × ℕ) (took
 -- ---- a row that is put
 
 -- what is put of it, by cases
-on_shown : (P : List (List ℕ × ℕ) → Type 0) (row : String Global × ℕ) → (row.1 ≡ 0 → P []) → (0 < row.1 → P (row_of row ∷ [])) → P (shown_of (Some row))
+on_shown : (P : List (List ℕ × ℕ) → Type 0) (row : String Global × ℕ) → (row.1 ≡ 0 → P []) → (0 < row.1 → P (row_of row ∷ [])) → P (done_rows (Some row))
 on_shown P row none one = at (cases_eq row.1 0)
   where
-    at : (row.1 ≡ 0) ⊎ (row.1 ≡ 0 → ⊥) → P (shown_of (Some row))
+    at : (row.1 ≡ 0) ⊎ (row.1 ≡ 0 → ⊥) → P (done_rows (Some row))
     at (inl is) = subst (λ (b : Bool). P (cond b [] (row_of row ∷ []))) (sym (eq-eqb row.1 0 is)) (none is)
     at (inr other) = subst (λ (b : Bool). P (cond b [] (row_of row ∷ []))) (sym (ne_eqb row.1 0 other)) (one (omega arith))
 
@@ -71,7 +71,7 @@ of_none : (b : Bool) (n : ℕ) → n ≡ 0 → cond b n 0 ≡ 0
 of_none true n is = is
 of_none false n is = refl
 
-shown_sum : (text : List ℕ) (out : List (List ℕ × ℕ)) (held : Option (String Global × ℕ)) → times_in text (out ++ shown_of held) ≡ times_in text out + held_of text held
+shown_sum : (text : List ℕ) (out : List (List ℕ × ℕ)) (held : Option (String Global × ℕ)) → times_in text (out ++ done_rows held) ≡ times_in text out + held_of text held
 shown_sum text out None = ap (times_in text) (append-nil out) ∙ (let n = times_in text out in omega arith)
 shown_sum text out (Some row) =
     on_shown (λ (l : List (List ℕ × ℕ)). times_in text (out ++ l) ≡ times_in text out + of_row text (row_of row)) row
@@ -79,18 +79,18 @@ shown_sum text out (Some row) =
     let none : of_row text (row_of row) ≡ 0 = of_none (bytes_eq text (string_bytes row.0)) row.1 is in omega arith)
     (λ some. sum_by_push (of_row text) out (row_of row))
 
-shown_all : (out : List (List ℕ × ℕ)) (held : Option (String Global × ℕ)) → All Counted out → All Counted (out ++ shown_of held)
+shown_all : (out : List (List ℕ × ℕ)) (held : Option (String Global × ℕ)) → All Counted out → All Counted (out ++ done_rows held)
 shown_all out None all = subst (All Counted) (sym (append-nil out)) all
 shown_all out (Some row) all =
     on_shown (λ (l : List (List ℕ × ℕ)). All Counted (out ++ l)) row
     (λ is. subst (All Counted) (sym (append-nil out)) all) (λ some. All-push Counted out (row_of row) all some)
 
-shown_rises : (left : List (List (List ℕ × ℕ))) (out : List (List ℕ × ℕ)) (held : Option (String Global × ℕ)) → Rises out → HoldsAbove left out held → Rises (out ++ shown_of held)
+shown_rises : (left : List (List (List ℕ × ℕ))) (out : List (List ℕ × ℕ)) (held : Option (String Global × ℕ)) → Rises out → HoldsAbove left out held → Rises (out ++ done_rows held)
 shown_rises left out None rises above = subst Rises (sym (append-nil out)) rises
 shown_rises left out (Some row) rises above =
     on_shown (λ (l : List (List ℕ × ℕ)). Rises (out ++ l)) row (λ is. subst Rises (sym (append-nil out)) rises) (λ some. Rises-push out (row_of row) rises above)
 
-shown_below : (text : List ℕ) (out : List (List ℕ × ℕ)) (row : String Global × ℕ) → AllBelow (string_bytes row.0) out → text_cmp (string_bytes row.0) text ≡ Less → AllBelow text (out ++ shown_of (Some row))
+shown_below : (text : List ℕ) (out : List (List ℕ × ℕ)) (row : String Global × ℕ) → AllBelow (string_bytes row.0) out → text_cmp (string_bytes row.0) text ≡ Less → AllBelow text (out ++ done_rows (Some row))
 shown_below text out row above up =
     let below : AllBelow text out = AllBelow-later (string_bytes row.0) text out up above in
     on_shown (λ (l : List (List ℕ × ℕ)). AllBelow text (out ++ l)) row (λ is. subst (AllBelow text) (sym (append-nil out)) below) (λ some. AllBelow-push text out (row_of row) below up)
@@ -106,8 +106,8 @@ module _ (inputs old new : List (List (List ℕ × ℕ))) (out : List (List ℕ 
   times_left : (text : List ℕ) → sum_by (times_in text) old ≡ of_row text (row_of row) + sum_by (times_in text) new
   times_left text = sum_left old new (row_of row) took (times_in text) (of_row text) (λ r rs. sum_by-cons (of_row text) r rs)
 
-  numbers_left : sum_by number_sum old ≡ row.1 + sum_by number_sum new
-  numbers_left = sum_left old new (row_of row) took number_sum (λ r. r.1) (λ r rs. sum_by-cons (λ (p : List ℕ × ℕ). p.1) r rs)
+  numbers_left : sum_by count_sum old ≡ row.1 + sum_by count_sum new
+  numbers_left = sum_left old new (row_of row) took count_sum (λ r. r.1) (λ r rs. sum_by-cons (λ (p : List ℕ × ℕ). p.1) r rs)
 
   first_left : All (IsNotBelow (string_bytes row.0)) new
   first_left = all_left old new (row_of row) took (IsNotBelow (string_bytes row.0)) took.least (IsNotBelow-from_above (string_bytes row.0) took.rest took.above)
@@ -133,7 +133,7 @@ module _ (inputs old new : List (List (List ℕ × ℕ))) (out : List (List ℕ 
         let more = counts text in
         let before = so.sums text in omega arith;
     shown = shown;
-    numbered = let left : sum_by number_sum old ≡ row.1 + sum_by number_sum new = numbers_left in let before = so.numbered in omega arith;
+    numbered = let left : sum_by count_sum old ≡ row.1 + sum_by count_sum new = numbers_left in let before = so.numbered in omega arith;
   }
 
   -- no row came out
@@ -160,20 +160,20 @@ module _ (inputs old new : List (List (List ℕ × ℕ))) (out : List (List ℕ 
       so.shown)
 
   -- a row with a later token
-  row_later : (held : String Global × ℕ) → string_eq held.0 row.0 ≡ false → SoFar inputs old out (Some held) total → SoFar inputs new (out ++ shown_of (Some held)) (Some row) (total + row.1)
+  row_later : (held : String Global × ℕ) → string_eq held.0 row.0 ≡ false → SoFar inputs old out (Some held) total → SoFar inputs new (out ++ done_rows (Some held)) (Some row) (total + row.1)
   row_later held apart so =
       let first : IsNotBelow (string_bytes held.0) (row_of row ∷ took.rest) = subst (IsNotBelow (string_bytes held.0)) took.was (so.first took.at [] took.within) in
       let up : text_cmp (string_bytes held.0) (string_bytes row.0) ≡ Less = less_from (string_bytes held.0) (string_bytes row.0) first apart in
-      so_far_then (Some held) (Some row) (out ++ shown_of (Some held)) so (shown_rises old out (Some held) so.rises so.above) (shown_below (string_bytes row.0) out held so.above up) first_left
+      so_far_then (Some held) (Some row) (out ++ done_rows (Some held)) so (shown_rises old out (Some held) so.rises so.above) (shown_below (string_bytes row.0) out held so.above up) first_left
       (λ text. ap (λ (n : ℕ). n + of_row text (row_of row)) (shown_sum text out (Some held))) (shown_all out (Some held) so.shown)
 
-  pub so_far_more : (held put next : Option (String Global × ℕ)) → Joins held row put next → SoFar inputs old out held total → SoFar inputs new (out ++ shown_of put) next (total + row.1)
+  pub so_far_more : (held put next : Option (String Global × ℕ)) → Joins held row put next → SoFar inputs old out held total → SoFar inputs new (out ++ done_rows put) next (total + row.1)
   so_far_more None put next joins so =
-      subst₂ (λ (d n : Option (String Global × ℕ)). SoFar inputs new (out ++ shown_of d) n (total + row.1)) (sym joins.0) (sym joins.1) (row_first so)
+      subst₂ (λ (d n : Option (String Global × ℕ)). SoFar inputs new (out ++ done_rows d) n (total + row.1)) (sym joins.0) (sym joins.1) (row_first so)
   so_far_more (Some held) put next (inl same) so =
-      subst₂ (λ (d n : Option (String Global × ℕ)). SoFar inputs new (out ++ shown_of d) n (total + row.1)) (sym same.1) (sym same.2) (row_same held same.0 so)
+      subst₂ (λ (d n : Option (String Global × ℕ)). SoFar inputs new (out ++ done_rows d) n (total + row.1)) (sym same.1) (sym same.2) (row_same held same.0 so)
   so_far_more (Some held) put next (inr later) so =
-      subst₂ (λ (d n : Option (String Global × ℕ)). SoFar inputs new (out ++ shown_of d) n (total + row.1)) (sym later.1) (sym later.2) (row_later held later.0 so)
+      subst₂ (λ (d n : Option (String Global × ℕ)). SoFar inputs new (out ++ done_rows d) n (total + row.1)) (sym later.1) (sym later.2) (row_later held later.0 so)
 
 -- ---- the end
 
@@ -187,14 +187,14 @@ sum_of_none f none (r ∷ rows) all =
 
 -- the row that was held came out, and no row is left
 pub so_far_over : (inputs rows : List (List (List ℕ × ℕ))) (out : List (List ℕ × ℕ)) (held : Option (String Global × ℕ)) (total : ℕ) → All (λ r. r ≡ []) rows
-    → SoFar inputs rows out held total → SoFar inputs rows (out ++ shown_of held) None total
+    → SoFar inputs rows out held total → SoFar inputs rows (out ++ done_rows held) None total
 so_far_over inputs rows out held total none so = record {
   risen = so.risen;
   rises = shown_rises rows out held so.rises so.above;
   above = inr none;
   first = tt;
   sums = λ text.
-      let put : times_in text (out ++ shown_of held) ≡ times_in text out + held_of text held = shown_sum text out held in
+      let put : times_in text (out ++ done_rows held) ≡ times_in text out + held_of text held = shown_sum text out held in
       let before = so.sums text in omega arith;
   shown = shown_all out held so.shown;
   numbered = so.numbered;
@@ -202,14 +202,14 @@ so_far_over inputs rows out held total none so = record {
 
 -- then the total is what all inputs count
 pub total_done : (inputs rows : List (List (List ℕ × ℕ))) (out : List (List ℕ × ℕ)) (held : Option (String Global × ℕ)) (total : ℕ) → All (λ r. r ≡ []) rows
-    → SoFar inputs rows out held total → total ≡ sum_by number_sum inputs
+    → SoFar inputs rows out held total → total ≡ sum_by count_sum inputs
 total_done inputs rows out held total none so =
-    let left : sum_by number_sum rows ≡ 0 = sum_of_none number_sum refl rows none in
+    let left : sum_by count_sum rows ≡ 0 = sum_of_none count_sum refl rows none in
     let before = so.numbered in
     omega arith
 
 pub so_far_done : (inputs rows : List (List (List ℕ × ℕ))) (out : List (List ℕ × ℕ)) (held : Option (String Global × ℕ)) (total : ℕ) → total < 2 ^ 64 → All (λ r. r ≡ []) rows
-    → SoFar inputs rows out held total → IsMergeOf inputs (out ++ shown_of held)
+    → SoFar inputs rows out held total → IsMergeOf inputs (out ++ done_rows held)
 so_far_done inputs rows out held total fits none so =
     let over = so_far_over inputs rows out held total none so in
     record {
@@ -217,7 +217,7 @@ so_far_done inputs rows out held total fits none so =
       rises = over.rises;
       sums = λ text.
           let left : sum_by (times_in text) rows ≡ 0 = sum_of_none (times_in text) refl rows none in
-          let all : times_in text (out ++ shown_of held) + 0 + sum_by (times_in text) rows ≡ sum_by (times_in text) inputs = over.sums text in omega arith;
+          let all : times_in text (out ++ done_rows held) + 0 + sum_by (times_in text) rows ≡ sum_by (times_in text) inputs = over.sums text in omega arith;
       shown = over.shown;
       fits = subst (λ (n : ℕ). n < 2 ^ 64) (total_done inputs rows out held total none so) fits;
     }

@@ -170,7 +170,7 @@ first_without_last k rows kept left x last first full same bound =
       parts = IsPermutation-trans _ _ _ (IsPermutation-to_front rows x)
           (IsPermutation-trans _ _ _ (IsPermutation-cons x rows (kept ++ first.rest) first.parts)
           (IsPermutation-trans _ _ _ (IsPermutation-append_left first.rest (x ∷ kept) (last ∷ left) same) (IsPermutation-sym _ _ (IsPermutation-middle left last first.rest))));
-      few = omega (arith, long, first.few);
+      at_most = omega (arith, long, first.at_most);
       full = λ less. absurd (omega (arith, long));
       first = (bound.1, every_kept first.rest first.first);
     }

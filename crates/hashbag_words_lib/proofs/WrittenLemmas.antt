@@ -16,7 +16,7 @@ use Rattle.hashbag_words_lib.specs.Bars.{bars_text}
 use Rattle.hashbag_words_lib.specs.Choice.{shows, shown_count}
 use Rattle.hashbag_words_lib.specs.MergedTexts.{look_of, shown_in, whole_text, BeginsAs}
 use Rattle.hashbag_words_lib.specs.Shown.{AreShown, CountTexts, HasShown, ShowsTexts, WritesTogether}
-use Rattle.hashbag_words_lib.specs.Sorted.{number_sum, of_row, text_cmp, times_in, IsMergeOf, Rises}
+use Rattle.hashbag_words_lib.specs.Sorted.{count_sum, of_row, text_cmp, times_in, IsMergeOf, Rises}
 use Rattle.hashbag_words_lib.specs.Top.{most_common, ranked}
 use Rattle.hashbag_words_lib.specs.declared.choice.Choice.{Choice}
 use Rattle.hashbag_words_lib.specs.declared.choice.Order.{Order}
@@ -122,7 +122,7 @@ joined_sum f (rows ∷ inputs) =
     ∙ ap (λ (n : ℕ). sum_by f rows + n) (joined_sum f inputs)
     ∙ sym (sum_by-cons (λ (rows : List (List ℕ × ℕ)). sum_by f rows) rows inputs)
 
-pub number_of_texts : (inputs : List (List (List ℕ × ℕ))) (texts : List (List ℕ)) → CountTexts inputs texts → sum_by number_sum inputs ≡ length texts
+pub number_of_texts : (inputs : List (List (List ℕ × ℕ))) (texts : List (List ℕ)) → CountTexts inputs texts → sum_by count_sum inputs ≡ length texts
 number_of_texts inputs texts counted =
     sym (joined_sum (λ row. row.1) inputs)
     ∙ sym (length_occurrences (joined inputs))
@@ -177,7 +177,7 @@ module _ (choice : Choice) (inputs : List (List (List ℕ × ℕ))) (rows : List
   }
 
 -- the text of a merge is what is written of the texts that its inputs count
-pub writes_together : (choice : Choice) (format : Format) (bars : Option ℕ) (inputs : List (List (List ℕ × ℕ))) (rows : List (List ℕ × ℕ)) (total : ℕ) (bytes : List ℕ) → IsMergeOf inputs rows → total ≡ sum_by number_sum inputs
+pub writes_together : (choice : Choice) (format : Format) (bars : Option ℕ) (inputs : List (List (List ℕ × ℕ))) (rows : List (List ℕ × ℕ)) (total : ℕ) (bytes : List ℕ) → IsMergeOf inputs rows → total ≡ sum_by count_sum inputs
     → BeginsAs (look_of format choice.order bars) format → bytes ≡ whole_text format choice.order bars (shown_in choice rows) → WritesTogether choice (look_of format choice.order bars) inputs total bytes
 writes_together choice format bars inputs rows total bytes merged numbered begun is = λ texts counted.
     (written_in choice inputs rows merged texts counted format choice.order bars bytes refl begun is, numbered ∙ number_of_texts inputs texts counted)

@@ -88,7 +88,7 @@ pub record IsFirstNoRow (form : RowForm) (text : List ℕ) (reading : LinesRead)
   pub read : AreReadAs form Rejected front rows
   pub is : IsNoRow form bad
   pub line : reading.line ≡ min (length front + 1) (2 ^ 64 - 1)
-  pub refused : reading.bad_lines ≡ Rejected
+  pub rejected : reading.bad_lines ≡ Rejected
 
 -- the line is read in this form; the new bag has the rows of the old bag and those of the line
 abbrev pub AddsRowsOfLine : {S : Type 0} → Bag (String Global) S → Bag (String Global) S → RowForm → LinesRead → List ℕ → Type 0

@@ -17,44 +17,44 @@ abbrev pub name_of : List ℕ → List ℕ
 name_of token = map shown_char (chars token)
 
 -- how many columns a character has in a terminal, and a name
-abbrev pub columns_of : ℕ → ℕ
-columns_of c = unwrap_or (char_width false c) 0
+abbrev pub char_columns : ℕ → ℕ
+char_columns c = unwrap_or (char_width false c) 0
 
 abbrev pub columns : List ℕ → ℕ
-columns name = sum_by columns_of name
+columns name = sum_by char_columns name
 
 -- how many characters from the beginning fit into n columns
 abbrev pub fitting : ℕ → List ℕ → ℕ
 fitting n [] = 0
-fitting n (c ∷ cs) = if nat_le (columns_of c) n then 1 + fitting (n - columns_of c) cs else 0
+fitting n (c ∷ cs) = if nat_le (char_columns c) n then 1 + fitting (n - char_columns c) cs else 0
 
 -- a name in n columns: the whole name if it fits, else the characters that fit into n - 1 columns, and then `…`
-abbrev pub cut : ℕ → List ℕ → List ℕ
-cut n name = if fitting n name == length name then name else take (fitting (n - 1) name) name ++ 0x2026 ∷ []
+abbrev pub shortened : ℕ → List ℕ → List ℕ
+shortened n name = if fitting n name == length name then name else take (fitting (n - 1) name) name ++ 0x2026 ∷ []
 
 -- the text of a name in n columns, with spaces up to n columns
 abbrev pub name_text : ℕ → List ℕ → List ℕ
-name_text n name = encode_utf8_all (cut n name) ++ replicate (n - columns (cut n name)) 32
+name_text n name = encode_utf8_all (shortened n name) ++ replicate (n - columns (shortened n name)) 32
 
 -- ---- bars
 
--- how many marks the bar of a count has. The greatest count has `room` marks, and any other count its share of them, rounded to the nearest number,
+-- how many marks the bar of a count has. The greatest count has `longest` marks, and any other count its share of them, rounded to the nearest number,
 -- halves up, but at least one: in 40 columns 1 of 3 has 13, 2 of 3 have 27, and 1 of 1000 has 1
 abbrev pub marks_of : ℕ → ℕ → ℕ → ℕ
-marks_of room greatest count = if count == 0 then 0 else min (max (rounded (room * count) greatest) 1) room
+marks_of longest greatest count = if count == 0 then 0 else min (max (rounded (longest * count) greatest) 1) longest
 
 -- a number at the right of n columns
 abbrev pub right_in : ℕ → ℕ → List ℕ
 right_in n number = replicate (n - length (decimal number)) 32 ++ decimal number
 
 -- a line: the token, a space, the count, a space, the bar
-abbrev pub line_of : Layout → List ℕ × ℕ → List ℕ
-line_of layout row =
-    name_text layout.names (name_of row.0) ++ 32 ∷ (right_in layout.digits row.1 ++ 32 ∷ (replicate (marks_of layout.room layout.greatest row.1) 35 ++ 10 ∷ []))
+abbrev pub bar_line : Layout → List ℕ × ℕ → List ℕ
+bar_line layout row =
+    name_text layout.names (name_of row.0) ++ 32 ∷ (right_in layout.digits row.1 ++ 32 ∷ (replicate (marks_of layout.bars layout.greatest row.1) 35 ++ 10 ∷ []))
 
-abbrev pub lines_of : Layout → List (List ℕ × ℕ) → List ℕ
-lines_of layout [] = []
-lines_of layout (row ∷ rows) = line_of layout row ++ lines_of layout rows
+abbrev pub bar_lines : Layout → List (List ℕ × ℕ) → List ℕ
+bar_lines layout [] = []
+bar_lines layout (row ∷ rows) = bar_line layout row ++ bar_lines layout rows
 
 -- ---- the columns of a line
 
@@ -79,8 +79,8 @@ layout_of width rows =
     let names = widest (used width / 3) 0 rows in
     let greatest = greatest_of 0 rows in
     let digits = length (decimal greatest) in
-    record { names = names; digits = digits; room = used width - names - digits - 2; greatest = greatest }
+    record { names = names; digits = digits; bars = used width - names - digits - 2; greatest = greatest }
 
 -- the text of rows on a terminal of `width` columns
 abbrev pub bars_text : ℕ → List (List ℕ × ℕ) → List ℕ
-bars_text width rows = lines_of (layout_of width rows) rows
+bars_text width rows = bar_lines (layout_of width rows) rows

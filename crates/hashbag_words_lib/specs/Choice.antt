@@ -11,17 +11,17 @@ use Rattle.hashbag.specs.Occurrences.{count}
 use Rattle.hashbag.specs.Walks.{IsSetWalkOf}
 use Rattle.hashbag_ops.specs.Order.{rank}
 use Rattle.hashbag_words_lib.specs.Counts.{texts_in}
-use Rattle.hashbag_words_lib.specs.Shards.{is_shown}
+use Rattle.hashbag_words_lib.specs.Shards.{is_in_shard}
 use Rattle.hashbag_words_lib.specs.declared.choice.Choice.{Choice}
 use Rattle.hashbag_words_lib.specs.declared.choice.Order.{Order}
 use Rattle.hashbag_words_lib.specs.declared.choice.Order.TheVariants.{Ascending, Unordered, MostCommon}
 
 -- these pairs of the bag are shown. Each text is there once, with its count, in ascending order of bytes or in no particular order; or only the first
 -- k of these pairs are there, the most common first
-abbrev pub IsShown : {S : Type 0} → Order → Bag (String Global) S → List (String Global × ℕ) → Type 0
-IsShown Ascending bag pairs = IsSetWalkOf string_eq bag pairs × IsStrictlySortedBy string_cmp (keys_of pairs)
-IsShown Unordered bag pairs = IsSetWalkOf string_eq bag pairs
-IsShown (MostCommon k) bag pairs =
+abbrev pub AreChosen : {S : Type 0} → Order → Bag (String Global) S → List (String Global × ℕ) → Type 0
+AreChosen Ascending bag pairs = IsSetWalkOf string_eq bag pairs × IsStrictlySortedBy string_cmp (keys_of pairs)
+AreChosen Unordered bag pairs = IsSetWalkOf string_eq bag pairs
+AreChosen (MostCommon k) bag pairs =
     (W : List (String Global × ℕ)) × IsSetWalkOf string_eq bag W × IsStrictlySortedBy (rank string_cmp) W × (pairs ≡ take k W)
 
 -- the text isn't shown, whatever its count: the bag of texts that aren't shown, if there is one, has it
@@ -33,7 +33,7 @@ is_excepted (Some bag) text = nat_lt 0 (count bytes_eq text (texts_in bag.now))
 -- and the token isn't excepted
 abbrev pub shows : Choice → List ℕ × ℕ → Bool
 shows choice row =
-    nat_le choice.least row.1 && nat_le choice.shortest (length (chars row.0)) && is_shown choice.shard row.0 && not (is_excepted choice.except row.0)
+    nat_le choice.least row.1 && nat_le choice.shortest (length (chars row.0)) && is_in_shard choice.shard row.0 && not (is_excepted choice.except row.0)
 
 -- how often a text that occurs n times is shown: n times, or not at all
 abbrev pub shown_count : Choice → List ℕ → ℕ → ℕ

@@ -46,7 +46,7 @@ pub record IsFirstBad (rule : Rule) (text : List ℕ) (reading : LinesRead) : Ty
   pub good : NoneIsBad rule front
   pub is : is_bad rule bad ≡ true
   pub line : reading.line ≡ min (length front + 1) (2 ^ 64 - 1)
-  pub refused : reading.bad_lines ≡ Rejected
+  pub rejected : reading.bad_lines ≡ Rejected
 
 -- each token is as often in the bag and the runs together as in the list
 abbrev pub HaveTogether : {S : Type 0} → List (List (List ℕ × ℕ)) → Bag (String Global) S → List (List ℕ) → Type 0

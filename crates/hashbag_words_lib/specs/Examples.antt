@@ -13,7 +13,7 @@ use Rattle.hashbag_words_lib.specs.Columns.{column_under}
 use Rattle.hashbag_words_lib.specs.Fields.{fields_of}
 use Rattle.hashbag_words_lib.specs.Rows.{ReadsByte}
 use Rattle.hashbag_words_lib.specs.Runs.{IsRunOf}
-use Rattle.hashbag_words_lib.specs.Shards.{is_shown}
+use Rattle.hashbag_words_lib.specs.Shards.{is_in_shard}
 use Rattle.hashbag_words_lib.specs.Shares.{hundredths_of, two_decimals}
 use Rattle.hashbag_words_lib.specs.Sorted.{times_in}
 use Rattle.hashbag_words_lib.specs.Top.{most_common}
@@ -56,14 +56,14 @@ pub excepted_is_not_shown : (choice : Choice) (row : List ℕ × ℕ) → is_exc
 excepted_is_not_shown choice row is =
     let a = nat_le choice.least row.1 in
     let b = nat_le choice.shortest (length (chars row.0)) in
-    let c = is_shown choice.shard row.0 in
+    let c = is_in_shard choice.shard row.0 in
     ap (λ (e : Bool). a && b && c && not e) is ∙ none_of a b c
 
 pub others_are_shown : (choice : Choice) (row : List ℕ × ℕ) → is_excepted choice.except row.0 ≡ false → shows choice row ≡ shows (record choice { except = None }) row
 others_are_shown choice row is =
     let a = nat_le choice.least row.1 in
     let b = nat_le choice.shortest (length (chars row.0)) in
-    let c = is_shown choice.shard row.0 in
+    let c = is_in_shard choice.shard row.0 in
     ap (λ (e : Bool). a && b && c && not e) is
 
 -- one of three, two of three, one of eight; a half of a hundredth is rounded up, and less than that isn't

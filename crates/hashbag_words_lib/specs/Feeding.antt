@@ -44,13 +44,13 @@ HasAddedTexts (inr lines) counter runs texts text = HasAddedRows lines.0 lines.1
 
 module _ {C : Type 0} (has : How → C → List (List (List ℕ × ℕ)) → List (List ℕ) → List ℕ → Type 0) where
   -- the new counter has what the old one had
-  abbrev pub HasStill : C → C → Type 0
-  HasStill old new =
+  abbrev pub KeepsCounts : C → C → Type 0
+  KeepsCounts old new =
       (how : How) → (runs : List (List (List ℕ × ℕ))) → (texts : List (List ℕ)) → (text : List ℕ) → has how old runs texts text → has how new runs texts text
 
   -- the new counter has these bytes of the text too
-  abbrev pub HasAlso : C → C → List ℕ → Type 0
-  HasAlso old new bytes =
+  abbrev pub AddsFed : C → C → List ℕ → Type 0
+  AddsFed old new bytes =
       (how : How) → (runs : List (List (List ℕ × ℕ))) → (texts : List (List ℕ)) → (text : List ℕ) → has how old runs texts text → has how new runs texts (text ++ bytes)
 
   -- the new counter has the text among those that ended, and none has begun
@@ -90,8 +90,8 @@ module _ {C R : Type 0} (has : How → C → List (List (List ℕ × ℕ)) → L
 
   module _ (old new : C) (keeper keeper' : Option R) where
     -- together, they count what they counted before
-    abbrev pub HaveStill : Type 0
-    HaveStill = (how : How) → (texts : List (List ℕ)) → (text : List ℕ) → HaveCounted how old keeper texts text → HaveCounted how new keeper' texts text
+    abbrev pub KeepTogether : Type 0
+    KeepTogether = (how : How) → (texts : List (List ℕ)) → (text : List ℕ) → HaveCounted how old keeper texts text → HaveCounted how new keeper' texts text
 
     -- they have these bytes of the text too
     abbrev pub Feeds : List ℕ → Type 0

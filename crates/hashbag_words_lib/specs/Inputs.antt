@@ -1,7 +1,7 @@
 -- Inputs that are read block by block, decoded and counted.
 use Rattle.std.specs.Prelude.{◌≡◌, ℕ, List, [], ◌∷◌, ◌++◌, map, Option, None, Some, ⊤}
 use Rattle.std.specs.Borrow.{Bor}
-use Rattle.hashbag_text.specs.Decoders.{left_of}
+use Rattle.hashbag_text.specs.Decoders.{text_from_decoder}
 use Rattle.hashbag_text.specs.Encodings.{after_bytes, text_in}
 use Rattle.hashbag_text.specs.declared.decoder.Decoder.{Decoder}
 use Rattle.hashbag_text.specs.declared.encoding.Encoding.{Encoding}
@@ -24,7 +24,7 @@ ReadsNextBlock ended begun last old new = ReadsBlock (begun old) (ended old) (la
 -- the text that a decoder makes of the bytes that it keeps and of these bytes; without a decoder the bytes are the text
 abbrev pub text_left : Option Decoder → List ℕ → Option (List ℕ)
 text_left None bytes = Some bytes
-text_left (Some decoder) bytes = left_of decoder bytes
+text_left (Some decoder) bytes = text_from_decoder decoder bytes
 
 -- the decoder turns the block into this text, whatever bytes follow
 abbrev pub Decodes : Option Decoder → List ℕ → List ℕ → Option Decoder → Type 0
@@ -53,7 +53,7 @@ module _ {C R : Type 0} (has : How → C → List (List (List ℕ × ℕ)) → L
 
   module _ {B : Type 0} (ended : B → List (List ℕ × List ℕ)) (encoding : Option Encoding) where
     -- an input was read to its end, and the counter was fed its text
-    pub record Reads (name : List ℕ) (inputs inputs' : B) (old new : C) (keeper keeper' : Option R) : Type 0 where
+    pub record ReadsInput (name : List ℕ) (inputs inputs' : B) (old new : C) (keeper keeper' : Option R) : Type 0 where
       pub bytes : List ℕ
       pub read : ended inputs' ≡ ended inputs ++ (name, bytes) ∷ []
       pub text : List ℕ
@@ -61,7 +61,7 @@ module _ {C R : Type 0} (has : How → C → List (List (List ℕ × ℕ)) → L
       pub feeds : Feeds has kept old new keeper keeper' text
 
     -- an input was read to its end, and its text was counted
-    pub record Takes (name : List ℕ) (inputs inputs' : B) (old new : C) (keeper keeper' : Option R) : Type 0 where
+    pub record CountsInput (name : List ℕ) (inputs inputs' : B) (old new : C) (keeper keeper' : Option R) : Type 0 where
       pub bytes : List ℕ
       pub read : ended inputs' ≡ ended inputs ++ (name, bytes) ∷ []
       pub text : List ℕ
@@ -69,7 +69,7 @@ module _ {C R : Type 0} (has : How → C → List (List (List ℕ × ℕ)) → L
       pub counts : CountsTexts has kept old new keeper keeper' (text ∷ [])
 
     -- the inputs of these names were read to their ends, in order, and their texts were counted
-    pub record Counts (names : List (Bor (List ℕ))) (inputs inputs' : B) (old new : C) (keeper keeper' : Option R) : Type 0 where
+    pub record CountsInputs (names : List (Bor (List ℕ))) (inputs inputs' : B) (old new : C) (keeper keeper' : Option R) : Type 0 where
       pub texts : List (List ℕ)
       pub read : AreRead encoding names (ended inputs) (ended inputs') texts
       pub counts : CountsTexts has kept old new keeper keeper' texts

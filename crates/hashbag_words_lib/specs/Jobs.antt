@@ -12,18 +12,18 @@ use Rattle.hashbag_words_lib.specs.MergingRuns.{bytes_in, FitsOrder, HasRuns, Is
 use Rattle.hashbag_words_lib.specs.Shown.{shown_bytes, CountTexts, ShowsTexts}
 use Rattle.hashbag_words_lib.specs.Tokens.{tokens_of}
 use Rattle.hashbag_words_lib.specs.declared.choice.Choice.{Choice}
-use Rattle.hashbag_words_lib.specs.declared.jobs.Made.{Made}
-use Rattle.hashbag_words_lib.specs.declared.jobs.Made.TheVariants.{OfBag, OfRuns}
+use Rattle.hashbag_words_lib.specs.declared.jobs.JobText.{JobText}
+use Rattle.hashbag_words_lib.specs.declared.jobs.JobText.TheVariants.{Bag as OfBag, Runs as OfRuns}
 use Rattle.hashbag_words_lib.specs.declared.lines.BadLines.{BadLines}
 use Rattle.hashbag_words_lib.specs.declared.merging_runs.MergingRuns.{MergingRuns}
 use Rattle.hashbag_words_lib.specs.declared.rows.RowForm.{RowForm}
 use Rattle.hashbag_words_lib.specs.declared.rule.Rule.{Rule}
 use Rattle.hashbag_words_lib.specs.declared.shown_text.Look.{Look}
 
--- all bytes of what was made
-abbrev pub made_text : {F : Type 0} → Made F → List ℕ
-made_text (OfBag shown) = shown_bytes shown
-made_text (OfRuns shown) = bytes_in shown
+-- all bytes of the text of a job
+abbrev pub job_bytes : {F : Type 0} → JobText F → List ℕ
+job_bytes (OfBag shown) = shown_bytes shown
+job_bytes (OfRuns shown) = bytes_in shown
 
 -- `kept keeper runs`: the keeper has kept these runs. `faithful keeper`: reading the kept runs gives what was written
 module _ {R : Type 0} (kept : R → List (List (List ℕ × ℕ)) → Type 0) (faithful : R → Type 0) where

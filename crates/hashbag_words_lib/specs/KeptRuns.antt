@@ -53,12 +53,12 @@ AddsMerged old new =
     → IsMergeOf (map rows taken) run → WritesRun old.next_number run rows later → HasKept new later fed
 
 -- the texts of these numbers were taken, and no others
-abbrev pub TakesThese : List ℕ → KeptRuns → KeptRuns → Type 0
-TakesThese taken old new = (rows : ℕ → List (List ℕ × ℕ)) → (fed : List (List (List ℕ × ℕ))) → HasKept old rows fed → HasKeptWith taken new rows fed
+abbrev pub DividesRows : List ℕ → KeptRuns → KeptRuns → Type 0
+DividesRows taken old new = (rows : ℕ → List (List ℕ × ℕ)) → (fed : List (List (List ℕ × ℕ))) → HasKept old rows fed → HasKeptWith taken new rows fed
 
 -- the texts of this merge were taken, if there is one, and no others
-abbrev pub TakesTexts : Option MergedText → KeptRuns → KeptRuns → Type 0
-TakesTexts full old new =
+abbrev pub DividesRowsIfThere : Option MergedText → KeptRuns → KeptRuns → Type 0
+DividesRowsIfThere full old new =
     (rows : ℕ → List (List ℕ × ℕ)) → (fed : List (List (List ℕ × ℕ))) → HasKept old rows fed
     → MatchOption full (HasKept new rows fed) (λ text. HasKeptWith text.merge.numbers.items new rows fed)
 
@@ -106,8 +106,8 @@ abbrev pub TakesMerge : MergedText → KeptRuns → KeptRuns → Type 0
 TakesMerge text old new = (kind : SourceKind) × BeginsOf kind text × TakesKind kind text.merge.numbers.items old new
 
 -- the texts of this merge were taken, if there is one; else none was
-abbrev pub TakesOneMerge : Option MergedText → KeptRuns → KeptRuns → Type 0
-TakesOneMerge full old new = MatchOption full (TakesFiles [] old new) (λ text. TakesMerge text old new)
+abbrev pub TakesMergeIfThere : Option MergedText → KeptRuns → KeptRuns → Type 0
+TakesMergeIfThere full old new = MatchOption full (TakesFiles [] old new) (λ text. TakesMerge text old new)
 
 -- there are no files, or no runs
 abbrev pub IsOneKind : KeptRuns → Type 0

@@ -2,7 +2,7 @@
 use Rattle.std.specs.Prelude.{◌≡◌, ℕ, ◌<◌, ◌^◌, true, false, List, [], ◌∷◌, ◌++◌, length, map, All, slice_index_or, slice_set, sum_by, String, string_bytes, Option, None, Some, option_map}
 use Rattle.std.specs.Global.{Global}
 use Rattle.hashbag_words_lib.specs.Runs.{rows_in, run_text}
-use Rattle.hashbag_words_lib.specs.Sorted.{number_sum, row_of, IsAbove, IsMergeOf, SoFar, TakesLeast}
+use Rattle.hashbag_words_lib.specs.Sorted.{count_sum, row_of, IsAbove, IsMergeOf, SoFar, TakesLeast}
 use Rattle.hashbag_words_lib.specs.Sources.{left_with, rows_of, Holds, MayCome}
 use Rattle.hashbag_words_lib.specs.declared.row_source.RowSource.{RowSource}
 use Rattle.hashbag_words_lib.specs.declared.row_source.SourceKind.{SourceKind}
@@ -119,7 +119,7 @@ HasMerged given merger out = IsSoFar given merger.sources.items merger.held merg
 -- `out` is the merge of the rows of the texts, whatever bytes come next, and the total is the sum of their counts
 abbrev pub IsWhole : List (SourceKind × List ℕ) → Merger → List (List ℕ × ℕ) → Type 0
 IsWhole given merger out =
-    (mores : ℕ → List ℕ) (inputs : List (List (List ℕ × ℕ))) → MayComeTo merger.sources.items mores → AreInputs given mores inputs → IsMergeOf inputs out × (merger.total ≡ sum_by number_sum inputs)
+    (mores : ℕ → List ℕ) (inputs : List (List (List ℕ × ℕ))) → MayComeTo merger.sources.items mores → AreInputs given mores inputs → IsMergeOf inputs out × (merger.total ≡ sum_by count_sum inputs)
 
 -- what the merger returned next: one more row, after those in `out`; or no row, because source i is to be given more bytes, or all rows are merged
 abbrev pub Follows : List (SourceKind × List ℕ) → List (List ℕ × ℕ) → Merged → Merger → Type 0

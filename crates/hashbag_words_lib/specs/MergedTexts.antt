@@ -106,16 +106,16 @@ abbrev pub KeepsLayout : MergedText → MergedText → Type 0
 KeepsLayout old new = (new.rows.choice ≡ old.rows.choice) × (new.rows.sink.format ≡ old.rows.sink.format) × (new.bars ≡ old.bars)
 
 -- all rows are shown, as `tsv`: as in a run
-pub record ShowsRun (choice : Choice) (format : Format) : Type 0 where
+pub record IsLookOfRun (choice : Choice) (format : Format) : Type 0 where
   pub all : (row : List ℕ × ℕ) → shows choice row ≡ true
   pub tsv : format ≡ Tsv
   pub order : ShowsAllRows choice.order
 
 abbrev pub IsRunLayout : RowLayout → Type 0
-IsRunLayout layout = ShowsRun layout.choice layout.format
+IsRunLayout layout = IsLookOfRun layout.choice layout.format
 
 abbrev pub WritesAsRun : MergedText → Type 0
-WritesAsRun text = ShowsRun text.rows.choice text.rows.sink.format
+WritesAsRun text = IsLookOfRun text.rows.choice text.rows.sink.format
 
 -- the bytes are the text of the shown rows of the merge of these texts
 pub record IsMergedText (choice : Choice) (format : Format) (bars : Option ℕ) (inputs : List (List (List ℕ × ℕ))) (bytes : List ℕ) : Type 0 where

@@ -1,9 +1,9 @@
 -- Files of counts and runs, as they are merged into runs.
 use Rattle.std.specs.Global.{Vec}
 use Rattle.std.specs.Prelude.{◌≡◌, ◌≢◌, ℕ, ◌<◌, ◌≤◌, List, [], ◌∷◌, ◌++◌, All, length, map, Some}
-use Rattle.hashbag_words_lib.specs.KeptRuns.{numbers_in, AddsMerged, AddsNumber, AddsRun, IsOneKind, AreInOrder, HasKept, KeepsKinds, MergesAll, TakesMerge, TakesThese}
+use Rattle.hashbag_words_lib.specs.KeptRuns.{numbers_in, AddsMerged, AddsNumber, AddsRun, IsOneKind, AreInOrder, HasKept, KeepsKinds, MergesAll, TakesMerge, DividesRows}
 use Rattle.hashbag_words_lib.specs.MergedTexts.{look_in, WritesAsRun}
-use Rattle.hashbag_words_lib.specs.Numbered.{HasRead, IsNext, ReadsOnly}
+use Rattle.hashbag_words_lib.specs.Numbered.{HasRead, HasReadAndWants, ReadsOnly}
 use Rattle.hashbag_words_lib.specs.Runs.{rows_in}
 use Rattle.hashbag_words_lib.specs.Shown.{CountTexts, ShowsTexts}
 use Rattle.hashbag_words_lib.specs.Sources.{rows_of}
@@ -108,13 +108,13 @@ module _ {T : Type 0} (read : T → ℕ → List ℕ) where
   abbrev pub WritesText : List ℕ → T → MergedText → T → MergedText → Type 0
   WritesText bytes texts old later new =
       (kind : SourceKind) → HasRead kind (read texts) old []
-      → IsNext kind (read later) bytes End new × (new.merge.numbers ≡ old.merge.numbers) × ReadsOnly old.merge.numbers.items (read texts) (read later)
+      → HasReadAndWants kind (read later) bytes End new × (new.merge.numbers ≡ old.merge.numbers) × ReadsOnly old.merge.numbers.items (read texts) (read later)
 
   -- if the texts of this merge had been taken, they were merged into a run, and the run was added
   abbrev pub MergesTaken : MergedText → MergingRuns T → MergingRuns T → Type 0
   MergesTaken text old new =
       (before : MergingRuns T) → before.texts ≡ old.texts → before.written ≡ old.written → before.merged ≡ old.merged → TakesMerge text before.kept old.kept
-      → TakesThese text.merge.numbers.items before.kept old.kept → WritesAsRun text → Merges before new
+      → DividesRows text.merge.numbers.items before.kept old.kept → WritesAsRun text → Merges before new
 
   -- P holds of each list of tokens that all added rows count together, however their counts are divided among the texts
   abbrev pub IfCounted : MergingRuns T → MergingRuns T → (List (List ℕ) → Type 0) → Type 0
@@ -150,7 +150,7 @@ module _ {T : Type 0} (read : T → ℕ → List ℕ) where
   -- what is written in this layout has this look. For shares all texts may have been merged into one run, to know the number of all tokens
   pub record LaysOut (choice : Choice) (look : Look) (old new : MergingRuns T) (layout : RowLayout) : Type 0 where
     pub merges : Merges old new
-    pub alike : IsOneKind new.kept
+    pub one_kind : IsOneKind new.kept
     pub same : layout.choice ≡ choice
     pub means : IfCounted old new (λ tokens. (bytes : List ℕ) → ShowsTexts choice (look_in layout) tokens bytes → ShowsTexts choice look tokens bytes)
 

@@ -40,8 +40,8 @@ GivesRead number before old after new =
     Wanted number old → (kind : SourceKind) → (taken : List ℕ) → HasRead kind before old taken → HasRead kind after new taken
 
 -- the merge was given all bytes that were read, and wants this next, as `PutsNext` says
-abbrev pub IsNext : SourceKind → (ℕ → List ℕ) → List ℕ → Wants → MergedText → Type 0
-IsNext kind read taken wants text = AreUnlike text.merge.numbers.items × PutsNext (read_of kind read text.merge.numbers.items) taken wants text
+abbrev pub HasReadAndWants : SourceKind → (ℕ → List ℕ) → List ℕ → Wants → MergedText → Type 0
+HasReadAndWants kind read taken wants text = AreUnlike text.merge.numbers.items × PutsNext (read_of kind read text.merge.numbers.items) taken wants text
 
 -- nothing was read of texts with other numbers
 abbrev pub ReadsOnly : List ℕ → (ℕ → List ℕ) → (ℕ → List ℕ) → Type 0
@@ -51,7 +51,7 @@ ReadsOnly numbers before after = (k : ℕ) → All (λ n. n ≢ k) numbers → a
 abbrev pub ReadsOn : (ℕ → List ℕ) → MergedText → Wants → (ℕ → List ℕ) → MergedText → Type 0
 ReadsOn before old wants after new =
     (kind : SourceKind) → (taken : List ℕ) → HasRead kind before old taken
-    → IsNext kind after taken wants new × (new.merge.numbers ≡ old.merge.numbers) × ReadsOnly old.merge.numbers.items before after
+    → HasReadAndWants kind after taken wants new × (new.merge.numbers ≡ old.merge.numbers) × ReadsOnly old.merge.numbers.items before after
 
 -- the same, if `read` says what was read of the texts
 abbrev pub ReadsUntil : {T : Type 0} → (T → ℕ → List ℕ) → Wants → T → MergedText → T → MergedText → Type 0
@@ -60,5 +60,6 @@ ReadsUntil read wants texts old later new = ReadsOn (read texts) old wants (read
 -- these bytes are the rest of the text, after the bytes that had been taken: nothing more is wanted. `read` says what was read of the texts
 abbrev pub WritesMerge : {T : Type 0} → (T → ℕ → List ℕ) → Wants → T → MergedText → T → MergedText → List ℕ → Type 0
 WritesMerge read first texts old later new bytes =
-    (kind : SourceKind) → (taken : List ℕ) → IsNext kind (read texts) taken first old
-    → IsNext kind (read later) (taken ++ bytes) End new × (new.merge.numbers ≡ old.merge.numbers) × ReadsOnly old.merge.numbers.items (read texts) (read later)
+    (kind : SourceKind) → (taken : List ℕ) → HasReadAndWants kind (read texts) taken first old
+    → HasReadAndWants kind (read later) (taken ++ bytes) End new × (new.merge.numbers ≡ old.merge.numbers)
+    × ReadsOnly old.merge.numbers.items (read texts) (read later)

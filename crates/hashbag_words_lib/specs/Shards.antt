@@ -20,6 +20,6 @@ abbrev pub is_in : Shard → List ℕ → Bool
 is_in shard text = nat_lt 0 shard.of && nat_eq (fnv text % shard.of) shard.index
 
 -- the text is shown: the shard has it, or no shard is given
-abbrev pub is_shown : Option Shard → List ℕ → Bool
-is_shown None text = true
-is_shown (Some shard) text = is_in shard text
+abbrev pub is_in_shard : Option Shard → List ℕ → Bool
+is_in_shard None text = true
+is_in_shard (Some shard) text = is_in shard text

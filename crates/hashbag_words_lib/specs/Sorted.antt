@@ -27,8 +27,8 @@ abbrev pub times_in : List ℕ → List (List ℕ × ℕ) → ℕ
 times_in text rows = sum_by (of_row text) rows
 
 -- what rows count in all
-abbrev pub number_sum : List (List ℕ × ℕ) → ℕ
-number_sum rows = sum_by (λ row. row.1) rows
+abbrev pub count_sum : List (List ℕ × ℕ) → ℕ
+count_sum rows = sum_by (λ row. row.1) rows
 
 -- each token is greater than the token before
 abbrev pub Rises : List (List ℕ × ℕ) → Type 0
@@ -45,7 +45,7 @@ pub record IsMergeOf (sources : List (List (List ℕ × ℕ))) (merged : List (L
   pub rises : Rises merged
   pub sums : (text : List ℕ) → times_in text merged ≡ sum_by (times_in text) sources
   pub shown : All (λ row. 0 < row.1) merged
-  pub fits : sum_by number_sum sources < 2 ^ 64
+  pub fits : sum_by count_sum sources < 2 ^ 64
 
 -- the first of these rows, if there is one, comes after the text
 abbrev pub IsAbove : List ℕ → List (List ℕ × ℕ) → Type 0
@@ -91,9 +91,9 @@ one_of None = []
 one_of (Some row) = row_of row ∷ []
 
 -- a row that is done, as a list: without rows if its count is 0
-abbrev pub shown_of : Option (String Global × ℕ) → List (List ℕ × ℕ)
-shown_of None = []
-shown_of (Some row) = if row.1 == 0 then [] else row_of row ∷ []
+abbrev pub done_rows : Option (String Global × ℕ) → List (List ℕ × ℕ)
+done_rows None = []
+done_rows (Some row) = if row.1 == 0 then [] else row_of row ∷ []
 
 -- what the row that is held counts of a text
 abbrev pub held_of : List ℕ → Option (String Global × ℕ) → ℕ
@@ -119,4 +119,4 @@ pub record SoFar (inputs left : List (List (List ℕ × ℕ))) (out : List (List
   pub first : HoldsFirst left held
   pub sums : (text : List ℕ) → times_in text out + held_of text held + sum_by (times_in text) left ≡ sum_by (times_in text) inputs
   pub shown : All (λ row. 0 < row.1) out
-  pub numbered : total + sum_by number_sum left ≡ sum_by number_sum inputs
+  pub numbered : total + sum_by count_sum left ≡ sum_by count_sum inputs

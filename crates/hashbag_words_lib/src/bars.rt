@@ -1,7 +1,7 @@
 //! Rows with bars, for people at a terminal.
 ghost use Rattle.std.specs.Prelude.{◌≡◌, ◌++◌, map, min, replicate, string_bytes, encode_utf8_all, IfOk, OnOk};
 ghost use Rattle.hashbag.specs.Walks.{seen};
-ghost use Rattle.hashbag_words_lib.specs.Bars.{bars_text, columns, columns_of, cut, fitting, greatest_of, layout_of, line_of, marks_of, name_of, name_text, right_in, shown_char, widest};
+ghost use Rattle.hashbag_words_lib.specs.Bars.{bars_text, columns, char_columns, shortened, fitting, greatest_of, layout_of, bar_line, marks_of, name_of, name_text, right_in, shown_char, widest};
 ghost use Rattle.hashbag_words_lib.specs.Sorted.{row_of};
 
 use crate::shares::rounded;
@@ -17,7 +17,7 @@ pub(crate) struct Layout {
     // How many columns the counts have.
     digits: usize,
     // How many columns the longest bar has.
-    room: u16,
+    bars: u16,
     // The count of the longest bar.
     greatest: usize,
 }
@@ -47,8 +47,8 @@ fn name_of(alloc: Global, token: &str) -> Result<Vec<char>, AllocError>
 }
 
 // Returns how many columns a character has in a terminal.
-fn columns_of(c: char) -> usize
-    ensures { result ≡ columns_of c }
+fn char_columns(c: char) -> usize
+    ensures { result ≡ char_columns c }
 {
     c.width().unwrap_or(0)
 }
@@ -59,7 +59,7 @@ fn columns_within(limit: usize, name: &[char]) -> usize
 {
     let mut n = 0usize;
     for c in name {
-        n = n.saturating_add(columns_of(*c)).min(limit);
+        n = n.saturating_add(char_columns(*c)).min(limit);
     }
     n
 }
@@ -70,7 +70,7 @@ fn fitting(room: usize, name: &[char]) -> usize
 {
     let mut left = room;
     'characters: for i in 0..name.len() {
-        let width = columns_of(name[i]);
+        let width = char_columns(name[i]);
         if width > left {
             return i;
         }
@@ -80,8 +80,8 @@ fn fitting(room: usize, name: &[char]) -> usize
 }
 
 // Returns a name that fits into `room` columns. A wider name is cut, and `…` follows its beginning.
-fn cut(room: usize, name: Vec<char>) -> Result<Vec<char>, AllocError>
-    ensures { IfOk result (λ shown. shown.items ≡ cut room name.items) }
+fn shortened(room: usize, name: Vec<char>) -> Result<Vec<char>, AllocError>
+    ensures { IfOk result (λ shown. shown.items ≡ shortened room name.items) }
 {
     let mut name = name;
     if fitting(room, &name) == name.len() {
@@ -94,7 +94,7 @@ fn cut(room: usize, name: Vec<char>) -> Result<Vec<char>, AllocError>
 }
 
 // Returns the characters as a string.
-fn text_of(alloc: Global, name: &[char]) -> Result<String, AllocError>
+fn string_of(alloc: Global, name: &[char]) -> Result<String, AllocError>
     ensures { IfOk result (λ text. string_bytes text ≡ encode_utf8_all name.now) }
 {
     let mut text = String::new(alloc);
@@ -118,8 +118,8 @@ fn push_times(text: &mut Vec<u8>, byte: u8, n: usize) -> Result<(), AllocError>
 fn push_name(alloc: Global, text: &mut Vec<u8>, room: usize, token: &str) -> Result<(), AllocError>
     ensures { OnOk result (text.new.items ≡ text.old.items ++ name_text room (name_of token.now)) }
 {
-    let name = cut(room, name_of(alloc, token)?)?;
-    let shown = text_of(alloc, &name)?;
+    let name = shortened(room, name_of(alloc, token)?)?;
+    let shown = string_of(alloc, &name)?;
     text.extend_from_slice(shown.as_str().as_bytes())?;
     push_times(text, b' ', room.saturating_sub(columns_within(room, &name)))
 }
@@ -135,14 +135,14 @@ fn push_count(text: &mut Vec<u8>, digits: usize, count: usize) -> Result<(), All
 }
 
 // Returns how many marks the bar of a count has.
-fn marks(room: u16, greatest: usize, count: usize) -> usize
-    ensures { result ≡ marks_of room greatest count }
+fn marks(longest: u16, greatest: usize, count: usize) -> usize
+    ensures { result ≡ marks_of longest greatest count }
 {
     if count == 0 {
         return 0;
     }
-    let nearest = rounded((room as u128) * (count as u128), greatest as u128);
-    nearest.max(1).min(room as u128) as usize
+    let nearest = rounded((longest as u128) * (count as u128), greatest as u128);
+    nearest.max(1).min(longest as u128) as usize
 }
 
 // Appends the line of a token and its count.
@@ -153,13 +153,13 @@ fn push_line(
     token: &str,
     count: usize,
 ) -> Result<(), AllocError>
-    ensures { OnOk result (text.new.items ≡ text.old.items ++ line_of layout (token.now, count)) }
+    ensures { OnOk result (text.new.items ≡ text.old.items ++ bar_line layout (token.now, count)) }
 {
     push_name(alloc, text, layout.names, token)?;
     text.push(b' ')?;
     push_count(text, layout.digits, count)?;
     text.push(b' ')?;
-    push_times(text, b'#', marks(layout.room, layout.greatest, count))?;
+    push_times(text, b'#', marks(layout.bars, layout.greatest, count))?;
     text.push(b'\n')?;
     Ok(())
 }
@@ -196,14 +196,14 @@ fn layout_of(alloc: Global, width: usize, rows: &[(&String, usize)]) -> Result<L
     let greatest = greatest(rows);
     let mut buffer = Buffer::new();
     let digits = buffer.format(greatest).len();
-    let room = width
+    let bars = width
         .saturating_sub(names)
         .saturating_sub(digits)
         .saturating_sub(2) as u16;
     Ok(Layout {
         names,
         digits,
-        room,
+        bars,
         greatest,
     })
 }

@@ -5,10 +5,10 @@ ghost use Rattle.std.specs.Map.{keys_of};
 ghost use Rattle.std.specs.Str.{chars};
 ghost use Rattle.std.specs.String.{string_cmp, string_eq};
 ghost use Rattle.hashbag.specs.Walks.{IsSetWalkOf, seen};
-ghost use Rattle.hashbag_words_lib.specs.Choice.{is_excepted, shows, KeepsShown, IsShown};
+ghost use Rattle.hashbag_words_lib.specs.Choice.{is_excepted, shows, KeepsShown, AreChosen};
 ghost use Rattle.hashbag_words_lib.specs.Counted.{HaveTogether};
 
-use crate::shards::{Shard, is_shown};
+use crate::shards::{Shard, is_in_shard};
 use crate::sorting::sort_rows;
 use hashbag::{BagError, HashBag};
 use hashbag_ops::{counts, most_common};
@@ -49,7 +49,7 @@ impl Choice<'_> {
     {
         self.least <= count
             && is_long(self.shortest, token)
-            && is_shown(self.shard, token)
+            && is_in_shard(self.shard, token)
             && !is_excepted(self.except, token)
     }
 }
@@ -123,7 +123,7 @@ pub fn chosen<'a, S: BuildHasher + Drop>(
     order: Order,
 ) -> Result<Vec<(&'a String, usize)>, BagError>
     // The rows have each token of the bag once, with its count, ordered as `order` says; with `MostCommon(k)` they are the first k of these.
-    ensures { IfOk result (λ rows. IsShown order bag.now (map seen rows.items)) }
+    ensures { IfOk result (λ rows. AreChosen order bag.now (map seen rows.items)) }
 {
     match order {
         Order::Ascending => rising(alloc, bag),

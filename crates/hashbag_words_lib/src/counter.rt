@@ -22,7 +22,7 @@ use crate::gauge::{Gauge, is_full, is_full_after_line, note_empty};
 use crate::lines::{BadLines, LinesRead};
 use crate::row_text::RowText;
 use crate::rule::Rule;
-use crate::runs::{empty, run_of};
+use crate::runs::{clear_after_run, run_of};
 use hashbag::{BagError, HashBag};
 use memchr::memchr;
 use std::alloc::Global;
@@ -257,7 +257,7 @@ impl<'r, S: BuildHasher + Drop> TextCounter<'r, S> {
         ensures run { KeepsCountedInRun self.old self.new }
         ensures rule { self.new.rule ≡ self.old.rule }
     {
-        empty(&mut self.bag);
+        clear_after_run(&mut self.bag);
         note_empty(&mut self.gauge);
     }
 

@@ -55,10 +55,10 @@ pub enum InputFault {
 impl From<BagError> for InputFault {
     ghost use Rattle.hashbag_words_lib.specs.declared.errors.InputFault.{InputFault};
 
-    ghost from_gives = { λ refused fault. fault ≡ InputFault.Bag refused };
+    ghost from_gives = { λ error fault. fault ≡ InputFault.Bag error };
 
-    fn from(refused: BagError) -> InputFault {
-        InputFault::Bag(refused)
+    fn from(error: BagError) -> InputFault {
+        InputFault::Bag(error)
     }
 }
 

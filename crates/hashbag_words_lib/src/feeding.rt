@@ -4,7 +4,7 @@
 //! have together: the counts of the texts that ended, and of the text that has begun.
 ghost use Rattle.std.specs.Prelude.{◌≡◌, true, ℕ, List, IfOk, OnOk};
 ghost use Rattle.hashbag_words_lib.specs.Counted.{fed_of, IsWithin};
-ghost use Rattle.hashbag_words_lib.specs.Feeding.{Ends, EndsText, Feeds, HasAlso, HasNothing, HasStill, HaveStill, How, KeepsRows, KeepsRun};
+ghost use Rattle.hashbag_words_lib.specs.Feeding.{Ends, EndsText, Feeds, AddsFed, HasNothing, KeepsCounts, KeepTogether, How, KeepsRows, KeepsRun};
 ghost use Rattle.hashbag_words_lib.specs.Jobs.{ShowsRuns};
 ghost use Rattle.hashbag_words_lib.specs.MergingRuns.{bytes_in};
 ghost use Rattle.hashbag_words_lib.specs.RowText.{bytes_left};
@@ -40,7 +40,7 @@ pub trait Counter {
     /// What is wrong with a line. Then the counter is of no use.
     fn feed(&mut self, block: &[u8]) -> Result<Fed, InputFault>
         // If the counter had `text`, it now has `text` and the bytes that were fed: the whole block, or its first n bytes with `Fed::Full(n)`.
-        ensures counted { IfOk result (λ fed. HasAlso has self.old self.new (fed_of fed block.now)) }
+        ensures counted { IfOk result (λ fed. AddsFed has self.old self.new (fed_of fed block.now)) }
 
         // `Full(n)`: n is above 0 and at most the length of the block.
         ensures within { IfOk result (λ fed. IsWithin fed block.now) };
@@ -60,7 +60,7 @@ pub trait Counter {
     /// Returns whether the bag is full.
     fn is_full(&mut self) -> bool
         // The bag and the runs have together what they had before.
-        ensures { HasStill has self.old self.new };
+        ensures { KeepsCounts has self.old self.new };
 
     /// Returns the text of a run of the bag.
     ///
@@ -183,7 +183,7 @@ fn make_run<'a, C: Counter, R: KeepsRuns<'a>>(
     counter: &mut C,
     runs: &mut Option<R>,
 ) -> Result<(), Trouble<'a>>
-    ensures { OnOk result (HaveStill C.has R.kept counter.old counter.new runs.old runs.new) }
+    ensures { OnOk result (KeepTogether C.has R.kept counter.old counter.new runs.old runs.new) }
 {
     let Some(runs) = runs else {
         return Ok(());

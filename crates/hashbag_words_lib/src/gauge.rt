@@ -25,7 +25,7 @@ pub struct Gauge {
 }
 
 // Returns how many bytes a bag takes whose texts have `texts` bytes. If the bag has little room, returns how many it takes while it grows next.
-fn bytes_of<S: BuildHasher + Drop>(bag: &HashBag<String, S>, texts: usize) -> usize {
+fn bytes_taken<S: BuildHasher + Drop>(bag: &HashBag<String, S>, texts: usize) -> usize {
     let slots = bag.slots().saturating_add(bag.waiting());
     let next = if bag.room() < LITTLE_ROOM {
         // While values are carried, there are the old slots and up to twice as many new ones.
@@ -78,11 +78,11 @@ impl Gauge {
         read: usize,
     ) -> bool {
         self.texts = self.texts.saturating_add(read);
-        if bag.is_empty() || bytes_of(bag, self.texts) < self.most {
+        if bag.is_empty() || bytes_taken(bag, self.texts) < self.most {
             return false;
         }
         self.texts = text_bytes(bag);
-        bytes_of(bag, self.texts) >= self.most - self.most / 8
+        bytes_taken(bag, self.texts) >= self.most - self.most / 8
     }
 
     /// Returns whether the bag is full after one more line, of `read` bytes. It checks after every 16th line, as

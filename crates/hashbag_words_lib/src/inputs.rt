@@ -1,7 +1,7 @@
 //! Counting all inputs of a call, which are read block by block. They come from any [`Blocks`], so the clauses hold for any bytes.
 ghost use Rattle.std.specs.Prelude.{◌≡◌, ℕ, List, [], Option, Some, OnOk};
 ghost use Rattle.hashbag_text.specs.Encodings.{text_in};
-ghost use Rattle.hashbag_words_lib.specs.Inputs.{text_left, Counts, FeedsBlock, Reads, ReadsNextBlock, Takes};
+ghost use Rattle.hashbag_words_lib.specs.Inputs.{text_left, CountsInputs, FeedsBlock, ReadsInput, ReadsNextBlock, CountsInput};
 
 use crate::feeding::{Counter, KeepsRuns, end, feed};
 use crate::lines::LinesRead;
@@ -138,7 +138,7 @@ fn read_input<'a, B: Blocks<'a>, C: Counter, R: KeepsRuns<'a>>(
     name: &'a str,
     encoding: Option<Encoding>,
 ) -> Result<bool, Trouble<'a>>
-    ensures { OnOk result (Reads C.has R.kept B.ended encoding name.now inputs.old inputs.new counter.old counter.new runs.old runs.new) }
+    ensures { OnOk result (ReadsInput C.has R.kept B.ended encoding name.now inputs.old inputs.new counter.old counter.new runs.old runs.new) }
 {
     inputs.open(name)?;
     let mut decoding = Decoding::new(alloc, shown_name(name), encoding);
@@ -162,7 +162,7 @@ fn count_named<'a, B: Blocks<'a>, C: Counter, R: KeepsRuns<'a>>(
     name: &'a str,
     encoding: Option<Encoding>,
 ) -> Result<(), Trouble<'a>>
-    ensures { OnOk result (Takes C.has R.kept B.ended encoding name.now inputs.old inputs.new counter.old counter.new runs.old runs.new) }
+    ensures { OnOk result (CountsInput C.has R.kept B.ended encoding name.now inputs.old inputs.new counter.old counter.new runs.old runs.new) }
 {
     let has_nul = read_input(alloc, inputs, counter, runs, name, encoding)?;
     if has_nul {
@@ -188,7 +188,7 @@ pub fn count_all<'a, B: Blocks<'a>, C: Counter, R: KeepsRuns<'a>>(
 ) -> Result<(), Trouble<'a>>
     // Exactly these inputs were read to their ends, and each is text in the encoding. Together, the counter and all runs have the counts of all
     // texts.
-    ensures { OnOk result (Counts C.has R.kept B.ended encoding names.now inputs.old inputs.new counter.old counter.new runs.old runs.new) }
+    ensures { OnOk result (CountsInputs C.has R.kept B.ended encoding names.now inputs.old inputs.new counter.old counter.new runs.old runs.new) }
 {
     for name in names {
         count_named(alloc, inputs, counter, runs, *name, encoding)?;

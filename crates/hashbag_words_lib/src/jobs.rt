@@ -2,7 +2,7 @@
 //!
 //! The clauses about the text have a premise, `AreFaithful`: reading a temporary file gives what was written to it.
 ghost use Rattle.std.specs.Prelude.{IfOk, OnOk};
-ghost use Rattle.hashbag_words_lib.specs.Jobs.{made_text, AddsFileRows, CountsTokens, KeepsBag, ShowsBoth, WritesRows, WritesTokens};
+ghost use Rattle.hashbag_words_lib.specs.Jobs.{job_bytes, AddsFileRows, CountsTokens, KeepsBag, ShowsBoth, WritesRows, WritesTokens};
 ghost use Rattle.hashbag_words_lib.specs.Shown.{ShowsCounted};
 
 use crate::choice::Choice;
@@ -37,11 +37,11 @@ pub struct Reading {
 
 /// The text that shows the tokens of all inputs.
 #[derive(Drop)]
-pub enum Made<'b, F: Drop> {
+pub enum JobText<'b, F: Drop> {
     /// No run was kept: the text of a bag.
-    OfBag(Shown<'b>),
+    Bag(Shown<'b>),
     /// The text of merged runs.
-    OfRuns(ShownRuns<F>),
+    Runs(ShownRuns<F>),
 }
 
 // Returns the text that shows the tokens of a bag.
@@ -50,11 +50,11 @@ fn show_bag<'a, 'b, S: BuildHasher + Drop, F: Drop>(
     bag: &'b mut HashBag<String, S>,
     choice: Choice<'_>,
     look: Look,
-) -> Result<Made<'b, F>, Trouble<'a>>
-    ensures { IfOk result (λ made. ShowsCounted choice.entry look bag.old (made_text made)) }
+) -> Result<JobText<'b, F>, Trouble<'a>>
+    ensures { IfOk result (λ text. ShowsCounted choice.entry look bag.old (job_bytes text)) }
 {
     match shown_of(alloc, bag, choice, look) {
-        Ok(shown) => Ok(Made::OfBag(shown)),
+        Ok(shown) => Ok(JobText::Bag(shown)),
         Err(_) => Err(Trouble::Memory),
     }
 }
@@ -88,8 +88,8 @@ pub fn show_both<'a, 'b, R: KeepsRuns<'a> + Drop, S: BuildHasher + Drop>(
     runs: &mut Option<R>,
     choice: Choice<'_>,
     look: Look,
-) -> Result<Made<'b, R::File>, Trouble<'a>>
-    ensures { IfOk result (λ made. ShowsBoth R.kept R.faithful choice.entry look bag.old runs.old runs.new (made_text made)) }
+) -> Result<JobText<'b, R::File>, Trouble<'a>>
+    ensures { IfOk result (λ text. ShowsBoth R.kept R.faithful choice.entry look bag.old runs.old runs.new (job_bytes text)) }
 {
     let Some(kept) = runs else {
         return show_bag(alloc, bag, choice, look);
@@ -99,7 +99,7 @@ pub fn show_both<'a, 'b, R: KeepsRuns<'a> + Drop, S: BuildHasher + Drop>(
     }
     add_bag(alloc, kept, bag)?;
     let shown = kept.show(choice, look)?;
-    Ok(Made::OfRuns(shown))
+    Ok(JobText::Runs(shown))
 }
 
 // Counts the tokens of the inputs of these names.
@@ -157,9 +157,9 @@ pub fn show_tokens<'a, 'b, B: Blocks<'a>, R: KeepsRuns<'a> + Drop, S: BuildHashe
     names: &[&'a str],
     choice: Choice<'_>,
     look: Look,
-) -> Result<Made<'b, R::File>, Trouble<'a>>
+) -> Result<JobText<'b, R::File>, Trouble<'a>>
     // If nothing was counted before, the text shows the tokens of all bytes of all inputs.
-    ensures { IfOk result (λ made. WritesTokens R.kept R.faithful choice.entry look reading.encoding names.now (B.ended inputs.old) (B.ended inputs.new) rule.entry bag.old runs.old runs.new (made_text made)) }
+    ensures { IfOk result (λ text. WritesTokens R.kept R.faithful choice.entry look reading.encoding names.now (B.ended inputs.old) (B.ended inputs.new) rule.entry bag.old runs.old runs.new (job_bytes text)) }
 {
     count_tokens(alloc, inputs, runs, bag, rule, reading, names)?;
     inputs.end_report();
@@ -181,9 +181,9 @@ pub fn show_rows<'a, 'b, B: Blocks<'a>, R: KeepsRuns<'a> + Drop, S: BuildHasher 
     names: &[&'a str],
     choice: Choice<'_>,
     look: Look,
-) -> Result<Made<'b, R::File>, Trouble<'a>>
+) -> Result<JobText<'b, R::File>, Trouble<'a>>
     // If nothing was counted before, the text shows the tokens that the rows of all files count.
-    ensures { IfOk result (λ made. WritesRows R.kept R.faithful choice.entry look reading.encoding names.now (B.ended inputs.old) (B.ended inputs.new) form reading.bad_lines bag.old runs.old runs.new (made_text made)) }
+    ensures { IfOk result (λ text. WritesRows R.kept R.faithful choice.entry look reading.encoding names.now (B.ended inputs.old) (B.ended inputs.new) form reading.bad_lines bag.old runs.old runs.new (job_bytes text)) }
 {
     add_rows(alloc, inputs, runs, bag, form, reading, names)?;
     inputs.end_report();

@@ -3,7 +3,7 @@
 //! A [`KeptRuns`] holds no file: it knows files of counts and runs by their numbers, and says which numbers are merged. In the clauses `rows` has
 //! the rows of the text of each number, and `fed` are the rows of all files and runs that were added.
 ghost use Rattle.std.specs.Prelude.{◌≡◌, ◌≢◌, ◌↔◌, true, ℕ, ◌<◌, [], length, slice_index_or, IfOk, IfSome, IsSomeAnd, OnOk, None};
-ghost use Rattle.hashbag_words_lib.specs.KeptRuns.{numbers_in, AddsMerged, AddsNumber, AddsRun, IsOneKind, AreInOrder, HasFiles, MergesAll, TakesMerge, TakesOneMerge, TakesTexts, TakesThese};
+ghost use Rattle.hashbag_words_lib.specs.KeptRuns.{numbers_in, AddsMerged, AddsNumber, AddsRun, IsOneKind, AreInOrder, HasFiles, MergesAll, TakesMerge, TakesMergeIfThere, DividesRowsIfThere, DividesRows};
 ghost use Rattle.hashbag_words_lib.specs.Levels.{runs_in};
 ghost use Rattle.hashbag_words_lib.specs.MergedTexts.{BeginsOf, HasLook, IsRunLayout, WritesAsRun};
 
@@ -92,8 +92,8 @@ impl KeptRuns {
     ///
     /// An allocation fails.
     pub fn add(&mut self) -> Result<(), AllocError>
-        // Clause `fed`: a run of new rows adds these to the rows `fed`. Clause `merged`: a run that merges the texts that were taken adds none.
-        ensures fed { OnOk result (AddsRun self.old self.new) }
+        // Clause `new_rows`: a run of new rows adds these to the rows `fed`. Clause `merged`: a run that merges the texts that were taken adds none.
+        ensures new_rows { OnOk result (AddsRun self.old self.new) }
         ensures merged { OnOk result (AddsMerged self.old self.new) }
 
         // The run is the last one, and has the next number, which rises by 1. The files are unchanged.
@@ -125,13 +125,13 @@ impl KeptRuns {
     /// Takes sixteen runs of one level, if there are sixteen. The caller merges them, and adds the merged run, which is of the next level.
     pub fn take_full(&mut self) -> Result<Option<MergedText<'static>>, AllocError>
         // The texts that were taken and the texts that are left have together the rows `fed`.
-        ensures taken { IfOk result (λ full. TakesTexts full self.old self.new) }
+        ensures taken { IfOk result (λ full. DividesRowsIfThere full self.old self.new) }
 
         // Only runs are taken, and no bytes of them were given yet.
         ensures begins { IfOk result (λ full. IfSome full (BeginsOf SourceKind.Run)) }
 
         // The numbers of the merge are those of the last runs, which are no longer kept. With `None` nothing changes.
-        ensures numbers { IfOk result (λ full. TakesOneMerge full self.old self.new) }
+        ensures numbers { IfOk result (λ full. TakesMergeIfThere full self.old self.new) }
 
         // The merge is written as a run: all rows, as `tsv`.
         ensures run { IfOk result (λ full. IfSome full WritesAsRun) }
@@ -151,13 +151,13 @@ impl KeptRuns {
     /// left and there is no run.
     pub fn take_files(&mut self) -> Result<Option<MergedText<'static>>, AllocError>
         // The texts that were taken and the texts that are left have together the rows `fed`.
-        ensures taken { IfOk result (λ full. TakesTexts full self.old self.new) }
+        ensures taken { IfOk result (λ full. DividesRowsIfThere full self.old self.new) }
 
         // Only files are taken, and no bytes of them were given yet.
         ensures begins { IfOk result (λ full. IfSome full (BeginsOf self.old.kind)) }
 
         // The numbers of the merge are those of the first files, which are no longer kept. With `None` nothing changes.
-        ensures numbers { IfOk result (λ full. TakesOneMerge full self.old self.new) }
+        ensures numbers { IfOk result (λ full. TakesMergeIfThere full self.old self.new) }
 
         // The merge is written as a run: all rows, as `tsv`.
         ensures run { IfOk result (λ full. IfSome full WritesAsRun) }
@@ -178,7 +178,7 @@ impl KeptRuns {
     /// Takes all runs, or all files if there is no run. Call it once [`KeptRuns::take_files`] has returned `None`.
     pub fn take_all<'e>(&mut self, layout: RowLayout<'e>) -> Result<MergedText<'e>, AllocError>
         // If there are no files or no runs, the texts that were taken count what `fed` counts: with those left (`taken`), and by themselves (`all`).
-        ensures taken { IfOk result (λ text. IsOneKind self.old → TakesThese text.merge.numbers.items self.old self.new) }
+        ensures taken { IfOk result (λ text. IsOneKind self.old → DividesRows text.merge.numbers.items self.old self.new) }
         ensures all { IfOk result (λ text. IsOneKind self.old → MergesAll text.merge.numbers.items self.old) }
 
         // Which rows are written, and how, is as in `layout`.

@@ -19,7 +19,7 @@ use crate::numbered_merge::NumberedMerge;
 use crate::row_parts::RowParts;
 use crate::row_source::SourceKind;
 use crate::shown_rows::{ShownRows, TopRows};
-use crate::sorted_merge::{Merged, Sink, Stop};
+use crate::sorted_merge::{MergeError, Merged, Sink};
 use crate::writing::Format;
 use std::alloc::{AllocError, Global};
 use std::cmp::Reverse;
@@ -283,7 +283,7 @@ impl<'e> MergedText<'e> {
     }
 
     // Puts a row, if it is shown.
-    fn put(&mut self, token: String, count: usize) -> Result<(), Stop>
+    fn put(&mut self, token: String, count: usize) -> Result<(), MergeError>
         ensures put { OnOk result (PutsRow (string_bytes token, count) self.old self.new) }
         ensures elsewhere { OnOk result (KeepsMergeAndLayout self.old self.new) }
         ensures over { OnOk result (self.new.is_over ≡ self.old.is_over) }
@@ -291,24 +291,24 @@ impl<'e> MergedText<'e> {
         if let Some(top) = &mut self.top {
             return match top.put(token, count) {
                 Ok(()) => Ok(()),
-                Err(_) => Err(Stop::Memory),
+                Err(_) => Err(MergeError::Memory),
             };
         }
         match self.rows.put(token, count) {
             Ok(()) => Ok(()),
-            Err(_) => Err(Stop::Memory),
+            Err(_) => Err(MergeError::Memory),
         }
     }
 
     // Builds the end of the text.
-    fn build_end(&mut self) -> Result<(), Stop>
+    fn build_end(&mut self) -> Result<(), MergeError>
         ensures built { OnOk result (BuildsEnd self.old self.new) }
         ensures elsewhere { OnOk result (KeepsMergeAndLayout self.old self.new) }
         ensures over { OnOk result (self.new.is_over ≡ true) }
     {
         let top = self.top.take();
         if push_rest(&mut self.rows.sink, top, self.bars).is_err() {
-            return Err(Stop::Memory);
+            return Err(MergeError::Memory);
         }
         self.is_over = true;
         Ok(())
@@ -329,8 +329,8 @@ impl<'e> MergedText<'e> {
     ///
     /// # Errors
     ///
-    /// Same as [`Merger::next_row`]; `Stop::Memory` if an allocation fails. Then the merge is of no use.
-    pub fn next(&mut self) -> Result<Wants, Stop>
+    /// Same as [`Merger::next_row`]; `MergeError::Memory` if an allocation fails. Then the merge is of no use.
+    pub fn next(&mut self) -> Result<Wants, MergeError>
         // Bytes of a text are wanted, or a part is built; or the parts that were taken are the whole text of the merge. That text shows the tokens
         // that all texts count, however the counts are divided among the texts (`WritesTogether` of specs/Shown).
         ensures next { IfOk result (λ wants. WantsNext self.old wants self.new) }
@@ -356,6 +356,6 @@ impl<'e> MergedText<'e> {
             }
         }
         // Never: there aren't as many rows.
-        Err(Stop::TooMany)
+        Err(MergeError::TooMany)
     }
 }

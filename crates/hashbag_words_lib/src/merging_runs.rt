@@ -224,7 +224,7 @@ impl<'a, T: NumberedTexts<'a> + Drop> MergingRuns<T> {
     fn merge_files(&mut self) -> Result<(), Trouble<'a>>
         // Together, the texts count the same tokens as before. There are files or runs, and not both.
         ensures merges { OnOk result (Merges T.bytes_read self.old self.new) }
-        ensures alike { OnOk result (IsOneKind self.new.kept) }
+        ensures one_kind { OnOk result (IsOneKind self.new.kept) }
     {
         'merges: for _ in 0..u64::MAX {
             let Some(mut merge) = self.kept.take_files()? else {
@@ -241,7 +241,7 @@ impl<'a, T: NumberedTexts<'a> + Drop> MergingRuns<T> {
     fn merge_all(&mut self) -> Result<usize, Trouble<'a>>
         // The run counts the same tokens as the texts together. The total is the number of all tokens.
         ensures merges { OnOk result (IsOneKind self.old.kept → Merges T.bytes_read self.old self.new) }
-        ensures alike { OnOk result (IsOneKind self.old.kept → IsOneKind self.new.kept) }
+        ensures one_kind { OnOk result (IsOneKind self.old.kept → IsOneKind self.new.kept) }
         ensures total { IfOk result (λ total. CountsOneKind T.bytes_read self.old self.new total) }
     {
         let mut text = self.kept.take_all(run_layout())?;

@@ -9,7 +9,7 @@ ghost use Rattle.hashbag_words_lib.specs.Numbered.{GivesRead, ReadsTextOf, Reads
 
 use crate::lines::LinesRead;
 use crate::merged_text::{MergedText, Wants};
-use crate::sorted_merge::Stop;
+use crate::sorted_merge::MergeError;
 use crate::tape::Tape;
 use hashbag_shell::trouble::Trouble;
 use std::io::Write;
@@ -38,7 +38,7 @@ pub trait NumberedTexts<'a> {
         ensures end { IfOk result (λ n. n ≡ 0 → is_read self.new number) };
 
     /// Returns why this merge ended early.
-    fn trouble(&self, text: &MergedText<'_>, stop: Stop) -> Trouble<'a>;
+    fn trouble(&self, text: &MergedText<'_>, error: MergeError) -> Trouble<'a>;
 
     /// Returns why the text of a merge wasn't written.
     fn unwritten(&self, error: std::io::Error) -> Trouble<'a>;
@@ -147,7 +147,7 @@ pub fn read_on<'a, T: NumberedTexts<'a>>(
             Ok(Wants::Block(number)) => give(texts, block, number, text)?,
             Ok(Wants::Part) => return Ok(Wants::Part),
             Ok(Wants::End) => return Ok(Wants::End),
-            Err(stop) => return Err(texts.trouble(text, stop)),
+            Err(error) => return Err(texts.trouble(text, error)),
         }
     }
     // Never: there aren't as many blocks.

@@ -9,7 +9,7 @@ ghost use Rattle.hashbag_words_lib.specs.Sources.{Holds};
 
 use crate::lines::LinesRead;
 use crate::row_source::{RowSource, SourceKind};
-use crate::sorted_merge::{Merged, Merger, Stop};
+use crate::sorted_merge::{MergeError, Merged, Merger};
 use crate::sources::{Opened, Source};
 use std::alloc::{AllocError, Global};
 use std::mem;
@@ -91,21 +91,21 @@ impl NumberedMerge {
     }
 
     // Adds an opened text: its first row is known. The text after it is opened next.
-    fn push(&mut self, source: Source) -> Result<(), Stop>
+    fn push(&mut self, source: Source) -> Result<(), MergeError>
         ensures added { OnOk result (self.new.merger.sources.items ≡ self.old.merger.sources.items ++ source ∷ []) }
         ensures unused { IsUnused self.old.merger → IsUnused self.new.merger }
         ensures next { OnOk result (Holds self.old.kind [] self.new.rows) }
         ensures same { (self.new.numbers ≡ self.old.numbers) × (self.new.kind ≡ self.old.kind) }
     {
         if self.merger.push(source).is_err() {
-            return Err(Stop::Memory);
+            return Err(MergeError::Memory);
         }
         self.rows = RowSource::new(self.alloc, self.kind);
         Ok(())
     }
 
     // Takes the first row of the next text. Returns whether that text is to be given more bytes first.
-    fn open_next(&mut self) -> Result<bool, Stop>
+    fn open_next(&mut self) -> Result<bool, MergeError>
         ensures opened { IfOk result (λ wants. IsOpening self.old → KeepsTaken self.old self.new) }
         ensures wanted { IfOk result (λ wants. wants ≡ true → IsOpening self.old → IsWanted self.new) }
         ensures more { IfOk result (λ wants. wants ≡ false → opened_in self.new ≡ opened_in self.old + 1) }
@@ -126,13 +126,13 @@ impl NumberedMerge {
             }
             Err((fault, rows)) => {
                 self.rows = rows;
-                Err(Stop::Source(i, fault))
+                Err(MergeError::Source(i, fault))
             }
         }
     }
 
     // Takes the first row of each text, in their order. Returns whether the wanted text is to be given more bytes first.
-    fn open(&mut self) -> Result<bool, Stop>
+    fn open(&mut self) -> Result<bool, MergeError>
         ensures opened { IfOk result (λ wants. KeepsTaken self.old self.new) }
         ensures wanted { IfOk result (λ wants. IsWantedIf wants self.new) }
         ensures same { self.new.numbers ≡ self.old.numbers }
@@ -187,7 +187,7 @@ impl NumberedMerge {
     /// # Errors
     ///
     /// Same as [`Merger::next_row`].
-    pub fn next_row(&mut self) -> Result<Merged, Stop>
+    pub fn next_row(&mut self) -> Result<Merged, MergeError>
         // A row is returned, which comes after the rows in `out`; or bytes of a text are wanted; or all is merged, and `out` is the merge of all
         // rows.
         ensures follows { IfOk result (λ next. GoesOn self.old next self.new) }

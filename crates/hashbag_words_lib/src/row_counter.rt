@@ -22,7 +22,7 @@ use crate::lines::{BadLines, LinesRead};
 use crate::merging::{add_row, add_tree, past_mark};
 use crate::row_text::RowText;
 use crate::rows::RowForm;
-use crate::runs::{empty, run_of};
+use crate::runs::{clear_after_run, run_of};
 use hashbag::{BagError, HashBag};
 use memchr::memchr;
 use std::alloc::Global;
@@ -270,7 +270,7 @@ impl<S: BuildHasher + Drop> RowCounter<S> {
         ensures form { self.new.form ≡ self.old.form }
         ensures bad_lines { self.new.reading.bad_lines ≡ self.old.reading.bad_lines }
     {
-        empty(&mut self.bag);
+        clear_after_run(&mut self.bag);
         note_empty(&mut self.gauge);
     }
 

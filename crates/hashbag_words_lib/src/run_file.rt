@@ -18,7 +18,7 @@ const BLOCK: usize = 1 << 16;
 /// An allocation or a write fails.
 pub fn write_text<W: Write>(alloc: Global, text: &mut RowText<'_>, to: &mut W) -> io::Result<Tape>
     // The tape has the bytes that were left of the text. They are appended to the bytes that were written to `to`, if these are known.
-    ensures told { IfOk result (λ tape. tape ≡ bytes_left text.old) }
+    ensures tape { IfOk result (λ tape. tape ≡ bytes_left text.old) }
     ensures written { IfOk result (λ tape. Appends (W.contents to.old) (W.contents to.new) (bytes_left text.old)) }
 {
     let mut block = vec![in alloc; 0u8; BLOCK]?;

@@ -35,7 +35,7 @@ pub fn run_of<'b, S: BuildHasher + Drop>(
 /// Empties a bag whose run was written.
 ///
 /// The limit of the bag falls by the total that it had. So counting fails at the same total with or without runs. The bag keeps its slots.
-pub fn empty<S: BuildHasher + Drop>(bag: &mut HashBag<String, S>)
+pub fn clear_after_run<S: BuildHasher + Drop>(bag: &mut HashBag<String, S>)
     ensures empty { bag.new.items ≡ [] }
     ensures limit { bag.new.most + length bag.old.items ≡ bag.old.most }
     ensures slots { bag.new.tables ≡ cleared bag.old.tables }

@@ -1,6 +1,6 @@
 //! Shards: parts of all tokens, by a fixed hash of the token.
 ghost use Rattle.std.specs.Prelude.{◌≡◌, ◌<◌, IfSome};
-ghost use Rattle.hashbag_words_lib.specs.Shards.{fnv, is_in, is_shown};
+ghost use Rattle.hashbag_words_lib.specs.Shards.{fnv, is_in, is_in_shard};
 
 /// A shard: one of `of` parts of all tokens. A token is in the part whose index is the hash of the token modulo `of`.
 ///
@@ -51,8 +51,8 @@ impl Shard {
 }
 
 // Returns whether a token is in the shard; without a shard, every token is.
-pub(crate) fn is_shown(shard: Option<Shard>, token: &str) -> bool
-    ensures { result ≡ is_shown shard token.now }
+pub(crate) fn is_in_shard(shard: Option<Shard>, token: &str) -> bool
+    ensures { result ≡ is_in_shard shard token.now }
 {
     match shard {
         Some(shard) => shard.has(token),

@@ -5,7 +5,7 @@
 //! given so far, and `out` the rows that were returned.
 ghost use Rattle.std.specs.Prelude.{◌≡◌, ℕ, ◌+◌, ◌++◌, ◌<◌, ◌^◌, [], ◌∷◌, None, true, false, List, length, All, slice_index_or, string_bytes, IfOk, IfSome, OnOk};
 ghost use Rattle.hashbag_words_lib.specs.Merged.{count_of, AreBegun, FollowsWhatCameOut, HasMerged, HasMergedItsRuns, IsEnded, IsOpen, IsUnused, LengthensText, MayComeTo, TakesRowWhateverComes};
-ghost use Rattle.hashbag_words_lib.specs.Sorted.{count_held, one_of, shown_of, IsNoLater, Joins};
+ghost use Rattle.hashbag_words_lib.specs.Sorted.{count_held, one_of, done_rows, IsNoLater, Joins};
 
 use crate::errors::InputFault;
 use crate::head::Head;
@@ -39,7 +39,7 @@ pub enum Merged {
 
 /// Why a merge ends before all rows are merged.
 #[derive(Debug, Drop)]
-pub enum Stop {
+pub enum MergeError {
     /// The source with this index failed, its rows aren't in ascending order, or with its next row all counts add up to more than
     /// `usize::MAX`.
     Source(usize, InputFault),
@@ -88,7 +88,7 @@ fn total_with(total: usize, head: &Option<Head>) -> Option<usize>
 }
 
 // Takes the least row of all sources, if the row after it in its source is known, and adds its count to the total.
-fn take_least(sources: &mut Vec<Source>, total: &mut usize) -> Result<Merged, Stop>
+fn take_least(sources: &mut Vec<Source>, total: &mut usize) -> Result<Merged, MergeError>
     ensures taken { IfOk result (λ next. TakesRowWhateverComes sources.old.items next sources.new.items) }
     ensures total { IfOk result (λ next. total.new ≡ total.old + count_of next) }
     ensures fits { total.new < 2 ^ 64 }
@@ -103,7 +103,7 @@ fn take_least(sources: &mut Vec<Source>, total: &mut usize) -> Result<Merged, St
     let i = least(sources.as_slice());
     let source = &mut sources[i];
     let Some(sum) = total_with(before, &source.head) else {
-        return Err(Stop::Source(i, InputFault::Bag(BagError::TooMany)));
+        return Err(MergeError::Source(i, InputFault::Bag(BagError::TooMany)));
     };
     match source.take() {
         Ok(Next::Row(row)) => {
@@ -112,7 +112,7 @@ fn take_least(sources: &mut Vec<Source>, total: &mut usize) -> Result<Merged, St
         }
         Ok(Next::Wants) => Ok(Merged::Wants(i)),
         Ok(Next::End) => Ok(Merged::End),
-        Err(fault) => Err(Stop::Source(i, fault)),
+        Err(fault) => Err(MergeError::Source(i, fault)),
     }
 }
 
@@ -120,7 +120,7 @@ fn take_least(sources: &mut Vec<Source>, total: &mut usize) -> Result<Merged, St
 fn join(
     held: &mut Option<(String, usize)>,
     row: (String, usize),
-) -> Result<Option<(String, usize)>, Stop>
+) -> Result<Option<(String, usize)>, MergeError>
     ensures { IfOk result (λ done. Joins held.old row done held.new) }
 {
     let Some((token, count)) = held.take() else {
@@ -136,13 +136,13 @@ fn join(
             *held = Some((token, sum));
             Ok(None)
         }
-        None => Err(Stop::TooMany),
+        None => Err(MergeError::TooMany),
     }
 }
 
 // Returns `done`, or `None` if its count is 0.
-fn shown(done: Option<(String, usize)>) -> Option<(String, usize)>
-    ensures { one_of result ≡ shown_of done }
+fn unless_zero(done: Option<(String, usize)>) -> Option<(String, usize)>
+    ensures { one_of result ≡ done_rows done }
 {
     let (token, count) = done?;
     if count == 0 {
@@ -244,14 +244,14 @@ impl Merger {
     ///
     /// # Errors
     ///
-    /// `Stop::Source` if a line is bad, a row doesn't come after the one before (`BadLine::NotInOrder`), all counts add up to more than `usize::MAX`,
-    /// or an allocation fails. It never returns `Stop::TooMany`: if the sum of one token is too large, so is the total, which is checked first
-    /// (`Stop::Source`). After an error use only [`Merger::sources`].
+    /// `MergeError::Source` if a line is bad, a row doesn't come after the one before (`BadLine::NotInOrder`), all counts add up to more than `usize::MAX`,
+    /// or an allocation fails. It never returns `MergeError::TooMany`: if the sum of one token is too large, so is the total, which is checked first
+    /// (`MergeError::Source`). After an error use only [`Merger::sources`].
     ///
     /// # Complexity
     ///
     /// For each row that is taken, the next rows of all sources are compared.
-    pub fn next_row(&mut self) -> Result<Merged, Stop>
+    pub fn next_row(&mut self) -> Result<Merged, MergeError>
         // A row follows those of `out`; or a source wants bytes; or at the end `out` is the merge of all rows, and the total is the sum of
         // their counts.
         ensures follows { IfOk result (λ next. FollowsWhatCameOut self.old next self.new) }
@@ -264,19 +264,19 @@ impl Merger {
             match take_least(&mut self.sources, &mut self.total)? {
                 Merged::Row(row) => {
                     let done = join(&mut self.held, row)?;
-                    if let Some(row) = shown(done) {
+                    if let Some(row) = unless_zero(done) {
                         return Ok(Merged::Row(row));
                     }
                 }
                 Merged::Wants(i) => return Ok(Merged::Wants(i)),
                 Merged::End => {
-                    return match shown(self.held.take()) {
+                    return match unless_zero(self.held.take()) {
                         Some(row) => Ok(Merged::Row(row)),
                         None => Ok(Merged::End),
                     };
                 }
             }
         }
-        Err(Stop::TooMany)
+        Err(MergeError::TooMany)
     }
 }

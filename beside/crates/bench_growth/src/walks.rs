@@ -64,7 +64,7 @@ fn sum_by_places(alloc: Global, bag: &HashBag<u64>) -> Result<u64, BagError> {
     Ok(sum)
 }
 
-// The sum of the ten commonest values, of which the least come first.
+// The sum of the ten most common values, of which the least come first.
 fn sum_of_commonest(alloc: Global, bag: &HashBag<u64>) -> Result<u64, BagError> {
     let mut sum = 0u64;
     for (value, _) in most_common(alloc, bag, 10)? {

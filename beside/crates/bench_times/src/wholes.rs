@@ -64,7 +64,7 @@ fn fill_counts(bag: &mut HashBag<u64>, values: &[(u64, usize)]) -> Result<(), Ba
     Ok(())
 }
 
-/// The ten commonest of many values.
+/// The ten most common of many values.
 pub fn of_commonest(rt: &HostRuntime, many: u64) -> anyhow::Result<()> {
     let mut bag = HashBag::new(rt.alloc());
     fill_counts(&mut bag, counts(rt.alloc(), many)?.as_slice())?;

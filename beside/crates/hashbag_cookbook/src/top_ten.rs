@@ -1,4 +1,4 @@
-//! Lists the ten commonest words of a text.
+//! Lists the ten most common words of a text.
 use anyhow::Result;
 use hashbag::HashBag;
 use hashbag::ops::most_common;

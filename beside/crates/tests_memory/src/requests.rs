@@ -42,7 +42,7 @@ enum Verb {
     FullMergeRef,
     // Calls on two bags that don't allocate.
     Parts,
-    // Lists of all pairs, and of the commonest three.
+    // Lists of all pairs, and of the three most common values.
     Sorted,
     MostCommon,
     Clone,

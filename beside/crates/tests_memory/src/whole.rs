@@ -66,7 +66,7 @@ impl Write for Page {
 }
 
 // Runs the program on an input. If an allocation failed, it writes so and nothing else.
-fn answers(
+fn writes(
     alloc: Global,
     input: &str,
     status: u8,
@@ -92,8 +92,8 @@ fn answers(
 
 /// Runs over one bag, over two, with a step that is a list, and with a bad line.
 pub fn executions(alloc: Global, refusals: &mut Refusals) -> Result<(), Wrong> {
-    answers(alloc, STEPS, DONE, OUTPUT, refusals)?;
-    answers(alloc, TWO_BAGS, DONE, JOINED, refusals)?;
-    answers(alloc, LIST, DONE, LISTED, refusals)?;
-    answers(alloc, BAD, BAD_LINE, "bad line 3\n", refusals)
+    writes(alloc, STEPS, DONE, OUTPUT, refusals)?;
+    writes(alloc, TWO_BAGS, DONE, JOINED, refusals)?;
+    writes(alloc, LIST, DONE, LISTED, refusals)?;
+    writes(alloc, BAD, BAD_LINE, "bad line 3\n", refusals)
 }

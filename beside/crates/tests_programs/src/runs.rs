@@ -103,7 +103,7 @@ impl Write for Sink {
 }
 
 // Runs the program on an input, and compares its status and all that it writes.
-fn answers(alloc: Global, rt: &impl Abort, input: &str, status: u8, wanted: &str) {
+fn has_output(alloc: Global, rt: &impl Abort, input: &str, status: u8, wanted: &str) {
     answers_bytes(alloc, rt, input.as_bytes(), status, wanted);
 }
 
@@ -123,13 +123,13 @@ fn leaves_none(
 ) -> Result<(), AllocError> {
     let mut whole = String::from_str(alloc, wanted)?;
     whole.push_str(EMPTY)?;
-    answers(alloc, rt, input, 0, whole.as_str());
+    has_output(alloc, rt, input, 0, whole.as_str());
     Ok(())
 }
 
 #[test]
 fn answers_steps(rt: HostRuntime) -> Result<(), Fail> {
-    answers(rt.alloc(), &rt, STEPS, 0, OUTPUT);
+    has_output(rt.alloc(), &rt, STEPS, 0, OUTPUT);
     let rows = [
         ("", ""),
         ("\n\n", ""),
@@ -193,7 +193,7 @@ const TWO_BAG_RUNS: [(&str, &str); 7] = [
 #[test]
 fn answers_two_bags(rt: HostRuntime) {
     for (input, wanted) in &TWO_BAG_RUNS {
-        answers(rt.alloc(), &rt, input, 0, wanted);
+        has_output(rt.alloc(), &rt, input, 0, wanted);
     }
 }
 
@@ -242,7 +242,7 @@ const BAD_LINES: [(&str, &str); 6] = [
 #[test]
 fn counts_lines_to_the_bad_one(rt: HostRuntime) {
     for (input, wanted) in &BAD_LINES {
-        answers(rt.alloc(), &rt, input, 2, wanted);
+        has_output(rt.alloc(), &rt, input, 2, wanted);
     }
 }
 

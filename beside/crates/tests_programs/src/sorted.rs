@@ -11,7 +11,7 @@ use hashbag_words_lib::row_source::{RowSource, SourceKind};
 use hashbag_words_lib::rows::RowForm;
 use hashbag_words_lib::rule::{Pieces, Rule};
 use hashbag_words_lib::shown_rows::{ShownRows, TopRows};
-use hashbag_words_lib::sorted_merge::{Merged, Merger, Sink, Stop};
+use hashbag_words_lib::sorted_merge::{MergeError, Merged, Merger, Sink};
 use hashbag_words_lib::sources::{Opened, Source};
 use hashbag_words_lib::writing::Format;
 use std::alloc::{AllocError, Global};
@@ -164,13 +164,13 @@ impl Texts<'_> {
                 Ok(Merged::Row((token, count))) => sink.put(token, count)?,
                 Ok(Merged::Wants(i)) => self.feed(i)?,
                 Ok(Merged::End) => return Ok(None),
-                Err(Stop::Source(i, fault)) => {
+                Err(MergeError::Source(i, fault)) => {
                     let sources = self.merger.sources();
                     let line = sources.get(i).map_or(0, |s| s.rows().reading().line);
                     return Ok(Some(stopped(alloc, i, line, &fault)?));
                 }
-                Err(Stop::TooMany) => return Err(Fail::new("a count is too large")),
-                Err(Stop::Memory) => return Err(Fail::new("no memory")),
+                Err(MergeError::TooMany) => return Err(Fail::new("a count is too large")),
+                Err(MergeError::Memory) => return Err(Fail::new("no memory")),
             }
         }
         Err(Fail::new("the merge doesn't end"))
@@ -291,7 +291,7 @@ fn merge_runs<K: Sink>(alloc: Global, runs: &[&[u8]], sink: &mut K) -> Result<()
     }
 }
 
-// The commonest row of a run.
+// The most common row of a run.
 fn top_of_run(alloc: Global, run: &[u8]) -> Result<String, Fail> {
     let mut top = TopRows::new(alloc, 1);
     merge_runs(alloc, &[run], &mut top)?;
@@ -305,7 +305,7 @@ fn a_run_keeps_its_mark(rt: HostRuntime) -> Result<(), Fail> {
     is_text(&top_of_run(rt.alloc(), run)?, "\u{feff}a1 ")
 }
 
-// Of the rows that come: how many are kept, the least count, and those that are, the commonest first.
+// Of the rows that come: how many are kept, the least count, and those that are, the most common first.
 const TOPS: [(usize, usize, &str); 4] = [
     (0, 0, ""),
     (2, 0, "c9 a4 "),
@@ -345,7 +345,7 @@ fn the_commonest_rows(rt: HostRuntime) -> Result<(), Fail> {
     Ok(())
 }
 
-// The commonest rows whose tokens aren't in a bag.
+// The most common rows whose tokens aren't in a bag.
 #[test]
 fn the_other_rows(rt: HostRuntime) -> Result<(), Fail> {
     let alloc = rt.alloc();

@@ -3,7 +3,7 @@ ghost use Rattle.std.specs.Prelude.{◌≡◌, ◌+◌, ◌*◌, ◌<◌, ◌≤
 ghost use Rattle.hashbag_slots.specs.Slots.{IsSlotCount};
 ghost use Rattle.hashbag_table.specs.Tables.{room, values, CarriesNext, IsNotOverfull, IfNoLarger, KeepsRoom, ShrinksOrStays, NoneMoved};
 ghost use Rattle.hashbag_core.specs.Occurrences.{distinct_count};
-ghost use Rattle.hashbag_core.specs.Held.{no_slots, AreHeld, ReservesSlots};
+ghost use Rattle.hashbag_core.specs.Held.{no_slots_after_building, AreHeld, ReservesSlots};
 ghost use Rattle.hashbag_table.specs.declared.table.TheConstants.{MOST_VALUES};
 ghost use Rattle.hashbag_core.specs.declared.bag.BagError.TheVariants.{Memory};
 
@@ -165,7 +165,7 @@ impl<T: Eq + Hash + Drop, S: BuildHasher + Drop> HashBag<T, S> {
         // The bag means the list that it meant before, and its hash state and limit are unchanged.
         ensures items { IsBagOf T.eq self.old self.old.items self.new }
         ensures len { length self.new.items ≡ length self.old.items }
-        ensures beyond { 0 < n → MOST_VALUES < distinct_count T.eq self.old.items + n → result ≡ Err BagError.Memory }
+        ensures past_most { 0 < n → MOST_VALUES < distinct_count T.eq self.old.items + n → result ≡ Err BagError.Memory }
         ensures memory { IfErr result (λ e. e ≡ BagError.Memory) }
         ensures err { OnErr result (self.new ≡ self.old) }
         ensures room { OnOk result (n ≤ room self.new.tables) }
@@ -208,7 +208,7 @@ impl<T: Eq + Hash + Drop, S: BuildHasher + Drop> HashBag<T, S> {
 
         // What becomes of the tables, as under `# Complexity`. An empty bag is left with no slots.
         ensures none { self.old.items ≡ [] → IsOk result }
-        ensures freed { OnOk result (self.old.items ≡ [] → self.new.tables ≡ no_slots self.old.tables.built) }
+        ensures freed { OnOk result (self.old.items ≡ [] → self.new.tables ≡ no_slots_after_building self.old.tables.built) }
         ensures shrinks { OnOk result (ShrinksOrStays (distinct_count T.eq self.old.items) self.old.tables self.new.tables) }
         ensures enough { IfNoLarger (distinct_count T.eq self.old.items) self.old.tables (IsOk result × (self.new ≡ self.old)) }
     {

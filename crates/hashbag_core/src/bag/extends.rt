@@ -1,14 +1,14 @@
 //! Bags built from the items of an iterator, and bags to which these are added.
 //!
-//! In clauses `Once`, `AsItIs`, `OkOnce`, `CloneOnce` and `CloneAsOften` say which value is inserted for an item, and how often. `RefusesOne`,
-//! `RefusesPair` and `EndsTry` say with which error an item may fail.
+//! In clauses `Once`, `AsItIs`, `OkOnce`, `CloneOnce` and `CloneAsOften` say which value is inserted for an item, and how often. `MayFailOne`,
+//! `MayFailPair` and `EndsTry` say with which error an item may fail.
 ghost use Rattle.std.specs.Prelude.{◌≡◌, ◌<◌, [], OnOk, IfOk, IfErr, OnErr, IsOkAnd};
 ghost use Rattle.std.specs.Iterator.{IsFinite};
 ghost use Rattle.hashbag_core.specs.Occurrences.{greatest_total};
-ghost use Rattle.hashbag_core.specs.Held.{no_slots};
+ghost use Rattle.hashbag_core.specs.Held.{no_slots_after_building};
 ghost use Rattle.hashbag_core.specs.Extends.{Once, AsItIs, OkOnce, CloneOnce, CloneAsOften};
-ghost use Rattle.hashbag_core.specs.Inserts.{empty_bag, Inserts, InsertsAll, InsertsUpTo, RefusesOne, RefusesPair, EndsTry, StopsBuilding};
-ghost use Rattle.hashbag_core.specs.Inserts.{IsCloneRefused, ClonesUpTo, ClonesManyUpTo};
+ghost use Rattle.hashbag_core.specs.Inserts.{empty_bag, Inserts, InsertsAll, InsertsUpTo, MayFailOne, MayFailPair, EndsTry, StopsBuilding};
+ghost use Rattle.hashbag_core.specs.Inserts.{MayFailCloning, ClonesUpTo, ClonesManyUpTo};
 
 use crate::bag::{BagError, HashBag};
 use std::alloc::Global;
@@ -44,7 +44,7 @@ impl<T: Eq + Hash + Drop, S: BuildHasher + Drop> HashBag<T, S> {
         ensures hasher { S.is_default result.hasher }
 
         // Neither table has slots, and none was built (`0`).
-        ensures slots { result.tables ≡ no_slots 0 }
+        ensures slots { result.tables ≡ no_slots_after_building 0 }
 
         // No limit is set.
         ensures limit { result.most ≡ greatest_total }
@@ -83,7 +83,7 @@ impl<T: Eq + Hash + Drop, S: BuildHasher + Drop> HashBag<T, S> {
         ensures limit { IfOk result (λ bag. bag.most ≡ greatest_total) }
 
         // If it fails, an item failed in a bag that began empty, and into which the items before it were inserted. That bag is dropped.
-        ensures refused { IfErr result (StopsBuilding S T.eq I.next_gives Once (RefusesOne T.eq) items) }
+        ensures fails { IfErr result (StopsBuilding S T.eq I.next_gives Once (MayFailOne T.eq) items) }
     {
         let mut bag = HashBag::default_in(alloc);
         bag.extend(items)?;
@@ -121,7 +121,7 @@ impl<T: Eq + Hash + Drop, S: BuildHasher + Drop> HashBag<T, S> {
         ensures limit { IfOk result (λ bag. bag.most ≡ greatest_total) }
 
         // If it fails, a pair failed in a bag that began empty, and into which the pairs before it were inserted. That bag is dropped.
-        ensures refused { IfErr result (StopsBuilding S T.eq I.next_gives AsItIs (RefusesPair T.eq) pairs) }
+        ensures fails { IfErr result (StopsBuilding S T.eq I.next_gives AsItIs (MayFailPair T.eq) pairs) }
     {
         let mut bag = HashBag::default_in(alloc);
         bag.extend_many(pairs)?;
@@ -159,7 +159,7 @@ impl<T: Eq + Hash + Drop, S: BuildHasher + Drop> HashBag<T, S> {
 
         // If it fails, an item was the returned error, or the insertion of its value failed. The values before that item were inserted into a bag
         // that began empty. That bag is dropped.
-        ensures refused { IfErr result (StopsBuilding S T.eq I.next_gives OkOnce (EndsTry T.eq) items) }
+        ensures fails { IfErr result (StopsBuilding S T.eq I.next_gives OkOnce (EndsTry T.eq) items) }
     {
         let mut bag = HashBag::default_in(alloc);
         bag.try_extend(items)?;
@@ -195,7 +195,7 @@ impl<T: Eq + Hash + Drop, S: BuildHasher + Drop> HashBag<T, S> {
 
         // All items were inserted in turn, or the items before one that failed.
         ensures all { OnOk result (InsertsAll T.eq I.next_gives Once items self.old self.new) }
-        ensures refused { IfErr result (InsertsUpTo T.eq I.next_gives Once (RefusesOne T.eq) items self.old self.new) }
+        ensures fails { IfErr result (InsertsUpTo T.eq I.next_gives Once (MayFailOne T.eq) items self.old self.new) }
     {
         // Only for the proof: it uses the clause `bag` of `len`.
         let _len = self.len();
@@ -238,7 +238,7 @@ impl<T: Eq + Hash + Drop, S: BuildHasher + Drop> HashBag<T, S> {
         // `Ok`: no item was an error, and all values were inserted in turn. `Err`: an item was the returned error, or the insertion of its value
         // failed, and the values before that item were inserted.
         ensures all { OnOk result (InsertsAll T.eq I.next_gives OkOnce items self.old self.new) }
-        ensures refused { IfErr result (InsertsUpTo T.eq I.next_gives OkOnce (EndsTry T.eq) items self.old self.new) }
+        ensures fails { IfErr result (InsertsUpTo T.eq I.next_gives OkOnce (EndsTry T.eq) items self.old self.new) }
     {
         // Only for the proof: it uses the clause `bag` of `len`.
         let _len = self.len();
@@ -276,7 +276,7 @@ impl<T: Eq + Hash + Drop, S: BuildHasher + Drop> HashBag<T, S> {
 
         // All pairs were inserted in turn, or the pairs before one that failed.
         ensures all { OnOk result (InsertsAll T.eq I.next_gives AsItIs pairs self.old self.new) }
-        ensures refused { IfErr result (InsertsUpTo T.eq I.next_gives AsItIs (RefusesPair T.eq) pairs self.old self.new) }
+        ensures fails { IfErr result (InsertsUpTo T.eq I.next_gives AsItIs (MayFailPair T.eq) pairs self.old self.new) }
     {
         // Only for the proof: it uses the clause `bag` of `len`.
         let _len = self.len();
@@ -319,7 +319,7 @@ impl<T: Eq + Hash + Drop, S: BuildHasher + Drop> HashBag<T, S> {
         // Clones of all items were inserted in turn, or clones of the items before one that failed. That item failed with `Memory` only if its clone
         // may fail (isn't infallible), or if an insertion of the clone may fail.
         ensures all { OnOk result (InsertsAll T.eq I.next_gives (CloneOnce T.is_clone) items self.old self.new) }
-        ensures refused { IfErr result (ClonesUpTo T.eq T.is_clone T.is_infallible I.next_gives items self.old self.new) }
+        ensures fails { IfErr result (ClonesUpTo T.eq T.is_clone T.is_infallible I.next_gives items self.old self.new) }
     {
         // Only for the proof: it uses the clause `bag` of `len`.
         let _len = self.len();
@@ -361,7 +361,7 @@ impl<T: Eq + Hash + Drop, S: BuildHasher + Drop> HashBag<T, S> {
 
         // Clones of all pairs were inserted in turn, or clones of the pairs before one that failed.
         ensures all { OnOk result (InsertsAll T.eq I.next_gives (CloneAsOften T.is_clone) pairs self.old self.new) }
-        ensures refused { IfErr result (ClonesManyUpTo T.eq T.is_clone T.is_infallible I.next_gives pairs self.old self.new) }
+        ensures fails { IfErr result (ClonesManyUpTo T.eq T.is_clone T.is_infallible I.next_gives pairs self.old self.new) }
     {
         // Only for the proof: it uses the clause `bag` of `len`.
         let _len = self.len();
@@ -374,7 +374,7 @@ impl<T: Eq + Hash + Drop, S: BuildHasher + Drop> HashBag<T, S> {
     // Inserts the value of a result once. If the result is an error, returns that error.
     fn insert_result<E>(&mut self, item: Result<T, E>) -> Result<(), TryExtendError<E>>
         ensures inserted { OnOk result (IsOkAnd item (λ v. Inserts T.eq v 1 self.old self.new)) }
-        ensures refused { IfErr result (EndsTry T.eq self.old item) }
+        ensures fails { IfErr result (EndsTry T.eq self.old item) }
         ensures err { OnErr result (self.new ≡ self.old) }
     {
         match item {
@@ -391,7 +391,7 @@ impl<T: Eq + Hash + Drop, S: BuildHasher + Drop> HashBag<T, S> {
     where
         T: Clone,
         ensures inserted { OnOk result ((x : _) × (0 < n → T.is_clone value.now x) × Inserts T.eq x n self.old self.new) }
-        ensures refused { IfErr result (IsCloneRefused T.eq T.is_clone T.is_infallible self.old value.now n) }
+        ensures fails { IfErr result (MayFailCloning T.eq T.is_clone T.is_infallible self.old value.now n) }
         ensures err { OnErr result (self.new ≡ self.old) }
     {
         if n > self.limit() - self.len() {

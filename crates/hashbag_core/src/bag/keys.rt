@@ -6,7 +6,7 @@ ghost use Rattle.std.specs.Prelude.{◌≡◌, ◌+◌, ◌<◌, ◌≤◌, ◌�
 ghost use Rattle.std.specs.Iterator.{IsFinite};
 ghost use Rattle.hashbag_core.specs.Bag.{IsNamedIn};
 ghost use Rattle.hashbag_core.specs.Inserts.{empty_bag, InsertsAll, StopsBuilding};
-ghost use Rattle.hashbag_core.specs.Keys.{RefusesNamed, InsertsNamed, NamedOnce, RefusesKey, KeysUpTo};
+ghost use Rattle.hashbag_core.specs.Keys.{MayFailNamed, InsertsNamed, NamedOnce, MayFailKey, KeysUpTo};
 ghost use Rattle.hashbag_core.specs.Occurrences.{count_named, greatest_total};
 
 use crate::bag::{BagError, HashBag};
@@ -48,7 +48,7 @@ impl<T: Eq + Hash + Drop, S: BuildHasher + Drop> HashBag<T, S> {
 
         // When it fails, as under `# Errors`.
         ensures too_many { (result ≡ Err BagError.TooMany) ↔ (self.old.most < length self.old.items + 1) }
-        ensures refused { IfErr result (RefusesNamed (Q.names key) self.old.most self.old.items 1) }
+        ensures fails { IfErr result (MayFailNamed (Q.names key) self.old.most self.old.items 1) }
         ensures err { OnErr result (self.new ≡ self.old) }
 
         // If the total fits and the value is present, it succeeds.
@@ -93,7 +93,7 @@ impl<T: Eq + Hash + Drop, S: BuildHasher + Drop> HashBag<T, S> {
 
         // When it fails, as under `# Errors`.
         ensures too_many { (result ≡ Err BagError.TooMany) ↔ (self.old.most < length self.old.items + n) }
-        ensures refused { IfErr result (RefusesNamed (Q.names key) self.old.most self.old.items n) }
+        ensures fails { IfErr result (MayFailNamed (Q.names key) self.old.most self.old.items n) }
         ensures err { OnErr result (self.new ≡ self.old) }
 
         // If the total fits and the value is present, it succeeds.
@@ -107,8 +107,8 @@ impl<T: Eq + Hash + Drop, S: BuildHasher + Drop> HashBag<T, S> {
         }
         let before = self.table.add_key(key, n)?;
         self.len += n;
-        // Only for the proof: it uses the clause `held` of `Table::held`.
-        self.table.held();
+        // Only for the proof: it uses the clause `entries` of `Table::show_invariant`.
+        self.table.show_invariant();
         Ok(before)
     }
 
@@ -140,7 +140,7 @@ impl<T: Eq + Hash + Drop, S: BuildHasher + Drop> HashBag<T, S> {
 
         // Values of all keys were inserted in turn, or values of the keys before one that failed.
         ensures all { OnOk result (InsertsAll T.eq I.next_gives (NamedOnce Q.names) keys self.old self.new) }
-        ensures refused { IfErr result (KeysUpTo T.eq Q.names I.next_gives keys self.old self.new) }
+        ensures fails { IfErr result (KeysUpTo T.eq Q.names I.next_gives keys self.old self.new) }
     {
         // Only for the proof: it uses the clause `bag` of `len`.
         let _len = self.len();
@@ -179,7 +179,7 @@ impl<T: Eq + Hash + Drop, S: BuildHasher + Drop> HashBag<T, S> {
         ensures limit { IfOk result (λ bag. bag.most ≡ greatest_total) }
 
         // If it fails, a key failed in a bag that began empty, and into which the values of the keys before it were inserted. That bag is dropped.
-        ensures refused { IfErr result (StopsBuilding S T.eq I.next_gives (NamedOnce Q.names) (RefusesKey Q.names) keys) }
+        ensures fails { IfErr result (StopsBuilding S T.eq I.next_gives (NamedOnce Q.names) (MayFailKey Q.names) keys) }
     {
         let mut bag = HashBag::default_in(alloc);
         bag.extend_keys(keys)?;

@@ -3,7 +3,7 @@ ghost use Rattle.std.specs.Prelude.{◌≡◌, ◌<◌, ◌≤◌, [], All, true
 ghost use Rattle.hashbag_table.specs.Entries.{HasClones};
 ghost use Rattle.hashbag_table.specs.Tables.{room, IsLeast, IsPacked};
 ghost use Rattle.hashbag_core.specs.Occurrences.{greatest_total, SameCounts};
-ghost use Rattle.hashbag_core.specs.Held.{no_slots, NeedsSlots};
+ghost use Rattle.hashbag_core.specs.Held.{no_slots_after_building, NeedsSlots};
 ghost use Rattle.hashbag_table.specs.declared.table.TheConstants.{MOST_VALUES};
 ghost use Rattle.hashbag_core.specs.declared.bag.BagError.TheVariants.{Memory};
 
@@ -30,7 +30,7 @@ impl<T: Eq + Hash + Drop> HashBag<T, FixedState> {
         ensures hasher { ⟦<FixedState as Default>⟧.is_default result.hasher }
 
         // Neither table has slots, and none was built (`0`).
-        ensures slots { result.tables ≡ no_slots 0 }
+        ensures slots { result.tables ≡ no_slots_after_building 0 }
 
         // No limit is set.
         ensures limit { result.most ≡ greatest_total }
@@ -66,7 +66,7 @@ impl<T: Eq + Hash + Drop> HashBag<T, FixedState> {
 
         // When it fails, as under `# Errors`. `MOST_VALUES` is 3 * 2^57.
         ensures none { n ≡ 0 → IsOk result }
-        ensures beyond { MOST_VALUES < n → result ≡ Err BagError.Memory }
+        ensures past_most { MOST_VALUES < n → result ≡ Err BagError.Memory }
         ensures memory { IfErr result (λ e. e ≡ BagError.Memory) }
 
         // The newer table has the least number of slots that gives room for `n` values. The `0` sets no lower bound.
@@ -101,7 +101,7 @@ impl<T: Eq + Hash + Drop, S: BuildHasher + Drop> HashBag<T, S> {
         ensures hasher { result.hasher ≡ hasher }
 
         // Neither table has slots, and none was built (`0`).
-        ensures slots { result.tables ≡ no_slots 0 }
+        ensures slots { result.tables ≡ no_slots_after_building 0 }
 
         // No limit is set.
         ensures limit { result.most ≡ greatest_total }
@@ -124,7 +124,7 @@ impl<T: Eq + Hash + Drop, S: BuildHasher + Drop> HashBag<T, S> {
         ensures hasher { result.hasher ≡ hasher }
 
         // Neither table has slots, and none was built (`0`).
-        ensures slots { result.tables ≡ no_slots 0 }
+        ensures slots { result.tables ≡ no_slots_after_building 0 }
         ensures limit { result.most ≡ most }
     {
         HashBag {
@@ -164,7 +164,7 @@ impl<T: Eq + Hash + Drop, S: BuildHasher + Drop> HashBag<T, S> {
 
         // When it fails, as under `# Errors`. `MOST_VALUES` is 3 * 2^57.
         ensures none { n ≡ 0 → IsOk result }
-        ensures beyond { MOST_VALUES < n → result ≡ Err BagError.Memory }
+        ensures past_most { MOST_VALUES < n → result ≡ Err BagError.Memory }
         ensures memory { IfErr result (λ e. e ≡ BagError.Memory) }
 
         // The newer table has the least number of slots that gives room for `n` values. The `0` sets no lower bound.

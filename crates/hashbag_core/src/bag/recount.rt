@@ -5,7 +5,7 @@ ghost use Rattle.hashbag_table.specs.Entries.{count_of, IsCounted};
 ghost use Rattle.hashbag_table.specs.Tables.{room, KeepsRoom};
 ghost use Rattle.hashbag_core.specs.Bag.{occurrences, IsPresent, total_recounted};
 ghost use Rattle.hashbag_core.specs.Occurrences.{count, recount};
-ghost use Rattle.hashbag_core.specs.Inserts.{Inserts, IsRefused};
+ghost use Rattle.hashbag_core.specs.Inserts.{Inserts, MayFail};
 ghost use Rattle.hashbag_core.specs.Held.{Recounts};
 
 use crate::bag::{BagError, HashBag};
@@ -73,7 +73,7 @@ impl<T: Eq + Hash + Drop, S: BuildHasher + Drop> HashBag<T, S> {
 
         // When it fails, as under `# Errors`.
         ensures too_many { (result ≡ Err BagError.TooMany) ↔ (self.old.most < total_recounted T.eq value n self.old) }
-        ensures refused { IfErr result (IsRefused T.eq self.old value n) }
+        ensures fails { IfErr result (MayFail T.eq self.old value n) }
         ensures err { OnErr result (self.new ≡ self.old) }
 
         // If the new total fits, it succeeds if there is room or the value is present, or `n` is 0.

@@ -1,6 +1,6 @@
 //! How a whole bag loses occurrences: all of them, or what a closure doesn't keep.
 ghost use Rattle.std.specs.Prelude.{◌≡◌, ◌≤◌, [], length};
-ghost use Rattle.hashbag_table.specs.Asked.{MayAskInTurn};
+ghost use Rattle.hashbag_table.specs.Returned.{MayCallInTurn};
 ghost use Rattle.hashbag_table.specs.Tables.{KeepsRoom};
 ghost use Rattle.hashbag_table.specs.Retained.{RetainsTables};
 ghost use Rattle.hashbag_core.specs.Held.{cleared};
@@ -60,7 +60,7 @@ impl<T: Eq + Hash + Drop, S: BuildHasher + Drop> HashBag<T, S> {
     /// ```
     pub fn retain<F: FnMut(&T, usize) -> usize + Drop>(&mut self, f: F)
         // `f` can be called with each distinct value and its count, in whatever order.
-        requires asks { (walk : _) → IsSetWalkOf T.eq self.old walk → MayAskInTurn F.FnMut f walk }
+        requires callable { (walk : _) → IsSetWalkOf T.eq self.old walk → MayCallInTurn F.FnMut f walk }
         ensures retained { IsRetained T.eq F.FnMut f self.old self.new }
         ensures len { length self.new.items ≤ length self.old.items }
 

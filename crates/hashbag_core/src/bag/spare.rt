@@ -35,7 +35,7 @@ impl<T: Eq + Hash + Drop, S: BuildHasher + Drop> HashBag<T, S> {
     pub fn spare(&self, n: usize) -> Result<Spare<T>, BagError>
         // In clauses a spare is the number of its slots.
         ensures least { IfOk result (λ slots. IsSpareFor T.eq n self.now slots) }
-        ensures beyond { MOST_VALUES < distinct_count T.eq self.now.items + n → result ≡ Err BagError.Memory }
+        ensures past_most { MOST_VALUES < distinct_count T.eq self.now.items + n → result ≡ Err BagError.Memory }
         ensures memory { IfErr result (λ e. e ≡ BagError.Memory) }
     {
         let spare = self.table.spare(n)?;

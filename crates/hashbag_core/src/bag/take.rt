@@ -43,7 +43,7 @@ impl<T: Eq + Hash + Drop, S: BuildHasher + Drop> HashBag<T, S> {
         self.take_up_to(key, 1)
     }
 
-    /// Removes `quantity` occurrences of a value, or all if there are fewer, and returns the count after. With the last occurrence the
+    /// Removes `n` occurrences of a value, or all if there are fewer, and returns the count after. With the last occurrence the
     /// stored instance is dropped.
     ///
     /// # Complexity
@@ -59,26 +59,26 @@ impl<T: Eq + Hash + Drop, S: BuildHasher + Drop> HashBag<T, S> {
     /// bag.remove_up_to(&"apple", 3); // 0
     /// Ok(())
     /// ```
-    pub fn remove_up_to<Q: Key<T>>(&mut self, key: Q, quantity: usize) -> usize
-        ensures after { result ≡ count_named (Q.names key) self.old.items - quantity }
+    pub fn remove_up_to<Q: Key<T>>(&mut self, key: Q, n: usize) -> usize
+        ensures after { result ≡ count_named (Q.names key) self.old.items - n }
 
-        // `quantity` occurrences are gone, or all: only the value's slot changed. If there was none, nothing changed. Room isn't lower.
-        ensures fewer { HasFewer T.eq (Q.names key) quantity self.old self.new }
+        // `n` occurrences are gone, or all: only the value's slot changed. If there was none, nothing changed. Room isn't lower.
+        ensures fewer { HasFewer T.eq (Q.names key) n self.old self.new }
 
         // The total is lower by what was removed.
         ensures len { length self.new.items + count_named (Q.names key) self.old.items ≡ length self.old.items + result }
     {
-        self.take_up_to(key, quantity).saturating_sub(quantity)
+        self.take_up_to(key, n).saturating_sub(n)
     }
 
-    // Removes `quantity` occurrences of a value, or all if there are fewer, and returns the count before.
-    fn take_up_to<Q: Key<T>>(&mut self, key: Q, quantity: usize) -> usize
+    // Removes `n` occurrences of a value, or all if there are fewer, and returns the count before.
+    fn take_up_to<Q: Key<T>>(&mut self, key: Q, n: usize) -> usize
         ensures before { result ≡ count_named (Q.names key) self.old.items }
-        ensures fewer { HasFewer T.eq (Q.names key) quantity self.old self.new }
-        ensures len { IsShorterBy (min result quantity) self.old self.new }
+        ensures fewer { HasFewer T.eq (Q.names key) n self.old self.new }
+        ensures len { IsShorterBy (min result n) self.old self.new }
     {
-        let before = self.table.take(key, quantity);
-        self.len -= before.min(quantity);
+        let before = self.table.take_up_to(key, n);
+        self.len -= before.min(n);
         before
     }
 

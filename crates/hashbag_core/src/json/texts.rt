@@ -4,7 +4,7 @@ ghost use Rattle.std.proofs.Common.{Global};
 ghost use Rattle.std.specs.Bool.{Decides};
 ghost use Rattle.serde_json.specs.Data.{string};
 ghost use Rattle.serde_json.specs.Find.{as_str};
-ghost use Rattle.hashbag_core.specs.JsonTexts.{has_text_in, IsText, ReadsText, written_read, read_has, text_found, equal_text, equal_strings, read_again, read_as_one};
+ghost use Rattle.hashbag_core.specs.JsonTexts.{has_text_in, TextHasValue, ReadsText, written_read, read_has, text_found, equal_text, equal_strings, read_again, read_as_one};
 
 use crate::bag::BagError;
 use crate::json::{ItemError, JsonItem};
@@ -50,7 +50,7 @@ pub trait JsonText: Eq + Sized {
 }
 
 impl<T: JsonText> JsonItem for T {
-    ghost is_item = { IsText T.text_of T.has_text };
+    ghost is_item = { TextHasValue T.text_of T.has_text };
 
     ghost tree_of = { λ x. string (T.text_of x) };
 

@@ -9,7 +9,7 @@ use std::io::IsTerminal;
 use std::time::{Duration, Instant};
 
 // How many characters of the database's name a terminal shows.
-const NAME: usize = 20;
+const MOST_CHARS: usize = 20;
 
 // If the database has this many bytes or more, the work takes long: a stage is then shown as soon as it begins.
 const LARGE: u64 = 1 << 25;
@@ -43,7 +43,7 @@ fn is_typed(rt: &HostRuntime, names: &[&str]) -> bool {
 fn short_name(alloc: Global, name: &str) -> Result<String, AllocError> {
     let last = name.rsplit_once('/').map_or(name, |parts| parts.1);
     let mut short = String::new(alloc);
-    for c in last.chars().take(NAME) {
+    for c in last.chars().take(MOST_CHARS) {
         short.push(c)?;
     }
     Ok(short)

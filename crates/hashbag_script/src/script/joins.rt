@@ -1,6 +1,6 @@
 //! The joins of two bags, collected.
 ghost use Rattle.std.specs.Prelude.{◌≡◌, IfOk, IfErr};
-ghost use Rattle.hashbag_core.specs.JoinsLeft.{exceeding, subtracted, unmatched};
+ghost use Rattle.hashbag_core.specs.JoinsLeft.{excesses_of_join, subtracted, lacking_of_join};
 ghost use Rattle.hashbag_script.specs.Collected.{CollectsOuterJoin, CollectsDifference, CollectsSignedDifference, CollectsNotIn};
 
 use hashbag_core::joins::limited_difference;
@@ -26,7 +26,7 @@ fn difference_of<'a, T>(
     alloc: Global,
     outer: &Vec<(&'a T, usize, usize)>,
 ) -> Result<Vec<(&'a T, usize)>, AllocError>
-    ensures { IfOk result (λ entries. entries.items ≡ exceeding outer.now.items) }
+    ensures { IfOk result (λ entries. entries.items ≡ excesses_of_join outer.now.items) }
 {
     outer
         .iter()
@@ -53,7 +53,7 @@ fn not_in_of<'a, T>(
     alloc: Global,
     outer: &Vec<(&'a T, usize, usize)>,
 ) -> Result<Vec<(&'a T, usize)>, AllocError>
-    ensures { IfOk result (λ entries. entries.items ≡ unmatched outer.now.items) }
+    ensures { IfOk result (λ entries. entries.items ≡ lacking_of_join outer.now.items) }
 {
     outer
         .iter()

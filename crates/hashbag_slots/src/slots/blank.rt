@@ -70,8 +70,8 @@ impl<T: Eq> Blank<T> {
         ensures reached { (hash : T → ℕ) → IsReached hash result }
     {
         let Blank { mut tags, cells } = self;
-        let count = tags.capacity();
-        tags.resize(count, EMPTY).unwrap();
+        let slots = tags.capacity();
+        tags.resize(slots, EMPTY).unwrap();
         Slots {
             tags,
             cells,

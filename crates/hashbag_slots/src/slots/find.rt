@@ -4,7 +4,7 @@
 ghost use Rattle.std.specs.Prelude.{◌≡◌, ℕ, ◌<◌, ◌≤◌, length, false, IfSome, IfNone, Some};
 ghost use Rattle.hashbag_slots.specs.FirstGroup.{IfFound, IfAbsent, IfOpen, IsUndecided};
 ghost use Rattle.hashbag_slots.specs.Hashing.{hash_under};
-ghost use Rattle.hashbag_slots.specs.Slots.{is_live, slot_at, HoldsAt, IsAbsent, IsFirstFree, IsPlaceOf};
+ghost use Rattle.hashbag_slots.specs.Slots.{is_live, slot_at, HoldsAt, IsAbsent, IsFirstFree, IsEntryPlace};
 ghost use Rattle.hashbag_slots.specs.Columns.{IsReached};
 
 use crate::key::Key;
@@ -25,7 +25,7 @@ impl<T: Eq + Hash> Slots<T> {
         ensures absent { IfNone result (IsAbsent (Q.names key) self.now.slots) }
 
         // The entry at the returned place is the one that the key names among all entries. `None`: there is no such entry.
-        ensures map { IsPlaceOf (Q.names key) self.now.slots result }
+        ensures map { IsEntryPlace (Q.names key) self.now.slots result }
     {
         let hash = hash_of(state, key);
         self.find_hashed(state, hash, key)
@@ -45,32 +45,32 @@ impl<T: Eq + Hash> Slots<T> {
         ensures absent { IfNone result (IsAbsent (Q.names key) self.now.slots) }
 
         // The entry at the returned place is the one that the key names among all entries. `None`: there is no such entry.
-        ensures map { IsPlaceOf (Q.names key) self.now.slots result }
+        ensures map { IsEntryPlace (Q.names key) self.now.slots result }
     {
         find_place(self.tags.as_slice(), &self.cells, state, hash, key)
     }
 
-    /// Finds as [`Slots::find_hashed`] does, if none of the first `from` slots is Live.
+    /// Finds as [`Slots::find_hashed`] does, if none of the first `carried_to` slots is Live.
     #[inline(always)]
     pub fn find_uncarried<S: BuildHasher, Q: Key<T>>(
         &self,
         state: &S,
         hash: u64,
         key: Q,
-        from: usize,
+        carried_to: usize,
     ) -> Option<usize>
         requires hashed { hash ≡ hash_under Q.hash_input S.BuildHasher S.Hasher.Hasher state.now key }
-        requires within { from ≤ length self.now.slots }
-        requires dead { (p : ℕ) → p < from → is_live (slot_at self.now.slots p) ≡ false }
+        requires within { carried_to ≤ length self.now.slots }
+        requires not_live { (p : ℕ) → p < carried_to → is_live (slot_at self.now.slots p) ≡ false }
         requires reached { IsReached (hash_under T.hash_input S.BuildHasher S.Hasher.Hasher state.now) self.now }
         ensures found { IfSome result (HoldsAt (Q.names key) self.now.slots) }
         ensures absent { IfNone result (IsAbsent (Q.names key) self.now.slots) }
 
         // The entry at the returned place is the one that the key names among all entries. `None`: there is no such entry.
-        ensures map { IsPlaceOf (Q.names key) self.now.slots result }
+        ensures map { IsEntryPlace (Q.names key) self.now.slots result }
     {
-        // If an Empty slot is between home and `from`, the value is absent.
-        if is_empty_before(self.tags.as_slice(), hash, from) {
+        // If an Empty slot is between home and `carried_to`, the value is absent.
+        if is_empty_before(self.tags.as_slice(), hash, carried_to) {
             return None;
         }
         self.find_hashed(state, hash, key)
@@ -98,7 +98,7 @@ impl<T: Eq + Hash> Slots<T> {
         ensures open { IfOpen result (IsUndecided (Q.names key) hash self.now) }
 
         // `Found`: the entry at the place is the one that the key names among all entries.
-        ensures map { IfFound result (λ p. IsPlaceOf (Q.names key) self.now.slots (Some p)) }
+        ensures map { IfFound result (λ p. IsEntryPlace (Q.names key) self.now.slots (Some p)) }
     {
         probe_first_group(self.tags.as_slice(), &self.cells, state, hash, key)
     }

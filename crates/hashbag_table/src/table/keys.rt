@@ -35,7 +35,7 @@ impl<T: Eq + Hash + Drop, S: BuildHasher + Drop> Table<T, S> {
         ensures absent { OnErr result (named_entry (Q.names key) self.old.entries ≡ None) }
         ensures err { OnErr result (self.new ≡ self.old) }
     {
-        self.held();
+        self.show_invariant();
         if let Some(spot) = self.spot_after_first_group(hash, key, first) {
             let before = self.raise_spot(spot, n);
             return Ok(before);

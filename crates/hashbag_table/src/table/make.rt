@@ -45,7 +45,7 @@ impl<T: Eq + Hash + Drop, S: BuildHasher + Drop> Table<T, S> {
         ensures empty { IfOk result (λ table. table.entries ≡ []) }
         ensures hasher { IfOk result (λ table. table.hasher ≡ hasher) }
         ensures none { n ≡ 0 → IsOk result }
-        ensures beyond { MOST_VALUES < n → IsErr result }
+        ensures past_most { MOST_VALUES < n → IsErr result }
 
         // All slots are Empty. Their number is the least of which `n` may be Live; the `0` sets no lower bound.
         ensures fresh { IfOk result (λ table. table.tables.newer ≡ replicate (length table.tables.newer) Slot.Empty) }
@@ -55,8 +55,8 @@ impl<T: Eq + Hash + Drop, S: BuildHasher + Drop> Table<T, S> {
         ensures packed { IfOk result (λ table. IsPacked table.tables) }
         ensures built { IfOk result (λ table. table.tables.built ≡ length table.tables.newer) }
     {
-        let count = least_slots(0, n)?;
-        let newer = Slots::with_slots(alloc, count)?;
+        let slots = least_slots(0, n)?;
+        let newer = Slots::with_slots(alloc, slots)?;
         let older = no_slots(alloc);
         Ok(Table {
             newer,
@@ -64,7 +64,7 @@ impl<T: Eq + Hash + Drop, S: BuildHasher + Drop> Table<T, S> {
             carried_to: 0,
             hasher,
             alloc,
-            built: Built::first(count),
+            built: Built::first(slots),
             lent: [],
         })
     }

@@ -189,7 +189,7 @@ impl<T: Eq + Hash + Drop, S: BuildHasher + Drop> Table<T, S> {
     pub fn reserve(&mut self, n: usize) -> Result<(), AllocError>
         // The entries are the same, in whatever order, and so is the hash state.
         ensures entries { IsMapOf T.eq self.old self.old.entries self.new }
-        ensures beyond { 0 < n → MOST_VALUES < length self.old.entries + n → IsErr result }
+        ensures past_most { 0 < n → MOST_VALUES < length self.old.entries + n → IsErr result }
         ensures err { OnErr result (self.new ≡ self.old) }
 
         // What becomes of the slots, as under `# Complexity`.

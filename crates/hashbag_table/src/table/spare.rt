@@ -19,15 +19,15 @@ impl<T: Eq + Hash + Drop, S: BuildHasher + Drop> Table<T, S> {
     pub fn spare(&self, n: usize) -> Result<Spare<T>, AllocError>
         // In clauses a spare is the number of its slots: the least with room for the entries and `n` more, and not below the number of newer slots.
         ensures least { IfOk result (λ spare. IsLeast (length self.now.tables.newer) (length self.now.entries + n) spare) }
-        ensures beyond { MOST_VALUES < length self.now.entries + n → IsErr result }
+        ensures past_most { MOST_VALUES < length self.now.entries + n → IsErr result }
     {
         let slots = self.newer.slots();
         let values = self.set_len();
         if n > MOST_VALUES - values {
             return Err(AllocError);
         }
-        let count = least_slots(slots, values + n)?;
-        let blank = Blank::with_slots(self.alloc, count)?;
+        let least = least_slots(slots, values + n)?;
+        let blank = Blank::with_slots(self.alloc, least)?;
         Ok(Spare { blank })
     }
 

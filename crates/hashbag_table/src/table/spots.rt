@@ -3,12 +3,12 @@ ghost use Rattle.std.specs.Prelude.{◌≡◌, ◌+◌, ◌-◌, ◌<◌, ◌≤
 ghost use Rattle.std.specs.List.Sorted.{IsPermutation};
 ghost use Rattle.hashbag_slots.specs.FirstGroup.{IfFound, IfAbsent};
 ghost use Rattle.hashbag_slots.specs.Hashing.{hash_under};
-ghost use Rattle.hashbag_slots.specs.Slots.{IsPlaceOf, is_live, HoldsAt, IsAbsent, IsFirstFree, recounted, holds, slot_at, count_in};
-ghost use Rattle.hashbag_slots.specs.Columns.{IsReached, IsAlike};
+ghost use Rattle.hashbag_slots.specs.Slots.{IsEntryPlace, is_live, HoldsAt, IsAbsent, IsFirstFree, recounted, holds, slot_at, count_in};
+ghost use Rattle.hashbag_slots.specs.Columns.{IsReached, HashesAlike};
 ghost use Rattle.hashbag_table.specs.Entries.{entry_of, IsCounted};
 ghost use Rattle.hashbag_table.specs.Named.{named_entry};
 ghost use Rattle.hashbag_table.specs.Tables.{slot_in, HoldsIn, IfEntry, Writes, Swaps};
-ghost use Rattle.hashbag_table.specs.Table.{IsSpotOf};
+ghost use Rattle.hashbag_table.specs.Table.{IsEntrySpot};
 
 use crate::table::{Spot, Table};
 use hashbag_slots::key::Key;
@@ -20,7 +20,7 @@ fn store_once<T: Eq>(slots: &mut Slots<T>, place: usize, value: T) -> T
     requires equal { holds (T.eq value) (slot_at slots.old.slots place) ≡ true }
     ensures former { slot_at slots.old.slots place ≡ Slot.Live result (count_in (slot_at slots.old.slots place)) }
     ensures after { slots.new.slots ≡ slice_set slots.old.slots place (Slot.Live value 1) }
-    ensures reached { (hash : T → ℕ) → IsAlike T.eq hash → IsReached hash slots.old → IsReached hash slots.new }
+    ensures reached { (hash : T → ℕ) → HashesAlike T.eq hash → IsReached hash slots.old → IsReached hash slots.new }
 {
     let former = slots.put_at(place, value);
     slots.set_at(place, 1);
@@ -37,11 +37,11 @@ fn find_waiting<T: Eq + Hash, S: BuildHasher, Q: Key<T>>(
     key: Q,
 ) -> Option<usize>
     requires within { carried_to ≤ length older.now.slots }
-    requires dead { (p : ℕ) → p < carried_to → is_live (slot_at older.now.slots p) ≡ false }
+    requires not_live { (p : ℕ) → p < carried_to → is_live (slot_at older.now.slots p) ≡ false }
     requires hashed { hash ≡ hash_under Q.hash_input S.BuildHasher S.Hasher.Hasher state.now key }
     requires reached { IsReached (hash_under T.hash_input S.BuildHasher S.Hasher.Hasher state.now) older.now }
     ensures found { IfSome result (HoldsAt (Q.names key) older.now.slots) }
-    ensures map { IsPlaceOf (Q.names key) older.now.slots result }
+    ensures map { IsEntryPlace (Q.names key) older.now.slots result }
 {
     if older.slots() == 0 {
         return None;
@@ -85,7 +85,7 @@ impl<T: Eq + Hash + Drop, S: BuildHasher + Drop> Table<T, S> {
     fn waiting_spot<Q: Key<T>>(&self, hash: u64, key: Q) -> Option<Spot>
         requires hashed { hash ≡ hash_under Q.hash_input S.BuildHasher S.Hasher.Hasher self.now.hasher key }
         requires absent { IsAbsent (Q.names key) self.now.tables.newer }
-        ensures map { IsSpotOf (Q.names key) self.now result }
+        ensures map { IsEntrySpot (Q.names key) self.now result }
         ensures held { IfSome result (HoldsIn (Q.names key) self.now.tables) }
     {
         match find_waiting(&self.older, self.carried_to, &self.hasher, hash, key) {
@@ -98,11 +98,11 @@ impl<T: Eq + Hash + Drop, S: BuildHasher + Drop> Table<T, S> {
     #[inline(always)]
     pub(super) fn spot_of<Q: Key<T>>(&self, hash: u64, key: Q) -> Option<Spot>
         requires hashed { hash ≡ hash_under Q.hash_input S.BuildHasher S.Hasher.Hasher self.now.hasher key }
-        ensures map { IsSpotOf (Q.names key) self.now result }
+        ensures map { IsEntrySpot (Q.names key) self.now result }
         ensures held { IfSome result (HoldsIn (Q.names key) self.now.tables) }
         ensures counted { IsCounted T.eq self.now.entries }
     {
-        self.held();
+        self.show_invariant();
         if let Some(place) = self.newer.find_hashed(&self.hasher, hash, key) {
             return Some(Spot::Newer(place));
         }
@@ -120,7 +120,7 @@ impl<T: Eq + Hash + Drop, S: BuildHasher + Drop> Table<T, S> {
     ) -> Option<Spot>
         requires hashed { hash ≡ hash_under Q.hash_input S.BuildHasher S.Hasher.Hasher self.now.hasher key }
         requires shown { IfAbsent first (λ _. IsAbsent (Q.names key) self.now.tables.newer) }
-        ensures map { IsSpotOf (Q.names key) self.now result }
+        ensures map { IsEntrySpot (Q.names key) self.now result }
         ensures held { IfSome result (HoldsIn (Q.names key) self.now.tables) }
     {
         if let FirstGroup::Absent(_) = first {
@@ -133,13 +133,13 @@ impl<T: Eq + Hash + Drop, S: BuildHasher + Drop> Table<T, S> {
     #[inline(always)]
     pub(super) fn probe_first_group<Q: Key<T>>(&self, hash: u64, key: Q) -> FirstGroup
         requires hashed { hash ≡ hash_under Q.hash_input S.BuildHasher S.Hasher.Hasher self.now.hasher key }
-        ensures map { IfFound result (λ p. IsSpotOf (Q.names key) self.now (Some (Spot.Newer p))) }
+        ensures map { IfFound result (λ p. IsEntrySpot (Q.names key) self.now (Some (Spot.Newer p))) }
         ensures held { IfFound result (λ p. HoldsIn (Q.names key) self.now.tables (Spot.Newer p)) }
         ensures absent { IfAbsent result (λ _. IsAbsent (Q.names key) self.now.tables.newer) }
         ensures free { IfAbsent result (IsFirstFree hash self.now.tables.newer) }
         ensures counted { IsCounted T.eq self.now.entries }
     {
-        self.held();
+        self.show_invariant();
         self.newer.probe_first_group(&self.hasher, hash, key)
     }
 

@@ -2,7 +2,7 @@
 //! found by hand.
 use hashbag::{FixedState, HashBag};
 use hashbag_callers::hall::Hall;
-use hashbag_callers::list_uses::{both_lists, commonest, take_each};
+use hashbag_callers::list_uses::{both_lists, most_common_value, take_each};
 use hashbag_callers::text_uses::{count_texts, strike_out};
 use hashbag_callers::transfers::{TransferError, transfer, transfer_clone};
 use std::alloc::Global;
@@ -50,8 +50,8 @@ const LISTS: &str = "
     [] | [9, 9] | [0, 0, 2] | 0 [0, 0, 0]
     [3, 9, 3] | [3, 3, 5, 3] | [5, 1, 1] | 2 [0, 0, 1]";
 
-// A list, and its commonest value: the least if several occur equally often.
-const COMMONEST: &str = "
+// A list, and its most common value: the least if several occur equally often.
+const MOST_COMMON: &str = "
     [] = None
     [5] = Some(5)
     [5, 3, 3] = Some(3)
@@ -228,14 +228,14 @@ fn lists_go_in_and_out(rt: HostRuntime) -> Result<(), Fail> {
 
 fn commonest_of(alloc: Global, row: &str) -> Result<(), Fail> {
     let (list, want) = halves(row, " = ")?;
-    let found = commonest(alloc, values(alloc, list)?)?;
+    let found = most_common_value(alloc, values(alloc, list)?)?;
     is_text(debug_of(alloc, &found)?.as_str(), want)
 }
 
 #[test]
 fn commonest_values(rt: HostRuntime) -> Result<(), Fail> {
     let alloc = rt.alloc();
-    for row in rows_of(alloc, COMMONEST)? {
+    for row in rows_of(alloc, MOST_COMMON)? {
         row.tested(commonest_of(alloc, row.text))?;
     }
     Ok(())

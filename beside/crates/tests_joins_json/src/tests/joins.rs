@@ -85,7 +85,7 @@ fn step_text(
     }
 }
 
-// So many steps of a join, which is then dropped.
+// Takes this many steps of a join, which is then dropped.
 fn text_of_steps<I: Iterator + Drop>(alloc: Global, join: I, steps: usize) -> Result<String, Fail>
 where
     I::Item: Drop,

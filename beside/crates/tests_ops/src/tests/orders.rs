@@ -12,7 +12,7 @@ use tests_kit::states::CountingState;
 use tests_kit::texts::{count, debug_of, halves, is_text};
 use tests_kit::{IdentityState, OneState, ParityState, rows_of};
 
-// `-` for all pairs, values in ascending order, or how many of the commonest; the bag; the pairs.
+// `-` for all pairs, values in ascending order, or how many of the most common; the bag; the pairs.
 const ROWS: &str = "
     - | |
     - | 5:2 | 5:2
@@ -59,7 +59,7 @@ const WORDS: &str = r#"
     9 | the cat sat on the mat the | [("the", 3), ("cat", 1), ("mat", 1), ("on", 1), ("sat", 1)]
     2 | b a c b a c | [("a", 2), ("b", 2)]"#;
 
-// A bag, and how often its commonest values occur.
+// A bag, and how often its most common values occur.
 const GREATEST: &str = "
     | 0
     5:2 | 2
@@ -79,8 +79,8 @@ fn rising<T: Ord + Hash + Debug + Drop, S: BuildHasher + Drop>(
     debug_of(alloc, &pairs)
 }
 
-// The text of the `k` commonest.
-fn commonest<T: Ord + Hash + Debug + Drop, S: BuildHasher + Drop>(
+// The text of the `k` most common values.
+fn most_common_text<T: Ord + Hash + Debug + Drop, S: BuildHasher + Drop>(
     alloc: Global,
     bag: &HashBag<T, S>,
     k: usize,
@@ -98,7 +98,7 @@ fn ordered<T: Ord + Hash + Debug + Drop, S: BuildHasher + Drop>(
     if word == "-" {
         return rising(alloc, bag);
     }
-    commonest(alloc, bag, count(word)?)
+    most_common_text(alloc, bag, count(word)?)
 }
 
 fn is_ordered<S: BuildHasher + Default + Drop>(alloc: Global, row: &str) -> Result<(), Fail> {

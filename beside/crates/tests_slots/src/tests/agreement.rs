@@ -1,5 +1,5 @@
 //! A table against a plain list of counts, through many calls under a hash that spreads its values.
-use crate::tests::checks::answers;
+use crate::tests::checks::returns;
 use crate::tests::held::Held;
 use std::hash::{BuildHasherDefault, FoldHasher};
 use std::process::Abort;
@@ -20,9 +20,9 @@ fn next_number(number: u64) -> u64 {
 // Adds one of a value, and checks the count before.
 fn insert(rt: &impl Abort, table: &mut Numbers, value: u64, before: usize) {
     if before == 0 {
-        answers(rt, "place", value, &table.place(value, 1), &true);
+        returns(rt, "place", value, &table.place(value, 1), &true);
     } else {
-        answers(rt, "add", value, &table.add(&value, 1), &before);
+        returns(rt, "add", value, &table.add(&value, 1), &before);
     }
 }
 
@@ -33,7 +33,7 @@ fn take(rt: &impl Abort, table: &mut Numbers, value: u64, before: usize) {
     } else {
         Some((value, before))
     };
-    answers(rt, "take", value, &table.take(&value), &wanted);
+    returns(rt, "take", value, &table.take(&value), &wanted);
 }
 
 // How many values have a count.
@@ -51,18 +51,18 @@ fn live_of(counts: &[usize; VALUES]) -> usize {
 fn finds_all(rt: &impl Abort, table: &Numbers, counts: &[usize; VALUES]) {
     for value in 0..VALUES {
         let key = value as u64;
-        answers(rt, "count", key, &table.count(&key), &counts[value]);
+        returns(rt, "count", key, &table.count(&key), &counts[value]);
     }
 }
 
 // Checks the counts of all values by a walk.
 fn walks_over_all(rt: &impl Abort, table: &Numbers, none: &Numbers, counts: &[usize; VALUES]) {
     let live = live_of(counts);
-    answers(rt, "live", 0, &table.slots.live(), &live);
-    answers(rt, "walk", 0, &table.slots.walk(&none.slots).len(), &live);
+    returns(rt, "live", 0, &table.slots.live(), &live);
+    returns(rt, "walk", 0, &table.slots.walk(&none.slots).len(), &live);
     for (value, count) in table.slots.walk(&none.slots) {
         let wanted = counts.get(*value as usize).copied();
-        answers(rt, "walk", *value, &Some(count), &wanted);
+        returns(rt, "walk", *value, &Some(count), &wanted);
     }
 }
 

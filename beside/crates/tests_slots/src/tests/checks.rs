@@ -3,6 +3,6 @@ use std::fmt::Debug;
 use std::process::Abort;
 
 /// Checks what a call on a value, or with a number, returns.
-pub fn answers<T: PartialEq + Debug>(rt: &impl Abort, call: &str, value: u64, got: &T, wanted: &T) {
+pub fn returns<T: PartialEq + Debug>(rt: &impl Abort, call: &str, value: u64, got: &T, wanted: &T) {
     assert_eq!(rt; *got, *wanted, "{call} {value}");
 }

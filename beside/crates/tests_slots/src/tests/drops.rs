@@ -1,7 +1,7 @@
 //! Each value is dropped once: by its taker, by a table that is cleared or dropped, or by a walk.
 use crate::constant::Constant;
 use crate::counted::Counted;
-use crate::tests::checks::answers;
+use crate::tests::checks::returns;
 use crate::tests::held::Held;
 use crate::tests::pair::Pair;
 use hashbag_slots::walk::IntoWalk;
@@ -74,7 +74,7 @@ fn is_dropped_by_its_taker<'a>(
 ) {
     let taken = take(table, probes, key);
     has_dropped(rt, "a take", drops, before);
-    answers(rt, "take", key, &taken.is_some(), &true);
+    returns(rt, "take", key, &taken.is_some(), &true);
     drop(taken);
     has_dropped(
         rt,
@@ -98,7 +98,7 @@ fn by_the_taker(rt: HostRuntime) -> Result<(), Fail> {
 
 fn place<'a>(rt: &impl Abort, table: &mut Values<'a>, drops: &'a Cell<usize>, key: u64) {
     let value = Counted { key, tag: 1, drops };
-    answers(rt, "place", key, &table.place(value, 1), &true);
+    returns(rt, "place", key, &table.place(value, 1), &true);
 }
 
 // A slot that was Removed is used again: its first value was dropped long ago.
@@ -121,7 +121,7 @@ fn put_gives_former<'a>(rt: &impl Abort, table: &mut Values<'a>, drops: &'a Cell
         tag: 7,
         drops,
     });
-    answers(rt, "put", 2, &former.tag, &1);
+    returns(rt, "put", 2, &former.tag, &1);
     has_dropped(rt, "a put", drops, 0);
     drop(former);
     has_dropped(rt, "the drop of the former", drops, 1);
@@ -142,7 +142,7 @@ fn of_another_instance(rt: HostRuntime) -> Result<(), Fail> {
     let mut table = values(&rt, rt.alloc(), &drops, 3)?;
     put_gives_former(&rt, &mut table, &drops);
     let taken = take(&mut table, &probes, 2);
-    answers(&rt, "take", 2, &tag_and_count(&taken), &Some((7, 2)));
+    returns(&rt, "take", 2, &tag_and_count(&taken), &Some((7, 2)));
     drop(taken);
     drop(table);
     has_dropped(&rt, "the drop of the table", &drops, 4);
@@ -192,7 +192,7 @@ fn by_walks(rt: HostRuntime) -> Result<(), Fail> {
 fn carry_half_way(rt: &impl Abort, alloc: Global, carried: usize) -> Result<(), AllocError> {
     let drops = Cell::new(0);
     let mut pair = Pair::new(alloc, values(rt, alloc, &drops, 4)?, 5)?;
-    answers(rt, "carry", carried as u64, &pair.carry(carried), &carried);
+    returns(rt, "carry", carried as u64, &pair.carry(carried), &carried);
     has_dropped(rt, "a carry", &drops, 0);
     drop(pair);
     has_dropped(rt, "the drop of two tables", &drops, 4);

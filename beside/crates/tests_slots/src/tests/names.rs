@@ -1,5 +1,5 @@
 //! Values that own memory.
-use crate::tests::checks::answers;
+use crate::tests::checks::returns;
 use crate::tests::held::Held;
 use crate::tests::pair::Pair;
 use std::alloc::{AllocError, Global};
@@ -44,7 +44,7 @@ fn has_count(
     wanted: usize,
 ) -> Result<(), AllocError> {
     let owned = String::from_str(alloc, name)?;
-    answers(rt, name, 0, &table.count(&owned), &wanted);
+    returns(rt, name, 0, &table.count(&owned), &wanted);
     Ok(())
 }
 
@@ -89,9 +89,9 @@ fn are_carried(rt: HostRuntime) -> Result<(), Fail> {
     let table = eight_names(&rt, rt.alloc())?;
     let mut pair = Pair::new(rt.alloc(), table, 5)?;
     for looked in [7, 14, 16] {
-        answers(&rt, "carry", 7, &pair.carry(7), &looked);
+        returns(&rt, "carry", 7, &pair.carry(7), &looked);
         let live = pair.newer.live().saturating_add(pair.older.live());
-        answers(&rt, "live", 0, &live, &8);
+        returns(&rt, "live", 0, &live, &8);
     }
     for (value, count) in pair.newer.walk(&pair.older) {
         assert_eq!(&rt; value.len().min(99) + 1, count, "of {value}");

@@ -217,7 +217,7 @@ const PAST_THE_LAST_SLOT: &str = "\
     find 2 = (Some(15), None)
     find 3 = (Some(0), None)";
 
-// A table of so many slots, all Empty.
+// A table of this many slots, all Empty.
 fn table_of(alloc: Global, slots: u64, hash: u64) -> Option<Numbers> {
     let state = Constant { hash };
     match slots {

@@ -1,5 +1,5 @@
 //! Walks over two tables: of so few slots each all are of one pass, so the newer table's values come first, in the order of their places.
-use crate::tests::checks::answers;
+use crate::tests::checks::returns;
 use crate::tests::places::{Numbers, numbers};
 use hashbag_slots::walk::{IntoWalk, Walk};
 use std::process::Abort;
@@ -17,14 +17,14 @@ fn next_of(walk: &mut Walk<'_, u64>) -> Option<(u64, usize)> {
 fn gives(rt: &impl Abort, mut walk: Walk<'_, u64>, wanted: &[(u64, usize)]) {
     let mut left = wanted.len();
     for entry in wanted {
-        answers(
+        returns(
             rt,
             "hint before",
             entry.0,
             &walk.size_hint(),
             &(left, Some(left)),
         );
-        answers(
+        returns(
             rt,
             "next before",
             entry.0,
@@ -33,9 +33,9 @@ fn gives(rt: &impl Abort, mut walk: Walk<'_, u64>, wanted: &[(u64, usize)]) {
         );
         left = left.saturating_sub(1);
     }
-    answers(rt, "length after", 0, &walk.len(), &0);
+    returns(rt, "length after", 0, &walk.len(), &0);
     for again in 0..2 {
-        answers(rt, "next after all", again, &next_of(&mut walk), &None);
+        returns(rt, "next after all", again, &next_of(&mut walk), &None);
     }
 }
 
@@ -66,7 +66,7 @@ fn lent(rt: HostRuntime) -> Result<(), Fail> {
     table_gives(&rt, &none, &table, &[(2, 2), (3, 3), (4, 4), (1, 1)]);
     both_give(&rt, &table, &none, &[(3, 3), (4, 4), (1, 1)])?;
     both_give(&rt, &none, &table, &[(3, 3), (4, 4), (1, 1)])?;
-    answers(&rt, "take", 3, &table.take(&3), &Some((3, 3)));
+    returns(&rt, "take", 3, &table.take(&3), &Some((3, 3)));
     let older = numbers(rt.alloc(), 7, 1)?;
     table_gives(&rt, &table, &older, &[(2, 2), (4, 4), (1, 1), (1, 1)]);
     Ok(())
@@ -75,19 +75,19 @@ fn lent(rt: HostRuntime) -> Result<(), Fail> {
 // Checks what an owning walk has left, and how many.
 fn rest_gives(rt: &impl Abort, walk: &IntoWalk<u64>, wanted: &[(u64, usize)]) {
     let left = wanted.len();
-    answers(
+    returns(
         rt,
         "hint of the rest",
         0,
         &walk.size_hint(),
         &(left, Some(left)),
     );
-    answers(rt, "length of the rest", 0, &walk.len(), &left);
+    returns(rt, "length of the rest", 0, &walk.len(), &left);
     gives(rt, walk.rest(), wanted);
 }
 
 fn next_is(rt: &impl Abort, walk: &mut IntoWalk<u64>, wanted: Option<(u64, usize)>) {
-    answers(rt, "next of the owning walk", 0, &walk.next(), &wanted);
+    returns(rt, "next of the owning walk", 0, &walk.next(), &wanted);
 }
 
 #[test]

@@ -10,7 +10,7 @@ use tests_kit::calls::{insert, make_calls};
 use tests_kit::texts::{debug_of, is_text_of};
 use tests_kit::{IdentityState, OneState, ParityState};
 
-// So many distinct values leave 16 slots that wait.
+// This many distinct values leave 16 slots that wait.
 const VALUES: usize = 25;
 
 // The values that the walks give, in ascending order.
@@ -63,7 +63,7 @@ fn are_all<T: Ord + Debug + Copy>(alloc: Global, walk: &str, got: Vec<T>) -> Res
     is_text_of(walk, debug_of(alloc, &got)?.as_str(), ALL)
 }
 
-// So many items of a walk.
+// This many items of a walk.
 fn first_items<I: ExactSizeIterator>(
     rt: &impl Abort,
     alloc: Global,
@@ -86,7 +86,7 @@ where
     Ok(got)
 }
 
-// So many items, and then the others, of a clone.
+// This many items, and then the others, of a clone.
 fn items<S: BuildHasher + Drop>(
     rt: &impl Abort,
     alloc: Global,
@@ -101,7 +101,7 @@ fn items<S: BuildHasher + Drop>(
     are_all(alloc, "iter", got)
 }
 
-// So many values, and then the others, of a clone.
+// This many values, and then the others, of a clone.
 fn values<S: BuildHasher + Drop>(
     rt: &impl Abort,
     alloc: Global,

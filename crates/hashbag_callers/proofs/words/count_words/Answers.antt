@@ -16,9 +16,9 @@ returns-clause-counts g c =
     let eq = g.T.PartialEq.eq in
     IfOk-weaker c.from_iter.result (λ bag. InsertsAll eq into_iter_steps Once c.into_iter.result (empty_bag bag.hasher) bag) (λ bag. (v : g.row.T.Denot) → count eq v bag.items ≡ count eq v c.args.words.items)
     (λ bag h v.
-    let came = sym (map-id h.items) ∙ items_that_came h.items h.came (YieldsList-from_vec {s = c.into_iter.result} c.args.words.items (search rules) (search rules)) in
+    let came = sym (map-id h.items) ∙ items_that_came h.items h.yielded (YieldsList-from_vec {s = c.into_iter.result} c.args.words.items (search rules) (search rules)) in
     let whole = count_extended g.met.T.Eq.laws v [] h.pairs bag (all_added g.met.T.Eq.laws h).means in
-    let each = count_once g.met.T.Eq.laws v h.items h.pairs h.went ∙ ap (λ (l : List g.row.T.Denot). count eq v l) came in
+    let each = count_once g.met.T.Eq.laws v h.items h.pairs h.as_pairs ∙ ap (λ (l : List g.row.T.Denot). count eq v l) came in
     omega arith)
     c.from_iter.ensures.all
 
@@ -28,6 +28,6 @@ returns-clause-len g c =
     IfOk-weaker c.from_iter.result (λ bag. InsertsAll eq into_iter_steps Once c.into_iter.result (empty_bag bag.hasher) bag) (λ bag. length bag.items ≡ length c.args.words.items)
     (λ bag h.
     let long : length bag.items ≡ 0 + length h.items = longer_by_items h (λ x p is. ap (λ (q : g.row.T.Denot × ℕ). q.1) is) in
-    let came = ap (λ (l : List g.row.T.Denot). length l) (sym (map-id h.items) ∙ items_that_came h.items h.came (YieldsList-from_vec {s = c.into_iter.result} c.args.words.items (search rules) (search rules))) in
+    let came = ap (λ (l : List g.row.T.Denot). length l) (sym (map-id h.items) ∙ items_that_came h.items h.yielded (YieldsList-from_vec {s = c.into_iter.result} c.args.words.items (search rules) (search rules))) in
     omega (arith, long, came))
     c.from_iter.ensures.all

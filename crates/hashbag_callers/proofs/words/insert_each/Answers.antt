@@ -5,7 +5,7 @@ use Rattle.std.proofs.Math.Seq.{take-length}
 use Rattle.hashbag.specs.declared.BagError.{BagError}
 use Rattle.hashbag.specs.declared.BagError.TheVariants.{Memory}
 use Rattle.hashbag.specs.Occurrences.{count}
-use Rattle.hashbag.proofs.CallerLemmas.{count_inserted_any, count_take_next, refused_for_memory}
+use Rattle.hashbag.proofs.CallerLemmas.{count_inserted_any, count_take_next, fails_for_memory}
 use Rattle.hashbag_callers.proofs.words.insert_each.Goals as goal
 
 pub loop-word-preserved : goal.loop-word-preserved
@@ -31,5 +31,5 @@ returns-in_err-insert-clause-only_memory g c = λ fits.
     let long = c.loop-word.invariant.len in
     let limit = c.loop-word.invariant.limit in
     let next = c.loop-word-test.true in
-    let is : c.in_err-insert.field-0.0 ≡ Memory = refused_for_memory nat_eq c.loop-word.bag _ 1 (let r : Result ℕ BagError = Err c.in_err-insert.field-0.0 in r) c.in_err-insert.ensures.refused (omega (arith, long, limit, next, fits)) in
+    let is : c.in_err-insert.field-0.0 ≡ Memory = fails_for_memory nat_eq c.loop-word.bag _ 1 (let r : Result ℕ BagError = Err c.in_err-insert.field-0.0 in r) c.in_err-insert.ensures.fails (omega (arith, long, limit, next, fits)) in
     rw (error.1, error.2) is

@@ -6,14 +6,14 @@ use Rattle.hashbag_csv.specs.Sheets.{is_short_allowed, left, width_of}
 use Rattle.hashbag_csv.specs.declared.fault.SheetError.{SheetError}
 use Rattle.hashbag_csv.proofs.bad_lines.bad_lines_left.Given as goal
 
--- the records so far, and what is said of each
+-- the records so far, and the check of each
 abbrev pub invariant-lines : goal.invariant-lines
 invariant-lines g l = record {
   read : List Record;
-  said : List (Option SheetError);
+  checks : List (Option SheetError);
   all : left l.fn.sheet ≡ read ++ left l.sheet;
-  each : AreChecks (IsCheckOf l.scale (form_of l.columns).number (number_place l.columns) (is_short_allowed l.fn.sheet) (width_of l.fn.sheet)) read said;
-  named : l.errors.items ≡ errors_in said;
+  each : AreChecks (IsCheckOf l.scale (form_of l.columns).number (number_place l.columns) (is_short_allowed l.fn.sheet) (width_of l.fn.sheet)) read checks;
+  named : l.errors.items ≡ errors_in checks;
   few : length l.errors.items ≤ l.max_errors;
   width : width_of l.sheet ≡ width_of l.fn.sheet;
   short : is_short_allowed l.sheet ≡ is_short_allowed l.fn.sheet;

@@ -26,4 +26,4 @@ returns-in_err-extend_many-clause-only_memory g c = λ fits.
     let laws = g.met.T.Eq.laws in
     only_memory laws (YieldsList-from_vec {s = c.into_iter.result} c.args.list.items (search rules) (search rules)) fits c.from_residual.result
     (handed_on c.from_residual.result c.in_err-extend_many.field-0.0 _ _ (λ x is. cc) c.from_residual.ensures.1
-    (c.extend_many.new.self, some_made laws {after = c.extend_many.new.self} c.with_hasher-bag.ensures.empty c.with_hasher-bag.ensures.slots c.with_hasher-bag.ensures.limit c.in_err-extend_many.ensures.refused))
+    (c.extend_many.new.self, some_made laws {after = c.extend_many.new.self} c.with_hasher-bag.ensures.empty c.with_hasher-bag.ensures.slots c.with_hasher-bag.ensures.limit c.in_err-extend_many.ensures.fails))

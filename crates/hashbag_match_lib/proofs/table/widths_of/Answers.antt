@@ -3,7 +3,7 @@ use Rattle.std.proofs.Math.Nat.{max_comm}
 use Rattle.std.proofs.lemmas.List.{map-append, take_more}
 use Rattle.hashbag_csv.specs.Readers.{Record}
 use Rattle.hashbag_match_lib.specs.Shown.{Entry, entry_of}
-use Rattle.hashbag_match_lib.specs.Tables.{cell_bytes, cells_of}
+use Rattle.hashbag_match_lib.specs.Tables.{cell_bytes, cells_in}
 use Rattle.hashbag_match_lib.specs.Widths.{column_width, width_of}
 use Rattle.hashbag_match_lib.specs.declared.matching.Row.{Row}
 use Rattle.hashbag_match_lib.specs.declared.shown.Fields.{Fields}
@@ -26,12 +26,12 @@ loop-row-preserved c = λ k.
     let titles = cell_bytes c.args.titles.now in
     let cells = cell_bytes c.in_ok-cells.cells in
     let before = take index rows in
-    let so_far = titles ∷ map (cells_of scale) (map entry_of before) in
+    let so_far = titles ∷ map (cells_in scale) (map entry_of before) in
     let next : take (index + 1) rows ≡ before ++ row ∷ [] = take_more rows index row c.loop-row-test.true ∙ ap (λ (r : Row Fields). before ++ r ∷ []) (sym c.row-item.is) in
-    let lines : map (cells_of scale) (map entry_of (take (index + 1) rows)) ≡ map (cells_of scale) (map entry_of before) ++ cells ∷ [] =
-    ap (λ (l : List (Row Fields)). map (cells_of scale) (map entry_of l)) next
-    ∙ ap (λ (l : List Entry). map (cells_of scale) l) (map-append entry_of before (row ∷ []))
-    ∙ map-append (cells_of scale) (map entry_of before) (entry_of row ∷ [])
-    ∙ ap (λ (made : Record). map (cells_of scale) (map entry_of before) ++ made ∷ []) (sym c.in_ok-cells.ensures) in
+    let lines : map (cells_in scale) (map entry_of (take (index + 1) rows)) ≡ map (cells_in scale) (map entry_of before) ++ cells ∷ [] =
+    ap (λ (l : List (Row Fields)). map (cells_in scale) (map entry_of l)) next
+    ∙ ap (λ (l : List Entry). map (cells_in scale) l) (map-append entry_of before (row ∷ []))
+    ∙ map-append (cells_in scale) (map entry_of before) (entry_of row ∷ [])
+    ∙ ap (λ (made : Record). map (cells_in scale) (map entry_of before) ++ made ∷ []) (sym c.in_ok-cells.ensures) in
     c.in_ok-widths-2.ensures k ∙ ap (λ (w : ℕ). max w (width_of (get_or cells k []))) (c.loop-row.invariant k)
     ∙ sym (column_width_more so_far cells k) ∙ sym (ap (λ (l : List Record). column_width (titles ∷ l) k) lines)

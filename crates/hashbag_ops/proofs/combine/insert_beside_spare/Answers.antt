@@ -60,7 +60,7 @@ unwrap-requires-then-has_no_room_for g c =
     let less = (went.less_room (omega (arith, few, room))).room in
     let same = went.added.limit in
     let longer = went.len in
-    takes_rest g.met.T.Eq.laws c.next.new.self c.insert_many.new.self c.extend_many.new.self c.extend_many.result c.extend_many.ensures.refused (YieldsList-from_first (λ x. x) (λ s. s) c.next.new.self refl)
+    takes_rest g.met.T.Eq.laws c.next.new.self c.insert_many.new.self c.extend_many.new.self c.extend_many.result c.extend_many.ensures.fails (YieldsList-from_first (λ x. x) (λ s. s) c.next.new.self refl)
     (omega (arith, few, room, less)) (omega (arith, fits, limit, len, same, longer))
 
 pub returns-then-has_no_room_for-clause-counts : goal.returns-then-has_no_room_for-clause-counts
@@ -103,7 +103,7 @@ pub unwrap-requires-in-Some : goal.unwrap-requires-in-Some
 unwrap-requires-in-Some g c =
     let left = has_left g (goal.at.unwrap-requires-in-Some g c).In-Some in
     let fits = left.fits in
-    takes_one g.met.T.Eq.laws c.pairs.into c.in-Some.value c.in-Some.n c.insert_many-in-Some.result (omega (arith, fits)) c.insert_many-in-Some.ensures.refused
+    takes_one g.met.T.Eq.laws c.pairs.into c.in-Some.value c.in-Some.n c.insert_many-in-Some.result (omega (arith, fits)) c.insert_many-in-Some.ensures.fails
     (c.has_no_room_for.ensures.there c.if-has_no_room_for.false)
 
 pub pairs-preserved : goal.pairs-preserved

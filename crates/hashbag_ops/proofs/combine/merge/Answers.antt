@@ -7,7 +7,7 @@ use Rattle.hashbag_ops.proofs.Sums.{takes_pairs}
 use Rattle.hashbag_ops.proofs.combine.merge.Goals.{After-unwrap}
 use Rattle.hashbag_ops.proofs.combine.merge.Goals as goal
 
--- no pair is refused
+-- no pair fails
 pub unwrap-requires : goal.unwrap-requires
 unwrap-requires g c =
     let walk = c.into_iter.ensures.into_iter_gives in
@@ -16,7 +16,7 @@ unwrap-requires g c =
     let limit = c.in_ok-make_room.ensures.limit in
     takes_pairs g.met.T.Eq.laws c.make_room.new.into c.extend_many.new.self c.extend_many.result c.args.into.now.items
     (λ v some. let kept = c.in_ok-make_room.ensures.counts v in omega (arith, kept, some))
-    c.extend_many.ensures.refused (YieldsList-from_first (λ x. x) (λ s. s) c.into_iter.result refl)
+    c.extend_many.ensures.fails (YieldsList-from_first (λ x. x) (λ s. s) c.into_iter.result refl)
     (c.in_ok-make_room.ensures.room c.into_iter.result walk) (omega (arith, same, limit, total))
 
 -- the pairs of the walk were inserted in turn

@@ -18,13 +18,13 @@ returns g c =
     let B = c.in_ok-part.part in
     let a = c.in_ok-whole.ensures.all in
     let b = c.in_ok-part.ensures.all in
-    let came_first = sym (map-id a.items) ∙ items_that_came a.items a.came (YieldsList-from_vec {s = c.into_iter.result} X (search rules) (search rules)) in
-    let came_second = sym (map-id b.items) ∙ items_that_came b.items b.came (YieldsList-from_vec {s = c.into_iter-2.result} Y (search rules) (search rules)) in
+    let came_first = sym (map-id a.items) ∙ items_that_came a.items a.yielded (YieldsList-from_vec {s = c.into_iter.result} X (search rules) (search rules)) in
+    let came_second = sym (map-id b.items) ∙ items_that_came b.items b.yielded (YieldsList-from_vec {s = c.into_iter-2.result} Y (search rules) (search rules)) in
     λ v.
     let first : count eq v A.items ≡ 0 + count eq v X =
-    count_extended laws v [] a.pairs A (all_added laws a).means ∙ ap (λ (n : ℕ). 0 + n) (count_once laws v a.items a.pairs a.went ∙ ap (λ (l : List g.row.T.Denot). count eq v l) came_first) in
+    count_extended laws v [] a.pairs A (all_added laws a).means ∙ ap (λ (n : ℕ). 0 + n) (count_once laws v a.items a.pairs a.as_pairs ∙ ap (λ (l : List g.row.T.Denot). count eq v l) came_first) in
     let second : count eq v B.items ≡ 0 + count eq v Y =
-    count_extended laws v [] b.pairs B (all_added laws b).means ∙ ap (λ (n : ℕ). 0 + n) (count_once laws v b.items b.pairs b.went ∙ ap (λ (l : List g.row.T.Denot). count eq v l) came_second) in
+    count_extended laws v [] b.pairs B (all_added laws b).means ∙ ap (λ (n : ℕ). 0 + n) (count_once laws v b.items b.pairs b.as_pairs ∙ ap (λ (l : List g.row.T.Denot). count eq v l) came_second) in
     let sum : count eq v c.merge.new.into.items ≡ count eq v A.items + count eq v B.items = c.in_ok-merge.ensures.counts v in
     let parts = count_append laws v X Y in
     omega (arith, first, second, sum, parts)

@@ -22,7 +22,7 @@ pub returns-in-Remove-clause-turns : goal.returns-in-Remove-clause-turns
 returns-in-Remove-clause-turns g c = rw c.in-Remove.is (sets_fewer g.met.T.Eq.laws c.in-Remove.value c.args.bag.now c.remove.new.self 1 c.remove.ensures.fewer)
 
 pub returns-in-RemoveUpTo-clause-turns : goal.returns-in-RemoveUpTo-clause-turns
-returns-in-RemoveUpTo-clause-turns g c = rw c.in-RemoveUpTo.is (sets_fewer g.met.T.Eq.laws c.in-RemoveUpTo.value c.args.bag.now c.remove_up_to.new.self c.in-RemoveUpTo.quantity c.remove_up_to.ensures.fewer)
+returns-in-RemoveUpTo-clause-turns g c = rw c.in-RemoveUpTo.is (sets_fewer g.met.T.Eq.laws c.in-RemoveUpTo.value c.args.bag.now c.remove_up_to.new.self c.in-RemoveUpTo.n c.remove_up_to.ensures.fewer)
 
 pub returns-in-TryTake-clause-turns : goal.returns-in-TryTake-clause-turns
 returns-in-TryTake-clause-turns g c = rw c.in-TryTake.is c.try_take.ensures.tables

@@ -4,8 +4,8 @@ use Rattle.std.proofs.lemmas.List.{append-nil, nil_from_length}
 use Rattle.std.proofs.lemmas.List.Sorted.{IsPermutation-sym, IsPermutation-trans}
 use Rattle.hashbag_table.proofs.EntryLemmas.{OnErr-from}
 use Rattle.hashbag_core.specs.Bag.{Means}
-use Rattle.hashbag_script.specs.Pairs.{ran, HasNoRoom, IsRunCutOff}
-use Rattle.hashbag_script.specs.Script.{step as step_of, run as run_of, limit_left, newcomers, AsksForMemory, is_about_room, IsRoomy, IsStopped}
+use Rattle.hashbag_script.specs.Pairs.{ran, HasNoRoom, IsNotBegunOrStopped}
+use Rattle.hashbag_script.specs.Script.{step as step_of, run as run_of, limit_left, newcomers, MayAllocate, reserves_or_shrinks, IsRoomy, IsStoppedFrom}
 use Rattle.hashbag_core.proofs.OccurrenceLemmas.{bag_rearranged}
 use Rattle.hashbag_script.proofs.RowLemmas.{IsSameRow, same_step, limit_same, asks_rearranged}
 use Rattle.hashbag_script.proofs.ScriptLemmas.{run_none, run_more, limit_none, limit_more}
@@ -14,7 +14,7 @@ use Rattle.std.specs.List.{list_any}
 use Rattle.hashbag_table.specs.Tables.{Tables, room}
 use Rattle.hashbag_script.specs.declared.script.Step.{Step}
 use Rattle.hashbag_core.proofs.HeldLemmas.{none_left}
-use Rattle.hashbag_script.proofs.RoomLemmas.{first_not_about, few_newcomers, roomy_first, next_enough, roomy_next}
+use Rattle.hashbag_script.proofs.RoomLemmas.{neither_at, few_newcomers, roomy_first, next_enough, roomy_next}
 use Rattle.hashbag_script.proofs.MoveLemmas.{Moves, moves_left, moves_within}
 use Rattle.hashbag_script.proofs.StepLemmas.{leaves_rearranged}
 use Rattle.hashbag_script.proofs.BoundLemmas.{shaped_by, smaller_by, no_slots_paid, paid_next, means_none, bounded_from, unanswered}
@@ -53,7 +53,7 @@ loop-step-preserved g c =
     let same : (X : List g.row.T.Denot) → Means c.args.bag.now X → IsSameRow (step_of eq (limit_left eq most X at.yielded) (run_of eq most X at.yielded).0 x) (step_of eq at.bag.most at.bag.items x) = λ X means.
     let before = at.invariant.means X means in
     same_step g.met.T.Eq.laws at.bag.most (limit_left eq most X at.yielded) (run_of eq most X at.yielded).0 at.bag.items x (at.invariant.limit X means) before c.apply.ensures.bag in
-    let moved : is_about_room x ≡ false → Moves (newcomers eq at.bag.items (step_of eq at.bag.most at.bag.items x).0) at.bag.tables c.apply.new.bag.tables = λ quiet.
+    let moved : reserves_or_shrinks x ≡ false → Moves (newcomers eq at.bag.items (step_of eq at.bag.most at.bag.items x).0) at.bag.tables c.apply.new.bag.tables = λ quiet.
     moves_left g.met.T.Eq.laws at.bag.items (step_of eq at.bag.most at.bag.items x).0 c.apply.new.bag.items x at.bag.tables c.apply.new.bag.tables c.in_ok-reply.ensures.left quiet c.in_ok-reply.ensures.turns in
     record {
       taken = append_assoc at.yielded (x ∷ []) _ ∙ rw steps at at.invariant.taken;
@@ -70,7 +70,7 @@ loop-step-preserved g c =
       roomy = λ X means roomy.
           let so_far = rw steps at (at.invariant.roomy X means roomy) in
           let whole : at.yielded ++ x ∷ into_iter_items c.next.new.self ≡ into_iter_items c.into_iter-step-iterator.result = rw steps at at.invariant.taken in
-          let quiet = first_not_about at.yielded (into_iter_items c.next.new.self) x (ap (list_any is_about_room) whole ∙ roomy.calls) in
+          let quiet = neither_at at.yielded (into_iter_items c.next.new.self) x (ap (list_any reserves_or_shrinks) whole ∙ roomy.calls) in
           let enough = next_enough g.met.T.Eq.laws most at.bag.most X at.bag.items at.yielded (into_iter_items c.next.new.self) x _ at.bag.tables so_far (at.invariant.means X means) (same X means).left in
           roomy_next g.met.T.Eq.laws most at.bag.most X at.bag.items at.yielded (into_iter_items c.next.new.self) x _ at.bag.tables _ so_far (at.invariant.means X means) (same X means).left (moves_within _ _ _ (moved quiet) enough);
       held = c.slots-slots-in-loop-step.ensures.held;
@@ -93,7 +93,7 @@ returns-in_err-reply-clause-stopped g c =
     let most = c.args.bag.now.most in
     let steps : into_iter_items at.step-iterator ≡ c.in-Some.step ∷ into_iter_items c.next.new.self = c.in-Some.ensures.steps.0 in
     let whole : at.yielded ++ c.in-Some.step ∷ into_iter_items c.next.new.self ≡ c.args.steps.items = (rw steps at at.invariant.taken) ∙ c.into_iter-step-iterator.ensures.into_iter_gives.0 in
-    let stopped : (X : List g.row.T.Denot) → Means c.args.bag.now X → IsStopped eq c.args.bag.now.most X c.args.steps.items c.args.replies.now.items at.replies.items c.apply.new.bag = λ X means. record {
+    let stopped : (X : List g.row.T.Denot) → Means c.args.bag.now X → IsStoppedFrom eq c.args.bag.now.most X c.args.steps.items c.args.replies.now.items at.replies.items c.apply.new.bag = λ X means. record {
       done = at.yielded;
       stopped_at = c.in-Some.step;
       dropped = into_iter_items c.next.new.self;
@@ -101,16 +101,16 @@ returns-in_err-reply-clause-stopped g c =
       replies = rw (← c.in_ok-reserve.ensures.items) (at.invariant.replies X means);
       means = rw c.in_err-reply.ensures.err (at.invariant.means X means);
       limit = rw c.in_err-reply.ensures.err (at.invariant.limit X means);
-      refused =
+      may_allocate =
           let before = at.invariant.means X means in
           let asks = asks_rearranged g.met.T.Eq.laws (run_of eq most X at.yielded).0 at.bag.items before (bag_rearranged g.met.T.Eq.laws _ _ (IsPermutation-sym _ _ before) c.apply.ensures.bag) at.bag.tables c.in-Some.step c.in_err-reply.ensures.asked in
-          subst (λ (t : Tables g.row.T.Denot). AsksForMemory eq (limit_left eq most X at.yielded) (run_of eq most X at.yielded).0 t c.in-Some.step) (sym (ap (λ b. b.tables) c.in_err-reply.ensures.err))
-          (subst (λ (m : ℕ). AsksForMemory eq m (run_of eq most X at.yielded).0 at.bag.tables c.in-Some.step) (at.invariant.limit X means) asks);
+          subst (λ (t : Tables g.row.T.Denot). MayAllocate eq (limit_left eq most X at.yielded) (run_of eq most X at.yielded).0 t c.in-Some.step) (sym (ap (λ b. b.tables) c.in_err-reply.ensures.err))
+          (subst (λ (m : ℕ). MayAllocate eq m (run_of eq most X at.yielded).0 at.bag.tables c.in-Some.step) (at.invariant.limit X means) asks);
       full = λ about.
           let few = few_newcomers g.met.T.Eq.laws at.bag.items (step_of eq at.bag.most at.bag.items c.in-Some.step).0 in
           ap (λ b. room b.tables) c.in_err-reply.ensures.err ∙ none_left (room at.bag.tables) (λ some. false≢true (c.in_err-reply.ensures.takes about (omega (arith, few, some))));
     } in
-    let cut : IsRunCutOff eq (HasNoRoom c.args.replies.now c.args.steps) (ran c.args.bag.now c.apply.new.bag c.args.steps.items c.args.replies.now.items at.replies.items) = inr stopped in
+    let cut : IsNotBegunOrStopped eq (HasNoRoom c.args.replies.now c.args.steps) (ran c.args.bag.now c.apply.new.bag c.args.steps.items c.args.replies.now.items at.replies.items) = inr stopped in
     OnErr-from _ cut
 
 -- the steps that the loop begins with are those of the run
@@ -123,9 +123,9 @@ returns-clause-slots g c = λ X means roomy. (c.loop-step.invariant.roomy X mean
 pub returns-clause-roomy : goal.returns-clause-roomy
 returns-clause-roomy g c = λ X means roomy. tt
 
--- a step that isn't about room is not refused where there is room
-not_refused : (g : _) (c : goal.After-drop-step-iterator g) (X : List g.row.T.Denot) → Means c.args.bag.now X → IsRoomy g.T.PartialEq.eq c.args.bag.now.most X c.args.steps.items c.args.bag.now.tables → ⊥
-not_refused g c X means roomy =
+-- a step that neither reserves nor shrinks doesn't fail where there is room
+none_fails : (g : _) (c : goal.After-drop-step-iterator g) (X : List g.row.T.Denot) → Means c.args.bag.now X → IsRoomy g.T.PartialEq.eq c.args.bag.now.most X c.args.steps.items c.args.bag.now.tables → ⊥
+none_fails g c X means roomy =
     let at = c.loop-step in
     let eq = g.T.PartialEq.eq in
     let most = c.args.bag.now.most in
@@ -136,14 +136,14 @@ not_refused g c X means roomy =
     let before = at.invariant.means X means in
     let same = same_step g.met.T.Eq.laws at.bag.most (limit_left eq most X at.yielded) (run_of eq most X at.yielded).0 at.bag.items c.in-Some.step (at.invariant.limit X means) before c.apply.ensures.bag in
     false≢true (c.in_err-reply.ensures.takes
-    (first_not_about at.yielded (into_iter_items c.next.new.self) c.in-Some.step (ap (list_any is_about_room) whole ∙ roomy.calls))
+    (neither_at at.yielded (into_iter_items c.next.new.self) c.in-Some.step (ap (list_any reserves_or_shrinks) whole ∙ roomy.calls))
     (next_enough g.met.T.Eq.laws most at.bag.most X at.bag.items at.yielded (into_iter_items c.next.new.self) c.in-Some.step _ at.bag.tables so_far before same.left))
 
 pub returns-in_err-reply-clause-slots : goal.returns-in_err-reply-clause-slots
-returns-in_err-reply-clause-slots g c = λ X means roomy. absurd (not_refused g c X means roomy)
+returns-in_err-reply-clause-slots g c = λ X means roomy. absurd (none_fails g c X means roomy)
 
 pub returns-in_err-reply-clause-roomy : goal.returns-in_err-reply-clause-roomy
-returns-in_err-reply-clause-roomy g c = λ X means roomy. absurd (not_refused g c X means roomy)
+returns-in_err-reply-clause-roomy g c = λ X means roomy. absurd (none_fails g c X means roomy)
 
 -- no room for the replies: nothing was done
 pub returns-in_err-reserve-clause-stopped : goal.returns-in_err-reserve-clause-stopped

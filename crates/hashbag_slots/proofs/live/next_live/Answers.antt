@@ -12,7 +12,7 @@ places-init c = (omega arith, λ q a b. absurd (omega arith))
 
 pub returns-then-lane-lt-GROUP_WIDTH-clause-some : goal.returns-then-lane-lt-GROUP_WIDTH-clause-some
 returns-then-lane-lt-GROUP_WIDTH-clause-some c =
-    let ts = c.args.tags.now in let at = c.places.at in let room = c.if-at-count.true in
+    let ts = c.args.tags.now in let at = c.places.at in let room = c.if-at-slots.true in
     let lane = c.first_live-lane.result in let short = c.if-lane-lt-GROUP_WIDTH.true in
     let from = c.places.invariant.0 in (
       omega arith,
@@ -21,8 +21,8 @@ returns-then-lane-lt-GROUP_WIDTH-clause-some c =
       joined (λ q. get_or ts q 0 < 128) c.args.from at (at + lane) c.places.invariant.1 (λ q beyond b. leb-false _ _ (c.first_live-lane.ensures.first.before q beyond b)),
     )
 
-pub places-preserved-then-at-count : goal.places-preserved-then-at-count
-places-preserved-then-at-count c =
+pub places-preserved-then-at-slots : goal.places-preserved-then-at-slots
+places-preserved-then-at-slots c =
     let at = c.places.at in let long = c.if-lane-lt-GROUP_WIDTH.false in let from = c.places.invariant.0 in (
       omega arith,
       joined (λ q. get_or c.args.tags.now q 0 < 128) c.args.from at (at + 16) c.places.invariant.1 (λ q beyond b. leb-false _ _ (c.first_live-lane.ensures.first.before q beyond (omega arith))),

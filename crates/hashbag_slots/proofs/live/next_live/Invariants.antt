@@ -6,4 +6,4 @@ abbrev pub invariant-places : goal.invariant-places
 invariant-places l = (l.from ≤ l.at) × ((q : ℕ) → l.from ≤ q → q < l.at → get_or l.tags q 0 < 128)
 
 abbrev pub decreases-places : goal.decreases-places
-decreases-places l = l.count - l.at
+decreases-places l = l.slots - l.at

@@ -26,8 +26,8 @@ returns c =
     let none = none_told live (until - 16) next until c.args.course.ahead course.mask (omega arith) c.if-ahead-ne0.false in
     let same : places_left turn next ns os ≡ places_left turn until ns os = left_skip ns os turn next until course.from (λ q a b is. leb-false _ _ (none q a b)) in
     record {
-      some = found_earlier ns os turn next until same c.seek.result c.seek.ensures.some;
-      none = none_earlier ns os turn next until same c.seek.result c.seek.ensures.none;
+      some = found_earlier ns os turn next until same c.next_in_turns.result c.next_in_turns.ensures.some;
+      none = none_earlier ns os turn next until same c.next_in_turns.result c.next_in_turns.ensures.none;
     }
 
 pub returns-then-ahead-ne0 : goal.returns-then-ahead-ne0

@@ -40,7 +40,7 @@ is_named-requires g c = at_lane g (goal.at.is_named-requires g c).Then-lane-lt-G
 pub returns-then-is_named-clause-found : goal.returns-then-is_named-clause-found
 returns-then-is_named-clause-found g c =
     let ts = c.args.tags.now in let cs = c.args.cells.now in let at : ℕ = c.path_slot-place.result + c.first_equal-lane.result in
-    let len = length-slots_of ts cs c.requires.agree.same_length in let room = c.if-place-count.true in let lane = c.if-lane-lt-GROUP_WIDTH.true in
+    let len = length-slots_of ts cs c.requires.agree.same_length in let room = c.if-place-slots.true in let lane = c.if-lane-lt-GROUP_WIDTH.true in
     let within : at < length (slots_of ts cs) = omega arith in
     let e = at_lane g (goal.at.returns-then-is_named-clause-found g c).Then-lane-lt-GROUP_WIDTH in
     (within, holds_at ts cs c.requires.agree at (g.Q.Key.names c.args.key) e.0 e.1 ∙ c.is_named.ensures e.0 e.1 ∙ c.if-is_named.true)
@@ -48,7 +48,7 @@ returns-then-is_named-clause-found g c =
 pub steps-preserved-then-lane-lt-GROUP_WIDTH : goal.steps-preserved-then-lane-lt-GROUP_WIDTH
 steps-preserved-then-lane-lt-GROUP_WIDTH g c =
     let ts = c.args.tags.now in let cs = c.args.cells.now in let test = g.Q.Key.names c.args.key in
-    let at = c.path_slot-place.result in let is = c.path_slot-place.ensures.value in let room = c.if-place-count.true in
+    let at = c.path_slot-place.result in let is = c.path_slot-place.ensures.value in let room = c.if-place-slots.true in
     let lane = c.first_equal-lane.result in let short = c.if-lane-lt-GROUP_WIDTH.true in let here = at_lane g (goal.at.steps-preserved-then-lane-lt-GROUP_WIDTH g c).Then-lane-lt-GROUP_WIDTH in
     further (λ p. holds test (slot_at (slots_of ts cs) p) ≡ false) (length ts) c.args.hash c.steps.step (lane + 1) (omega arith) c.steps.invariant (λ p a b.
     elim (cases_lt p (at + lane)) [
@@ -62,7 +62,7 @@ pub returns-then-first_equal-lt-GROUP_WIDTH-clause-absent :
     goal.returns-then-first_equal-lt-GROUP_WIDTH-clause-absent
 returns-then-first_equal-lt-GROUP_WIDTH-clause-absent g c =
     let ts = c.args.tags.now in let cs = c.args.cells.now in let test = g.Q.Key.names c.args.key in
-    let is = c.path_slot-place.ensures.value in let room = c.if-place-count.true in
+    let is = c.path_slot-place.ensures.value in let room = c.if-place-slots.true in
     let long = c.if-lane-lt-GROUP_WIDTH.false in let high = c.first_equal-lane.ensures.first.high in
     let stop = c.first_equal.result in let short = c.if-first_equal-lt-GROUP_WIDTH.true in
     let ahead : path_slot (length ts) c.args.hash (c.steps.step + stop) ≡ c.path_slot-place.result + stop = path_ahead (length ts) c.args.hash c.steps.step stop (omega arith) ∙ ap (λ p. p + stop) (sym is) in
@@ -72,7 +72,7 @@ returns-then-first_equal-lt-GROUP_WIDTH-clause-absent g c =
 
 pub steps-preserved-else-first_equal-lt-GROUP_WIDTH : goal.steps-preserved-else-first_equal-lt-GROUP_WIDTH
 steps-preserved-else-first_equal-lt-GROUP_WIDTH g c =
-    let is = c.path_slot-place.ensures.value in let room = c.if-place-count.true in let long = c.if-lane-lt-GROUP_WIDTH.false in
+    let is = c.path_slot-place.ensures.value in let room = c.if-place-slots.true in let long = c.if-lane-lt-GROUP_WIDTH.false in
     further (λ p. holds (g.Q.Key.names c.args.key) (slot_at (slots_of c.args.tags.now c.args.cells.now) p) ≡ false) (length c.args.tags.now) c.args.hash c.steps.step 16 (omega arith) c.steps.invariant
     (λ p a b. before_lane g (goal.at.steps-preserved-else-first_equal-lt-GROUP_WIDTH g c).After-first_equal-lane p (omega arith) (omega arith))
 

@@ -5,7 +5,7 @@ use Rattle.hashbag_slots.proofs.probe.find_probing.Given as goal
 
 -- no slot that was passed holds the value
 abbrev pub invariant-steps : goal.invariant-steps
-invariant-steps g l = (k : ℕ) → k < l.step → holds (g.Q.Key.names l.key) (slot_at (slots_of l.tags l.cells) (path_slot l.count l.hash k)) ≡ false
+invariant-steps g l = (k : ℕ) → k < l.step → holds (g.Q.Key.names l.key) (slot_at (slots_of l.tags l.cells) (path_slot l.slots l.hash k)) ≡ false
 
 abbrev pub decreases-steps : goal.decreases-steps
-decreases-steps g l = l.count - l.step
+decreases-steps g l = l.slots - l.step

@@ -4,13 +4,13 @@ use Rattle.hashbag_slots.proofs.probe.first_free.Goals as goal
 
 pub path_slot-place-requires-clause-step : goal.path_slot-place-requires-clause-step
 path_slot-place-requires-clause-step c =
-    let many = sixteen_slots (length c.args.tags.now) c.requires.room.0 c.requires.count c.requires.room.1 in
+    let many = sixteen_slots (length c.args.tags.now) c.requires.room.0 c.requires.slots c.requires.room.1 in
     let near = c.near-test.true in omega arith
 
 pub returns-then-tags-place-lt-LEAST_LIVE-clause-path :
     goal.returns-then-tags-place-lt-LEAST_LIVE-clause-path
 returns-then-tags-place-lt-LEAST_LIVE-clause-path c =
-    let many = sixteen_slots (length c.args.tags.now) c.requires.room.0 c.requires.count c.requires.room.1 in
+    let many = sixteen_slots (length c.args.tags.now) c.requires.room.0 c.requires.slots c.requires.room.1 in
     let near = c.near-test.true in (c.near.step, omega arith, c.path_slot-place.ensures.value, c.near.invariant)
 
 pub near-preserved : goal.near-preserved

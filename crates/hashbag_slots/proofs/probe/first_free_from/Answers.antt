@@ -8,7 +8,7 @@ use Rattle.hashbag_slots.proofs.probe.first_free_from.Goals as goal
 pub returns-then-lane-lt-GROUP_WIDTH-clause-path : goal.returns-then-lane-lt-GROUP_WIDTH-clause-path
 returns-then-lane-lt-GROUP_WIDTH-clause-path c =
     let ts = c.args.tags.now in let h = c.args.hash in let n = length ts in
-    let at = c.path_slot-place.result in let is = c.path_slot-place.ensures.value in let room = c.if-place-count.true in
+    let at = c.path_slot-place.result in let is = c.path_slot-place.ensures.value in let room = c.if-place-slots.true in
     let lane = c.first_not_live-lane.result in let short = c.if-lane-lt-GROUP_WIDTH.true in
     let passed : (k : ℕ) → k < c.steps.step + lane → 128 ≤ get_or ts (path_slot n h k) 0 =
     further (λ p. 128 ≤ get_or ts p 0) n h c.steps.step lane (omega arith) c.steps.invariant (λ p a b. ltb-false _ _ (c.first_not_live-lane.ensures.first.before p (omega arith) (omega arith))) in
@@ -23,9 +23,9 @@ returns-then-lane-lt-GROUP_WIDTH-clause-path c =
     ] in
     (c.steps.step + lane, within, ap (λ p. p + lane) is ∙ sym (path_ahead n h c.steps.step lane (omega arith)), passed)
 
-pub steps-preserved-then-place-count : goal.steps-preserved-then-place-count
-steps-preserved-then-place-count c =
-    let is = c.path_slot-place.ensures.value in let room = c.if-place-count.true in let long = c.if-lane-lt-GROUP_WIDTH.false in
+pub steps-preserved-then-place-slots : goal.steps-preserved-then-place-slots
+steps-preserved-then-place-slots c =
+    let is = c.path_slot-place.ensures.value in let room = c.if-place-slots.true in let long = c.if-lane-lt-GROUP_WIDTH.false in
     further (λ p. 128 ≤ get_or c.args.tags.now p 0) (length c.args.tags.now) c.args.hash c.steps.step 16 (omega arith) c.steps.invariant
     (λ p a b. ltb-false _ _ (c.first_not_live-lane.ensures.first.before p (omega arith) (omega arith)))
 

@@ -20,7 +20,7 @@ alike g c = hash_named g.T.Hash.hash_input g.Q.Hash.hash_input g.S.BuildHasher g
 pub returns-then-first_equal-lt-GROUP_WIDTH-clause-absent :
     goal.returns-then-first_equal-lt-GROUP_WIDTH-clause-absent
 returns-then-first_equal-lt-GROUP_WIDTH-clause-absent g c =
-    let ts = c.args.tags.now in let room = c.if-first-count.false in let short = c.if-first_equal-lt-GROUP_WIDTH.true in
+    let ts = c.args.tags.now in let room = c.if-first-slots.false in let short = c.if-first_equal-lt-GROUP_WIDTH.true in
     absent_near (g.Q.Key.names c.args.key) (hash g (goal.at.returns-then-first_equal-lt-GROUP_WIDTH-clause-absent g c).Start) c.args.hash (alike g (goal.at.returns-then-first_equal-lt-GROUP_WIDTH-clause-absent g c).Start) ts c.args.cells.now c.requires.agree c.requires.reached
     c.fingerprint_of-fingerprint.result c.fingerprint_of-fingerprint.ensures.fingerprint
     c.path_slot-first.result c.first_equal.result c.path_slot-first.ensures.value
@@ -31,7 +31,7 @@ pub returns-then-first_equal-lt-GROUP_WIDTH-clause-free :
     goal.returns-then-first_equal-lt-GROUP_WIDTH-clause-free
 returns-then-first_equal-lt-GROUP_WIDTH-clause-free g c =
     let ts = c.args.tags.now in let n = length ts in let h = c.args.hash in
-    let first = c.path_slot-first.result in let is = c.path_slot-first.ensures.value in let room = c.if-first-count.false in
+    let first = c.path_slot-first.result in let is = c.path_slot-first.ensures.value in let room = c.if-first-slots.false in
     let stop = c.first_equal.result in let short = c.if-first_equal-lt-GROUP_WIDTH.true in
     let empty : tag_at ts (first + stop) ≡ 0 = eqb-true _ _ (c.first_equal.ensures.first.hit (omega arith)) in
     let lane = c.first_not_live.result in let free = c.first_not_live.ensures.first in

@@ -5,10 +5,10 @@ use Rattle.hashbag_table.proofs.RetainLemmas.{live_entry, live_within, written_a
 use Rattle.hashbag_table.proofs.retain.retain_at.Goals as goal
 
 pub f-requires : goal.f-requires
-f-requires g c = c.requires.asks (c.live_at-count.result.0.now, c.live_at-count.result.1) (sym c.live_at-count.ensures) c.live_at-count.result.0 refl
+f-requires g c = c.requires.callable (c.live_at-count.result.0.now, c.live_at-count.result.1) (sym c.live_at-count.ensures) c.live_at-count.result.0 refl
 
-pub returns-then-left-gt0-clause-asked : goal.returns-then-left-gt0-clause-asked
-returns-then-left-gt0-clause-asked g c =
+pub returns-then-left-gt0-clause-called : goal.returns-then-left-gt0-clause-called
+returns-then-left-gt0-clause-called g c =
     let ss = c.args.slots.now.slots in let p = c.args.place in let v = c.live_at-count.result.0.now in let n = c.live_at-count.result.1 in let a = c.f.result in
     let here = live_entry (slot_at ss p) v n c.live_at-count.ensures in
     let least : c.min-left.result ≡ min a n = c.min-left.ensures in
@@ -18,8 +18,8 @@ returns-then-left-gt0-clause-asked g c =
     (record { value = c.live_at-count.result.0; shows = refl; called = c.f.ensures })
     (after ∙ ap (recounted c.min-left.result) here ∙ ap (λ m. Live v m) least ∙ sym (left_some v n a (omega (arith, least, some))))
 
-pub returns-clause-asked : goal.returns-clause-asked
-returns-clause-asked g c =
+pub returns-clause-called : goal.returns-clause-called
+returns-clause-called g c =
     let ss = c.args.slots.now.slots in let p = c.args.place in let v = c.live_at-count.result.0.now in let n = c.live_at-count.result.1 in let a = c.f.result in
     let here = live_entry (slot_at ss p) v n c.live_at-count.ensures in
     let least : c.min-left.result ≡ min a n = c.min-left.ensures in

@@ -3,14 +3,14 @@ use Rattle.std.specs.Borrow.{Bor}
 use Rattle.std.specs.Global.{Vec}
 use Rattle.hashbag.specs.Bag.{Bag}
 use Rattle.hashbag.specs.Walks.{seen}
-use Rattle.hashbag_words_lib.specs.Choice.{IsShown}
+use Rattle.hashbag_words_lib.specs.Choice.{AreChosen}
 use Rattle.hashbag_words_lib.specs.declared.choice.Order.{Order}
 use Rattle.hashbag_words_lib.specs.declared.choice.Order.TheVariants.{Ascending, Unordered, MostCommon}
 use Rattle.hashbag_words_lib.proofs.choice.chosen.Goals as goal
 
 by_order : {S E : Type 0} (r : Result (Vec (Bor (String Global) × ℕ)) E) (bag : Bag (String Global) S) (order is : Order) → order ≡ is
-    → IfOk r (λ rows. IsShown is bag (map seen rows.items)) → IfOk r (λ rows. IsShown order bag (map seen rows.items))
-by_order r bag order is e h = subst (λ (o : Order). IfOk r (λ rows. IsShown o bag (map seen rows.items))) (sym e) h
+    → IfOk r (λ rows. AreChosen is bag (map seen rows.items)) → IfOk r (λ rows. AreChosen order bag (map seen rows.items))
+by_order r bag order is e h = subst (λ (o : Order). IfOk r (λ rows. AreChosen o bag (map seen rows.items))) (sym e) h
 
 both : {X E : Type 0} (P Q : X → Type 0) (r : Result X E) → IfOk r P → IfOk r Q → IfOk r (λ x. P x × Q x)
 both P Q (Ok x) p q = (p, q)

@@ -26,13 +26,13 @@ kept choice x n = shown_count choice (string_bytes x) n
 same_kept : (choice : Choice) (u w : String Global) (n : ℕ) → string_eq u w ≡ true → kept choice u n ≡ kept choice w n
 same_kept choice u w n same = ap (λ bytes. shown_count choice bytes n) ((bytes_decides (string_bytes u) (string_bytes w)).0 same)
 
--- the closure answers by the choice
+-- the closure decides by the choice
 pub returns-clause-kept : goal.returns-clause-kept
 returns-clause-kept g c =
     let choice = c.args.choice in
     let before = c.args.bag.now in
     let done = c.retain.ensures.retained in
-    let answers = answers_by_count _ (λ p. p.0.now ≡ choice) (kept choice) (λ p q x n a same t. search rules) _ done.walk done.answers done.last refl done.asked in
+    let answers = answers_by_count _ (λ p. p.0.now ≡ choice) (kept choice) (λ p q x n a same t. search rules) _ done.walk done.returned done.last refl done.calls in
     λ texts together text.
     shown_by choice before.items c.retain.new.self.items
     (λ v. let n = count string_eq v before.items in count_retained_by string_eq_equiv (kept choice) (same_kept choice) _ _ before c.retain.new.self done answers v ∙ no_more (shows choice (string_bytes v, n)) n)

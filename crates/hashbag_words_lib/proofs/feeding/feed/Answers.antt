@@ -1,6 +1,6 @@
 use Rattle.std.proofs.Common.{[], ◌++◌, take, refl, subst}
 use Rattle.hashbag_words_lib.specs.Counted.{fed_of}
-use Rattle.hashbag_words_lib.specs.Feeding.{HasAlso}
+use Rattle.hashbag_words_lib.specs.Feeding.{AddsFed}
 use Rattle.hashbag_words_lib.proofs.FeedingLemmas.{cut_more, fed_at_once, fed_more, fed_none, fed_with_runs}
 use Rattle.hashbag_words_lib.proofs.feeding.feed.Goals as goal
 
@@ -17,7 +17,7 @@ parts-preserved g c =
     let rest = c.parts.rest.now in
     let n = c.in-Ok-Full.n in
     let fed = c.parts.invariant.0 in
-    let also : HasAlso has c.parts.counter c.feed.new.self (take n rest) = subst (λ f. HasAlso has c.parts.counter c.feed.new.self (fed_of f rest)) c.in-Ok-Full.field-0-is c.in-Ok-Full.ensures.counted in (
+    let also : AddsFed has c.parts.counter c.feed.new.self (take n rest) = subst (λ f. AddsFed has c.parts.counter c.feed.new.self (fed_of f rest)) c.in-Ok-Full.field-0-is c.in-Ok-Full.ensures.counted in (
       fed ++ take n rest,
       cut_more c.args.block.now fed rest n c.parts.invariant.1,
       fed_with_runs has kept old c.feed.new.self c.make_run.new.counter runs c.parts.runs c.make_run.new.runs (fed ++ take n rest)

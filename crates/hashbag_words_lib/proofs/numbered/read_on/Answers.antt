@@ -1,6 +1,6 @@
 use Rattle.std.proofs.Common.{◌≡◌, ◌∙◌, ℕ, List, ap, subst}
 use Rattle.hashbag_words_lib.specs.MergedTexts.{HasGivenAndTaken, PutsNext}
-use Rattle.hashbag_words_lib.specs.Numbered.{HasRead, IsNext}
+use Rattle.hashbag_words_lib.specs.Numbered.{HasRead, HasReadAndWants}
 use Rattle.hashbag_words_lib.specs.declared.merged_text.MergedText.{MergedText}
 use Rattle.hashbag_words_lib.specs.declared.merged_text.Wants.{Wants}
 use Rattle.hashbag_words_lib.specs.declared.merged_text.Wants.TheVariants.{Block, Part, End}
@@ -43,7 +43,7 @@ texts-preserved g c =
     let number = c.in-Ok-Block.number in
     let read = g.T.NumberedTexts.bytes_read c.texts.texts in
     let same = c.in-Ok-Block.ensures.numbers ∙ c.texts.invariant.numbers in
-    let next : (kind : SourceKind) → (taken : List ℕ) → HasRead kind (g.T.NumberedTexts.bytes_read c.args.texts.now) c.args.text.now taken → IsNext kind read taken (Block number) c.next.new.self = λ kind taken has.
+    let next : (kind : SourceKind) → (taken : List ℕ) → HasRead kind (g.T.NumberedTexts.bytes_read c.args.texts.now) c.args.text.now taken → HasReadAndWants kind read taken (Block number) c.next.new.self = λ kind taken has.
     read_next kind read taken c.texts.text c.next.new.self (Block number) c.in-Ok-Block.ensures.numbers
     (puts_as c.texts.text c.next.new.self c.in-Ok-Block.field-0 (Block number) c.in-Ok-Block.ensures.next c.in-Ok-Block.field-0-is) (c.texts.invariant.follows kind taken has) in
     record {

@@ -2,7 +2,7 @@ use Rattle.std.proofs.Common.{◌≡◌, ◌≢◌, ◌∙◌, ℕ, List, [], �
 use Rattle.std.specs.Io.KnownBytes.{Appends}
 use Rattle.std.proofs.Math.Seq.{take-length}
 use Rattle.std.proofs.lemmas.List.{append-nil}
-use Rattle.hashbag_words_lib.specs.Numbered.{IsNext}
+use Rattle.hashbag_words_lib.specs.Numbered.{HasReadAndWants}
 use Rattle.hashbag_words_lib.specs.declared.merged_text.Wants.{Wants}
 use Rattle.hashbag_words_lib.proofs.NumberedLemmas.{layout_both, next_read, take_read}
 use Rattle.hashbag_words_lib.proofs.RunFileLemmas.{appends_both, appends_none}
@@ -14,7 +14,7 @@ parts-init g c =
     let none : c.empty-tape.result ≡ [] = c.empty-tape.ensures in
     record {
       merges = λ kind taken next. (
-        subst (λ (l : List ℕ). IsNext kind (g.T.NumberedTexts.bytes_read c.args.texts.now) l c.args.first c.args.text.now) (sym (ap (λ (t : List ℕ). taken ++ t) none ∙ append-nil taken)) next,
+        subst (λ (l : List ℕ). HasReadAndWants kind (g.T.NumberedTexts.bytes_read c.args.texts.now) l c.args.first c.args.text.now) (sym (ap (λ (t : List ℕ). taken ++ t) none ∙ append-nil taken)) next,
         refl,
         λ k other. refl,
       );
@@ -26,7 +26,7 @@ parts-init g c =
 pub returns-in-End-clause-merges : goal.returns-in-End-clause-merges
 returns-in-End-clause-merges g c = λ kind taken next.
     let so_far = c.parts.invariant.merges kind taken next in (
-      subst (λ (w : Wants). IsNext kind (g.T.NumberedTexts.bytes_read c.parts.texts) (taken ++ c.parts.tape) w c.parts.text) c.in-End.is so_far.0,
+      subst (λ (w : Wants). HasReadAndWants kind (g.T.NumberedTexts.bytes_read c.parts.texts) (taken ++ c.parts.tape) w c.parts.text) c.in-End.is so_far.0,
       so_far.1,
       so_far.2,
     )
@@ -50,7 +50,7 @@ parts-preserved g c =
           let has = take_read kind (read c.parts.texts) before c.parts.text c.clear_part.new.self c.clear_part.ensures.taken c.clear_part.ensures.numbers
           (next_read kind (read c.parts.texts) before c.parts.wants c.parts.text so_far.0) in
           let later = c.in_ok-wants.ensures.reads kind (before ++ part) has in (
-            subst (λ (l : List ℕ). IsNext kind (read c.read_on.new.texts) l c.in_ok-wants.wants c.read_on.new.text)
+            subst (λ (l : List ℕ). HasReadAndWants kind (read c.read_on.new.texts) l c.in_ok-wants.wants c.read_on.new.text)
                 (append_assoc taken c.parts.tape part ∙ ap (λ (t : List ℕ). taken ++ t) (sym tape)) later.0,
             later.1 ∙ c.clear_part.ensures.numbers ∙ so_far.1,
             λ k none.

@@ -7,7 +7,7 @@ use Rattle.hashbag_words_lib.proofs.row_source.read_line.Goals as goal
 
 -- what `read_in_form` says of the line is what a run's line is read as
 pub returns-in-Ok-2-clause-row : goal.returns-in-Ok-2-clause-row
-returns-in-Ok-2-clause-row c = λ tsv refused.
+returns-in-Ok-2-clause-row c = λ tsv rejected.
     let row = c.in-Ok-2.row in
     read_as-line c.args.line.now (string_bytes row.0) row.1
     (subst (λ l. IsLineOf l (string_bytes row.0) row.1) c.in-Ok.ensures.cases.0

@@ -16,7 +16,7 @@ pub returns-clause-all : goal.returns-clause-all
 returns-clause-all g c =
     all_went g.T.PartialEq.eq (NamedOnce g.Q.Key.names) c.loop-key.yielded c.loop-key.invariant (c.next.new.self, (c.loop-key.key-iterator, rw (← c.into_iter-key-iterator.ensures.into_iter_gives) c.loop-key.yielded_by, c.in-None.ensures.steps))
 
-pub returns-in_err-insert_key-clause-refused : goal.returns-in_err-insert_key-clause-refused
-returns-in_err-insert_key-clause-refused g c = handed_on c.from_residual.result c.in_err-insert_key.field-0.0 _ _ (λ x is. cc) c.from_residual.ensures.1
+pub returns-in_err-insert_key-clause-fails : goal.returns-in_err-insert_key-clause-fails
+returns-in_err-insert_key-clause-fails g c = handed_on c.from_residual.result c.in_err-insert_key.field-0.0 _ _ (λ x is. cc) c.from_residual.ensures.1
     (some_went g.T.PartialEq.eq (NamedOnce g.Q.Key.names) c.loop-key.self c.loop-key.yielded c.in-Some.key c.next.new.self c.loop-key.invariant
-    (c.loop-key.key-iterator, rw (← c.into_iter-key-iterator.ensures.into_iter_gives) c.loop-key.yielded_by, c.in-Some.ensures.steps) c.in_err-insert_key.ensures.err c.in_err-insert_key.ensures.refused)
+    (c.loop-key.key-iterator, rw (← c.into_iter-key-iterator.ensures.into_iter_gives) c.loop-key.yielded_by, c.in-Some.ensures.steps) c.in_err-insert_key.ensures.err c.in_err-insert_key.ensures.fails)

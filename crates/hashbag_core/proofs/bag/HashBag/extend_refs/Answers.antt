@@ -16,7 +16,7 @@ pub returns-clause-all : goal.returns-clause-all
 returns-clause-all g c =
     all_went g.T.PartialEq.eq (CloneOnce g.T.Clone.is_clone) c.loop-item.yielded c.loop-item.invariant (c.next.new.self, (c.loop-item.item-iterator, rw (← c.into_iter-item-iterator.ensures.into_iter_gives) c.loop-item.yielded_by, c.in-None.ensures.steps))
 
-pub returns-in_err-insert_clone-clause-refused : goal.returns-in_err-insert_clone-clause-refused
-returns-in_err-insert_clone-clause-refused g c = handed_on c.from_residual.result c.in_err-insert_clone.field-0.0 _ _ (λ x is. cc) c.from_residual.ensures.1
+pub returns-in_err-insert_clone-clause-fails : goal.returns-in_err-insert_clone-clause-fails
+returns-in_err-insert_clone-clause-fails g c = handed_on c.from_residual.result c.in_err-insert_clone.field-0.0 _ _ (λ x is. cc) c.from_residual.ensures.1
     (some_went g.T.PartialEq.eq (CloneOnce g.T.Clone.is_clone) c.loop-item.self c.loop-item.yielded c.in-Some.item c.next.new.self c.loop-item.invariant
-    (c.loop-item.item-iterator, rw (← c.into_iter-item-iterator.ensures.into_iter_gives) c.loop-item.yielded_by, c.in-Some.ensures.steps) c.in_err-insert_clone.ensures.err c.in_err-insert_clone.ensures.refused)
+    (c.loop-item.item-iterator, rw (← c.into_iter-item-iterator.ensures.into_iter_gives) c.loop-item.yielded_by, c.in-Some.ensures.steps) c.in_err-insert_clone.ensures.err c.in_err-insert_clone.ensures.fails)

@@ -12,6 +12,6 @@ returns-clause-hasher g c = rw ((all_added g.met.T.Eq.laws c.in_ok-extend_many.e
 pub returns-clause-limit : goal.returns-clause-limit
 returns-clause-limit g c = (all_added g.met.T.Eq.laws c.in_ok-extend_many.ensures.all).limit ∙ c.default_in-bag.ensures.limit
 
-pub returns-in_err-extend_many-clause-refused : goal.returns-in_err-extend_many-clause-refused
-returns-in_err-extend_many-clause-refused g c = handed_on c.from_residual.result c.in_err-extend_many.field-0.0 _ _ (λ x is. cc) c.from_residual.ensures.1
-    (c.extend_many.new.self, some_made g.met.T.Eq.laws c.default_in-bag.ensures.empty c.default_in-bag.ensures.slots c.default_in-bag.ensures.limit c.in_err-extend_many.ensures.refused)
+pub returns-in_err-extend_many-clause-fails : goal.returns-in_err-extend_many-clause-fails
+returns-in_err-extend_many-clause-fails g c = handed_on c.from_residual.result c.in_err-extend_many.field-0.0 _ _ (λ x is. cc) c.from_residual.ensures.1
+    (c.extend_many.new.self, some_made g.met.T.Eq.laws c.default_in-bag.ensures.empty c.default_in-bag.ensures.slots c.default_in-bag.ensures.limit c.in_err-extend_many.ensures.fails)

@@ -12,6 +12,6 @@ returns-clause-hasher g c = rw ((all_added g.met.T.Eq.laws c.in_ok-extend.ensure
 pub returns-clause-limit : goal.returns-clause-limit
 returns-clause-limit g c = (all_added g.met.T.Eq.laws c.in_ok-extend.ensures.all).limit ∙ c.default_in-bag.ensures.limit
 
-pub returns-in_err-extend-clause-refused : goal.returns-in_err-extend-clause-refused
-returns-in_err-extend-clause-refused g c = handed_on c.from_residual.result c.in_err-extend.field-0.0 _ _ (λ x is. cc) c.from_residual.ensures.1
-    (c.extend.new.self, some_made g.met.T.Eq.laws c.default_in-bag.ensures.empty c.default_in-bag.ensures.slots c.default_in-bag.ensures.limit c.in_err-extend.ensures.refused)
+pub returns-in_err-extend-clause-fails : goal.returns-in_err-extend-clause-fails
+returns-in_err-extend-clause-fails g c = handed_on c.from_residual.result c.in_err-extend.field-0.0 _ _ (λ x is. cc) c.from_residual.ensures.1
+    (c.extend.new.self, some_made g.met.T.Eq.laws c.default_in-bag.ensures.empty c.default_in-bag.ensures.slots c.default_in-bag.ensures.limit c.in_err-extend.ensures.fails)

@@ -12,6 +12,6 @@ returns-clause-hasher g c = rw ((all_added g.met.T.Eq.laws c.in_ok-extend_keys.e
 pub returns-clause-limit : goal.returns-clause-limit
 returns-clause-limit g c = (all_added g.met.T.Eq.laws c.in_ok-extend_keys.ensures.all).limit ∙ c.default_in-bag.ensures.limit
 
-pub returns-in_err-extend_keys-clause-refused : goal.returns-in_err-extend_keys-clause-refused
-returns-in_err-extend_keys-clause-refused g c = handed_on c.from_residual.result c.in_err-extend_keys.field-0.0 _ _ (λ x is. cc) c.from_residual.ensures.1
-    (c.extend_keys.new.self, some_made g.met.T.Eq.laws c.default_in-bag.ensures.empty c.default_in-bag.ensures.slots c.default_in-bag.ensures.limit c.in_err-extend_keys.ensures.refused)
+pub returns-in_err-extend_keys-clause-fails : goal.returns-in_err-extend_keys-clause-fails
+returns-in_err-extend_keys-clause-fails g c = handed_on c.from_residual.result c.in_err-extend_keys.field-0.0 _ _ (λ x is. cc) c.from_residual.ensures.1
+    (c.extend_keys.new.self, some_made g.met.T.Eq.laws c.default_in-bag.ensures.empty c.default_in-bag.ensures.slots c.default_in-bag.ensures.limit c.in_err-extend_keys.ensures.fails)

@@ -19,8 +19,8 @@ add-requires-clause-fits g c =
     let fits = c.if-n-self.false in
     omega arith
 
-pub returns-in_err-before-clause-refused : goal.returns-in_err-before-clause-refused
-returns-in_err-before-clause-refused g c =
+pub returns-in_err-before-clause-fails : goal.returns-in_err-before-clause-fails
+returns-in_err-before-clause-fails g c =
     let error = err_from_is_err_and c.from_residual.result c.from_residual.ensures.1 in
     let absent = absent_from_table g.met.T.Eq.laws c.args.value c.self.inside.table.entries c.self.invariant.counted c.in_err-before.ensures.fails.absent in
     let sum = c.self.invariant.sum in
@@ -60,7 +60,7 @@ returns-then-n-eq0-clause-inserted g c = inserts_none g.met.T.Eq.laws c.args.val
 pub returns-clause-inserted : goal.returns-clause-inserted
 returns-clause-inserted g c =
     let some : 0 < c.args.n = let not_none = c.if-n-eq0.false in omega arith in
-    rw (← c.self.view_is) (inserts_added g.met.T.Eq.laws c.args.value c.args.n c.self.inside.len c.self.inside.table c.add.new.self some c.self.invariant (invariant_of-self-2 g c) c.in_ok-before.ensures.added (held_by g.T.PartialEq.eq _ _ c.held.ensures.held c.add.ensures.counted))
+    rw (← c.self.view_is) (inserts_added g.met.T.Eq.laws c.args.value c.args.n c.self.inside.len c.self.inside.table c.add.new.self some c.self.invariant (invariant_of-self-2 g c) c.in_ok-before.ensures.added (held_by g.T.PartialEq.eq _ _ c.show_invariant.ensures.entries c.add.ensures.counted))
 
 pub returns-in_err-before-clause-present : goal.returns-in_err-before-clause-present
 returns-in_err-before-clause-present g c = λ fits there.

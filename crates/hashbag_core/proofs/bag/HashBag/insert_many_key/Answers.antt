@@ -15,8 +15,8 @@ add_key-requires-clause-fits g c =
     let fits = c.if-n-self.false in
     omega arith
 
-pub returns-in_err-before-clause-refused : goal.returns-in_err-before-clause-refused
-returns-in_err-before-clause-refused g c =
+pub returns-in_err-before-clause-fails : goal.returns-in_err-before-clause-fails
+returns-in_err-before-clause-fails g c =
     let error = err_from_is_err_and c.from_residual.result c.from_residual.ensures.1 in
     let absent : count_named (g.Q.Key.names c.args.key) (occurrences c.self.inside.table.entries) ≡ 0 =
     none_named_there g.met.T.Eq.laws (g.Q.Key.names c.args.key) (g.met.Q.Key.names_one c.args.key) _ c.self.invariant.counted.distinct c.in_err-before.ensures.absent in
@@ -54,7 +54,7 @@ returns-in_err-before-clause-present g c = λ fits there.
 pub returns-clause-inserted : goal.returns-clause-inserted
 returns-clause-inserted g c = λ some.
     let came = c.in_ok-before.ensures.added in
-    rw (← c.self.view_is) (came.0, came.1, inserts_added g.met.T.Eq.laws came.0 c.args.n c.self.inside.len c.self.inside.table c.add_key.new.self some c.self.invariant (invariant_of-self-2 g c) came.2 (held_by g.T.PartialEq.eq _ _ c.held.ensures.held c.add_key.ensures.counted))
+    rw (← c.self.view_is) (came.0, came.1, inserts_added g.met.T.Eq.laws came.0 c.args.n c.self.inside.len c.self.inside.table c.add_key.new.self some c.self.invariant (invariant_of-self-2 g c) came.2 (held_by g.T.PartialEq.eq _ _ c.show_invariant.ensures.entries c.add_key.ensures.counted))
 
 pub returns-clause-len : goal.returns-clause-len
 returns-clause-len g c =

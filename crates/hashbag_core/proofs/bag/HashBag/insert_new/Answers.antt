@@ -15,11 +15,11 @@ insert_new-requires-clause-absent g c =
 
 pub invariant_of-self-2 : goal.invariant_of-self-2
 invariant_of-self-2 g c =
-    let fits : length (occurrences c.self.inside.table.entries) + c.args.quantity ≤ c.self.inside.most = rw (← c.self.view_is) at c.requires.fits in
+    let fits : length (occurrences c.self.inside.table.entries) + c.args.n ≤ c.self.inside.most = rw (← c.self.view_is) at c.requires.fits in
     let sum = c.self.invariant.sum in
     let none : count g.T.PartialEq.eq c.args.value (occurrences c.self.inside.table.entries) ≡ 0 = rw (← c.self.view_is) at c.requires.absent in
-    tally_added g.met.T.Eq.laws c.args.value c.args.quantity c.self.inside.table.entries c.insert_new.new.self.entries c.self.inside.len c.self.invariant c.insert_new.ensures.counted (omega arith)
-    (new_occurrences g.met.T.Eq.laws c.args.value c.args.quantity c.self.inside.table.entries c.insert_new.new.self.entries c.self.invariant.counted none c.in_ok-insert_new.ensures.stored.map.means)
+    tally_added g.met.T.Eq.laws c.args.value c.args.n c.self.inside.table.entries c.insert_new.new.self.entries c.self.inside.len c.self.invariant c.insert_new.ensures.counted (omega arith)
+    (new_occurrences g.met.T.Eq.laws c.args.value c.args.n c.self.inside.table.entries c.insert_new.new.self.entries c.self.invariant.counted none c.in_ok-insert_new.ensures.stored.map.means)
 
 pub returns-in_err-insert_new-clause-takes : goal.returns-in_err-insert_new-clause-takes
 returns-in_err-insert_new-clause-takes g c = λ some. absurd (false≢true (c.in_err-insert_new.ensures.fails.takes (rw (← c.self.view_is) at some)))
@@ -27,5 +27,5 @@ returns-in_err-insert_new-clause-takes g c = λ some. absurd (false≢true (c.in
 pub returns-clause-inserted : goal.returns-clause-inserted
 returns-clause-inserted g c =
     let none : count g.T.PartialEq.eq c.args.value (occurrences c.self.inside.table.entries) ≡ 0 = rw (← c.self.view_is) at c.requires.absent in
-    rw (← c.self.view_is) (inserts_stored g.met.T.Eq.laws c.args.value c.args.quantity c.self.inside.len c.self.inside.table c.insert_new.new.self c.requires.positive none c.self.invariant (invariant_of-self-2 g c) c.in_ok-insert_new.ensures.stored
-    (held_by g.T.PartialEq.eq _ _ c.held.ensures.held c.insert_new.ensures.counted))
+    rw (← c.self.view_is) (inserts_stored g.met.T.Eq.laws c.args.value c.args.n c.self.inside.len c.self.inside.table c.insert_new.new.self c.requires.positive none c.self.invariant (invariant_of-self-2 g c) c.in_ok-insert_new.ensures.stored
+    (held_by g.T.PartialEq.eq _ _ c.show_invariant.ensures.entries c.insert_new.ensures.counted))

@@ -82,11 +82,11 @@ returns-in_err-before-clause-absent g c =
     let absent : count g.T.PartialEq.eq c.args.value c.args.self.now.items ≡ 0 = rw (← c.self.view_is) (absent_from_table g.met.T.Eq.laws c.args.value _ c.self.invariant.counted c.in_err-before.ensures.fails.absent) in
     OnErr-from _ absent
 
-pub returns-in_err-before-clause-refused : goal.returns-in_err-before-clause-refused
-returns-in_err-before-clause-refused g c =
+pub returns-in_err-before-clause-fails : goal.returns-in_err-before-clause-fails
+returns-in_err-before-clause-fails g c =
     let error = err_from_is_err_and c.from_residual.result c.from_residual.ensures.1 in
     let absent = absent_from_table g.met.T.Eq.laws c.args.value c.self.inside.table.entries c.self.invariant.counted c.in_err-before.ensures.fails.absent in
-    let fits = one_fits g (goal.at.returns-in_err-before-clause-refused g c).Joined-else-self in
+    let fits = one_fits g (goal.at.returns-in_err-before-clause-fails g c).Joined-else-self in
     rw (error.1, error.2, ← c.self.view_is) (record {
       why = (omega (arith, absent, fits), omega arith, absent);
       full = λ _. none_left (room c.self.inside.table.tables) (λ space. false≢true (c.in_err-before.ensures.fails.takes space));

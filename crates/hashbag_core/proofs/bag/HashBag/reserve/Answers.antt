@@ -18,12 +18,12 @@ invariant_of-self-2 g c = tally_rearranged g.met.T.Eq.laws _ _ _ c.self.invarian
 pub returns-clause-items : goal.returns-clause-items
 returns-clause-items g c = rw (← c.self.view_is) (items_stay g.met.T.Eq.laws _ c.self.inside.table c.reserve.new.self c.self.invariant c.reserve.ensures.entries)
 
-pub returns-clause-beyond : goal.returns-clause-beyond
-returns-clause-beyond g c = λ some more.
+pub returns-clause-past_most : goal.returns-clause-past_most
+returns-clause-past_most g c = λ some more.
     let same = distinct_count-occurrences g.met.T.Eq.laws c.self.inside.table.entries c.self.invariant.counted in
     let much : MOST_VALUES < distinct_count g.T.PartialEq.eq (occurrences c.self.inside.table.entries) + c.args.n = rw (← c.self.view_is) at more in
     let many : MOST_VALUES < length c.self.inside.table.entries + c.args.n = omega arith in
-    absurd (false≢true (c.in_ok-reserve.ensures.beyond some many))
+    absurd (false≢true (c.in_ok-reserve.ensures.past_most some many))
 
 pub returns-in_err-reserve-clause-len : goal.returns-in_err-reserve-clause-len
 returns-in_err-reserve-clause-len g c = rw (← c.self.view_is) (sym (tally_rearranged g.met.T.Eq.laws _ _ _ c.self.invariant c.reserve.ensures.entries.counted c.reserve.ensures.entries.means).sum ∙ c.self.invariant.sum)

@@ -9,9 +9,9 @@ use Rattle.hashbag_core.proofs.bag.HashBag.spare.Goals as goal
 pub returns-clause-least : goal.returns-clause-least
 returns-clause-least g c = rw (← c.self.view_is, distinct_count-occurrences g.met.T.Eq.laws c.self.inside.table.entries c.self.invariant.counted) c.in_ok-spare.ensures.least
 
-pub returns-clause-beyond : goal.returns-clause-beyond
-returns-clause-beyond g c = λ more.
+pub returns-clause-past_most : goal.returns-clause-past_most
+returns-clause-past_most g c = λ more.
     let same = distinct_count-occurrences g.met.T.Eq.laws c.self.inside.table.entries c.self.invariant.counted in
     let much : MOST_VALUES < distinct_count g.T.PartialEq.eq (occurrences c.self.inside.table.entries) + c.args.n = rw (← c.self.view_is) at more in
     let many : MOST_VALUES < length c.self.inside.table.entries + c.args.n = omega arith in
-    absurd (false≢true (c.in_ok-spare.ensures.beyond many))
+    absurd (false≢true (c.in_ok-spare.ensures.past_most many))

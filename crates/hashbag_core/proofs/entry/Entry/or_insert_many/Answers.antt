@@ -22,8 +22,8 @@ returns-in_err-insert_new-clause-none g c = λ none. absurd (omega (arith, none)
 pub returns-clause-none : goal.returns-clause-none
 returns-clause-none g c = λ none. absurd (omega (arith, none))
 
-pub returns-in_err-insert_new-clause-refused : goal.returns-in_err-insert_new-clause-refused
-returns-in_err-insert_new-clause-refused g c =
+pub returns-in_err-insert_new-clause-fails : goal.returns-in_err-insert_new-clause-fails
+returns-in_err-insert_new-clause-fails g c =
     let error = err_from_is_err_and c.from_residual.result c.from_residual.ensures.1 in
     let is = c.in_err-insert_new.ensures.memory in
     let often = c.contains-before.ensures.count in
@@ -40,7 +40,7 @@ returns-in_err-insert_new-clause-too_many g c =
     let within = c.contains-before.ensures.bag.fits in
     rw (error.1, error.2, is) ((λ same. absurd (cc)), (λ over. let more = over.1 in absurd (omega arith)))
 
-pub returns-then-quantity-eq0-clause-vacant : goal.returns-then-quantity-eq0-clause-vacant
-returns-then-quantity-eq0-clause-vacant g c = λ _.
-    let none : c.args.quantity ≡ 0 = let is = c.if-quantity-eq0.true in omega arith in
-    (sym none, inserts_none g.met.T.Eq.laws c.args.self.value c.args.quantity c.args.self.bag.now none c.contains-before.ensures.bag)
+pub returns-then-n-eq0-clause-vacant : goal.returns-then-n-eq0-clause-vacant
+returns-then-n-eq0-clause-vacant g c = λ _.
+    let none : c.args.n ≡ 0 = let is = c.if-n-eq0.true in omega arith in
+    (sym none, inserts_none g.met.T.Eq.laws c.args.self.value c.args.n c.args.self.bag.now none c.contains-before.ensures.bag)

@@ -3,7 +3,7 @@ use Rattle.std.specs.Borrow.{Bor}
 use Rattle.std.proofs.lemmas.Iterator.{items_from_drains}
 use Rattle.std.proofs.lemmas.Iterator.Consumers.{YieldsList-from_first}
 use Rattle.hashbag_core.specs.Joins.{IsOuterJoin, IsDifference, IsNotIn, IsSignedDifference}
-use Rattle.hashbag_core.proofs.OuterJoinLemmas.{difference_from_outer, not_in_from_outer, signed_from_outer, exceeding-map, unmatched-map, subtracted-map}
+use Rattle.hashbag_core.proofs.OuterJoinLemmas.{difference_from_outer, not_in_from_outer, signed_from_outer, excesses_of_join-map, lacking_of_join-map, subtracted-map}
 use Rattle.hashbag_script.proofs.script.joins.joins_of.Goals as goal
 
 pub returns-clause-outer : goal.returns-clause-outer
@@ -14,7 +14,7 @@ returns-clause-outer g c = λ X Y in_a in_b.
 
 pub returns-clause-difference : goal.returns-clause-difference
 returns-clause-difference g c = λ X Y in_a in_b.
-    let is = ap (λ (l : List _). map (λ e. (e.0.now, e.1)) l) c.in_ok-difference.ensures ∙ exceeding-map (λ (r : Bor g.row.T.Denot). r.now) c.in_ok-outer.outer.items in
+    let is = ap (λ (l : List _). map (λ e. (e.0.now, e.1)) l) c.in_ok-difference.ensures ∙ excesses_of_join-map (λ (r : Bor g.row.T.Denot). r.now) c.in_ok-outer.outer.items in
     subst (λ (l : List _). IsDifference g.T.PartialEq.eq X Y l) (sym is) (difference_from_outer g.met.T.Eq.laws X Y _ (returns-clause-outer g c X Y in_a in_b))
 
 pub returns-clause-signed : goal.returns-clause-signed
@@ -24,5 +24,5 @@ returns-clause-signed g c = λ X Y in_a in_b.
 
 pub returns-clause-not_in : goal.returns-clause-not_in
 returns-clause-not_in g c = λ X Y in_a in_b.
-    let is = ap (λ (l : List _). map (λ e. (e.0.now, e.1)) l) c.in_ok-not_in.ensures ∙ unmatched-map (λ (r : Bor g.row.T.Denot). r.now) c.in_ok-outer.outer.items in
+    let is = ap (λ (l : List _). map (λ e. (e.0.now, e.1)) l) c.in_ok-not_in.ensures ∙ lacking_of_join-map (λ (r : Bor g.row.T.Denot). r.now) c.in_ok-outer.outer.items in
     subst (λ (l : List _). IsNotIn g.T.PartialEq.eq X Y l) (sym is) (not_in_from_outer g.met.T.Eq.laws X Y _ (returns-clause-outer g c X Y in_a in_b))

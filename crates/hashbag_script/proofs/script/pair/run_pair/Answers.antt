@@ -4,7 +4,7 @@ use Rattle.hashbag_table.proofs.EntryLemmas.{OnErr-from}
 use Rattle.hashbag_core.specs.Bag.{Bag}
 use Rattle.hashbag_script.specs.declared.script.Step.{Step}
 use Rattle.hashbag_script.specs.declared.script.Reply.{Reply}
-use Rattle.hashbag_script.specs.Pairs.{ran, HasNoRoom, IsPairNotBegun, IsPairCutOff}
+use Rattle.hashbag_script.specs.Pairs.{ran, HasNoRoom, IsPairNotBegun, IsPairNotBegunOrStopped}
 use Rattle.hashbag_script.proofs.BoundLemmas.{smaller_by}
 use Rattle.hashbag_script.proofs.TurnLemmas.{on_ok_from, on_ok_all, untouched_tables, untouched_bounded}
 use Rattle.hashbag_script.proofs.script.pair.run_pair.Goals as goal
@@ -86,7 +86,7 @@ returns-in_err-reserve-2-clause-stopped g c =
     let short : vec_capacity c.args.replies_b.now < vec_len c.args.replies_b.now + vec_len c.args.steps_b = omega arith in
     let none = not_begun c.args.a.now c.args.b.now c.args.steps_a.items c.args.steps_b.items c.args.replies_a.now.items _ c.args.replies_b.now.items _
     (HasNoRoom c.args.replies_a.now c.args.steps_a ⊎ HasNoRoom c.args.replies_b.now c.args.steps_b) (inr short) c.in_ok-reserve.ensures.items c.in_err-reserve-2.ensures.items in
-    let cut : IsPairCutOff g.T.PartialEq.eq (HasNoRoom c.args.replies_a.now c.args.steps_a ⊎ HasNoRoom c.args.replies_b.now c.args.steps_b) (ran c.args.a.now c.args.a.now c.args.steps_a.items c.args.replies_a.now.items c.reserve.new.self.items)
+    let cut : IsPairNotBegunOrStopped g.T.PartialEq.eq (HasNoRoom c.args.replies_a.now c.args.steps_a ⊎ HasNoRoom c.args.replies_b.now c.args.steps_b) (ran c.args.a.now c.args.a.now c.args.steps_a.items c.args.replies_a.now.items c.reserve.new.self.items)
     (ran c.args.b.now c.args.b.now c.args.steps_b.items c.args.replies_b.now.items c.reserve-2.new.self.items) = inl none in
     OnErr-from _ cut
 
@@ -167,7 +167,7 @@ returns-clause-second g c =
 
 pub returns-in_err-run-clause-stopped : goal.returns-in_err-run-clause-stopped
 returns-in_err-run-clause-stopped g c =
-    let cut : IsPairCutOff g.T.PartialEq.eq (HasNoRoom c.args.replies_a.now c.args.steps_a ⊎ HasNoRoom c.args.replies_b.now c.args.steps_b) (ran c.args.a.now c.run.new.bag c.args.steps_a.items c.args.replies_a.now.items c.run.new.replies.items)
+    let cut : IsPairNotBegunOrStopped g.T.PartialEq.eq (HasNoRoom c.args.replies_a.now c.args.steps_a ⊎ HasNoRoom c.args.replies_b.now c.args.steps_b) (ran c.args.a.now c.run.new.bag c.args.steps_a.items c.args.replies_a.now.items c.run.new.replies.items)
     (ran c.args.b.now c.args.b.now c.args.steps_b.items c.args.replies_b.now.items c.reserve-2.new.self.items) = elim c.in_err-run.ensures.stopped [
       | inl none ↦
           let short : vec_capacity c.reserve.new.self < vec_len c.reserve.new.self + vec_len c.args.steps_a = none.0 in

@@ -2,7 +2,7 @@ use Rattle.std.proofs.Common.{ℕ, ◌≡◌, false, [], ◌∷◌, length, slic
 use Rattle.std.proofs.lemmas.List.{set-get_or}
 use Rattle.hashbag_slots.specs.Hashing.{hash_under}
 use Rattle.hashbag_slots.specs.declared.slots.Slot.TheVariants.{Empty, Moved}
-use Rattle.hashbag_slots.specs.Slots.{is_live, live_count, slot_at, carried, entries, PlacesAll, AreApart}
+use Rattle.hashbag_slots.specs.Slots.{is_live, live_count, slot_at, moved, entries, PlacesAll, AreApart}
 use Rattle.hashbag_slots.proofs.Carrying.{AreApart-carry, Carries-one, entries_in_one, carried_same, no_entries, length-Places, live-Places, removed-Places}
 use Rattle.hashbag_slots.proofs.Edits.{count-set}
 use Rattle.hashbag_slots.proofs.Paths.{path_below}
@@ -22,7 +22,7 @@ returns-then-is_live_at g c =
     record {
       placed = subst (λ es. PlacesAll hash es old new) (sym (entries_in_one at older c.requires.within ∙ ap (λ s. entries (s ∷ [])) taken))
           (new, record { places = record { at = to.0; within = omega (arith, below, on); free = first.free; after = to.2 }; first = first }, refl);
-      left = Carries-one at older left c.requires.within (after ∙ sym (ap (λ s. slice_set older at (carried s)) taken));
+      left = Carries-one at older left c.requires.within (after ∙ sym (ap (λ s. slice_set older at (moved s)) taken));
       apart = subst (λ ss. AreApart g.T.PartialEq.eq ss new) (sym after)
           (AreApart-carry g.T.PartialEq.eq older old new at _ _ c.is_live_at.ensures.distinct c.requires.apart c.requires.within taken put);
       sum =

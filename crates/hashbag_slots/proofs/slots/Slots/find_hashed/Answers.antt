@@ -6,8 +6,8 @@ use Rattle.hashbag_slots.proofs.Reading.{length-slots_of}
 use Rattle.hashbag_slots.proofs.Maps.{entry_at-lookup}
 use Rattle.hashbag_slots.proofs.slots.Slots.find_hashed.Goals as goal
 
-pub find_place-requires-clause-count : goal.find_place-requires-clause-count
-find_place-requires-clause-count g c =
+pub find_place-requires-clause-slots : goal.find_place-requires-clause-slots
+find_place-requires-clause-slots g c =
     subst IsSlotCount (length-slots_of c.self.inside.tags.items c.self.inside.cells c.self.invariant.agree.same_length ∙ sym (ap length c.as_slice.ensures.value)) c.self.invariant.table.count
 
 pub returns-clause-map : goal.returns-clause-map

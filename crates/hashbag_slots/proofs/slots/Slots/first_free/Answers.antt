@@ -5,8 +5,8 @@ use Rattle.hashbag_slots.proofs.Reading.{length-slots_of, low_at, first_low}
 use Rattle.hashbag_slots.proofs.Tables.{some_free}
 use Rattle.hashbag_slots.proofs.slots.Slots.first_free.Goals as goal
 
-pub first_free-requires-clause-count : goal.first_free-requires-clause-count
-first_free-requires-clause-count g c =
+pub first_free-requires-clause-slots : goal.first_free-requires-clause-slots
+first_free-requires-clause-slots g c =
     subst IsSlotCount (length-slots_of c.self.inside.tags.items c.self.inside.cells c.self.invariant.agree.same_length ∙ sym (ap length c.as_slice.ensures.value)) c.self.invariant.table.count
 
 pub first_free-requires-clause-room : goal.first_free-requires-clause-room

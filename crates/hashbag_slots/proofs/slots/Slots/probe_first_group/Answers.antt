@@ -6,8 +6,8 @@ use Rattle.hashbag_slots.proofs.Maps.{known-lookup}
 use Rattle.hashbag_slots.proofs.Reading.{length-slots_of}
 use Rattle.hashbag_slots.proofs.slots.Slots.probe_first_group.Goals as goal
 
-pub probe_first_group-requires-clause-count : goal.probe_first_group-requires-clause-count
-probe_first_group-requires-clause-count g c =
+pub probe_first_group-requires-clause-slots : goal.probe_first_group-requires-clause-slots
+probe_first_group-requires-clause-slots g c =
     subst IsSlotCount (length-slots_of c.self.inside.tags.items c.self.inside.cells c.self.invariant.agree.same_length ∙ sym (ap length c.as_slice.ensures.value)) c.self.invariant.table.count
 
 pub returns-clause-map : goal.returns-clause-map

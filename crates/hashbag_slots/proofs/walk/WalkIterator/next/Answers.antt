@@ -10,7 +10,7 @@ use Rattle.hashbag_slots.proofs.walk.WalkIterator.next.Goals as goal
 here : (g : _) (c : goal.Joined-course-self g) → c.if-course-self.cells.now ≡ of_turn c.in-Some.course.turn c.self.inside.newer.now c.self.inside.older.now
 here g c = elim c.if-course-self.branch [
   | then-course-self b ↦ ap (λ cs. cs.now) b.cells-is ∙ c.self.invariant.2 ∙ sym (ap (λ t. of_turn t c.self.inside.newer.now c.self.inside.older.now) b.if-course-self.true)
-  | else-course-self b ↦ ap (λ cs. cs.now) b.cells-is ∙ b.cells_of-cells.ensures
+  | else-course-self b ↦ ap (λ cs. cs.now) b.cells-is ∙ b.cells_of_turn-cells.ensures
 ]
 
 cell : (g : _) (c : goal.After-get-entry g) → cell_at (of_turn c.in-Some.course.turn c.self.inside.newer.now c.self.inside.older.now) c.in-Some.place ≡ Some c.get-entry.result.now

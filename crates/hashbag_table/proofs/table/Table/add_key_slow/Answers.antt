@@ -14,7 +14,7 @@ returns-in-Some-clause-before g c =
 pub returns-in-Some-clause-added : goal.returns-in-Some-clause-added
 returns-in-Some-clause-added g c =
     named_raised g.T.PartialEq.eq g.met.T.Eq.laws (g.Q.Key.names c.args.key) (g.met.Q.Key.names_one c.args.key) c.args.n c.args.self.now c.in-Some.spot c.in-Some.ensures.map c.in-Some.ensures.held c.raise_spot-before.result c.raise_spot-before.ensures.before
-    c.raise_spot-before.new.self c.held.ensures.counted c.raise_spot-before.ensures.after c.raise_spot-before.ensures.map c.raise_spot-before.ensures.hasher c.raise_spot-before.ensures.counted
+    c.raise_spot-before.new.self c.show_invariant.ensures.counted c.raise_spot-before.ensures.after c.raise_spot-before.ensures.map c.raise_spot-before.ensures.hasher c.raise_spot-before.ensures.counted
 
 pub insert_hashed-requires-clause-hashed : goal.insert_hashed-requires-clause-hashed
 insert_hashed-requires-clause-hashed g c =

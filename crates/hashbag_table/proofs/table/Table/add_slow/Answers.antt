@@ -23,7 +23,7 @@ returns-in-Some-clause-before g c =
 pub returns-in-Some-clause-added : goal.returns-in-Some-clause-added
 returns-in-Some-clause-added g c =
     adds_raised g.T.PartialEq.eq g.met.T.Eq.laws c.args.value c.args.n c.args.self.now c.raise_spot-before.new.self c.in-Some.spot c.in-Some.ensures.map c.in-Some.ensures.held c.raise_spot-before.result c.raise_spot-before.ensures.before
-    c.held.ensures.counted c.raise_spot-before.ensures.after c.raise_spot-before.ensures.map c.raise_spot-before.ensures.hasher c.raise_spot-before.ensures.counted
+    c.show_invariant.ensures.counted c.raise_spot-before.ensures.after c.raise_spot-before.ensures.map c.raise_spot-before.ensures.hasher c.raise_spot-before.ensures.counted
 
 pub returns-clause-before : goal.returns-clause-before
 returns-clause-before g c = sym (count_absent g.T.PartialEq.eq c.args.value c.args.self.now.entries (sym (c.in_default.ensures.map)))

@@ -32,7 +32,7 @@ returns g c =
     let all : IsPermutation (entries_of i.newer.slots i.older.slots) c.into_walk.result = subst (λ (s : _). IsPermutation (entries s.slots ++ entries i.older.slots) c.into_walk.result) c.replace-newer.ensures.value
     (subst (λ (s : _). IsPermutation (entries c.replace-newer.result.slots ++ entries s.slots) c.into_walk.result) c.replace-older.ensures.value c.into_walk.ensures.entries) in
     let same : entries_of i.newer.slots (drop i.carried_to i.older.slots) ≡ entries_of i.newer.slots i.older.slots =
-    ap (λ es. entries i.newer.slots ++ es) (entries-drop i.older.slots i.carried_to t.carried_within t.carried_slots_dead) in (
+    ap (λ es. entries i.newer.slots ++ es) (entries-drop i.older.slots i.carried_to t.carried_within t.carried_not_live) in (
       (refl, λ w. none_left i.hasher _ _ i.built e f ∙ ap emptied c.self.view_is),
       record {
         ends_empty = tt;

@@ -8,7 +8,7 @@ use Rattle.hashbag_table.proofs.table.Table.insert_hashed.Goals as goal
 
 pub returns-in_err-carry_or_grow-clause-counted : goal.returns-in_err-carry_or_grow-clause-counted
 returns-in_err-carry_or_grow-clause-counted g c =
-    subst (λ t. IsCounted g.T.PartialEq.eq t.entries) (sym c.in_err-carry_or_grow.ensures.err) c.held.ensures.counted
+    subst (λ t. IsCounted g.T.PartialEq.eq t.entries) (sym c.in_err-carry_or_grow.ensures.err) c.show_invariant.ensures.counted
 
 pub place_absent-requires-clause-absent : goal.place_absent-requires-clause-absent
 place_absent-requires-clause-absent g c =

@@ -13,7 +13,7 @@ fit g c =
 pub overflow_sub-values : goal.overflow_sub-values
 overflow_sub-values g c = omega (arith, fit g (goal.at.overflow_sub-values g c).After-slots-slots, c.set_len-values.ensures.len, most_is)
 
-pub returns-clause-beyond : goal.returns-clause-beyond
-returns-clause-beyond g c beyond =
-    let most = fit g (goal.at.returns-clause-beyond g c).After-slots-slots in
+pub returns-clause-past_most : goal.returns-clause-past_most
+returns-clause-past_most g c beyond =
+    let most = fit g (goal.at.returns-clause-past_most g c).After-slots-slots in
     absurd (omega (arith, most, c.set_len-values.ensures.len, most_is, c.if-n-values.false, beyond))

@@ -17,12 +17,12 @@ returns-in-Some-clause-map g c =
     let apart = lookup-IsAbsent names c.self.inside.newer.slots (subst (λ m. IsAbsent names m.tables.newer) (sym c.self.view_is) c.requires.absent) in
     sym (ap (λ m. slot_entry (slot_at m.tables.waiting (p - c.self.inside.carried_to))) c.self.view_is)
     ∙ ap slot_entry (waiting_at eq hash c.self.inside.newer c.self.inside.older c.self.inside.carried_to c.self.invariant p le)
-    ∙ found_older names (slot_entry (slot_at c.self.inside.older.slots p)) c.self.inside.newer.slots c.self.inside.older.slots c.self.inside.carried_to t.carried_within t.carried_slots_dead (sym apart) c.in-Some.ensures.map
+    ∙ found_older names (slot_entry (slot_at c.self.inside.older.slots p)) c.self.inside.newer.slots c.self.inside.older.slots c.self.inside.carried_to t.carried_within t.carried_not_live (sym apart) c.in-Some.ensures.map
     ∙ ap (λ m. named_entry names m.entries) c.self.view_is
 
 pub returns-in-None-clause-map : goal.returns-in-None-clause-map
 returns-in-None-clause-map g c =
     let names = g.Q.Key.names c.args.key in let t = c.self.invariant.tables in
     let apart = lookup-IsAbsent names c.self.inside.newer.slots (subst (λ m. IsAbsent names m.tables.newer) (sym c.self.view_is) c.requires.absent) in
-    found_older names None c.self.inside.newer.slots c.self.inside.older.slots c.self.inside.carried_to t.carried_within t.carried_slots_dead (sym apart) c.in-None.ensures.map
+    found_older names None c.self.inside.newer.slots c.self.inside.older.slots c.self.inside.carried_to t.carried_within t.carried_not_live (sym apart) c.in-None.ensures.map
     ∙ ap (λ m. named_entry names m.entries) c.self.view_is

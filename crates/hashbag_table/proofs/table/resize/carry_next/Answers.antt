@@ -9,7 +9,7 @@ use Rattle.hashbag_table.proofs.table.resize.carry_next.Goals as goal
 pub carry_from-requires-clause-room : goal.carry_from-requires-clause-room
 carry_from-requires-clause-room g c =
     let t = c.requires.tables in
-    let l = live-drop c.args.older.now.slots c.args.carried_to t.carried_within t.carried_slots_dead in let f = t.fits in omega (arith, l, f)
+    let l = live-drop c.args.older.now.slots c.args.carried_to t.carried_within t.carried_not_live in let f = t.fits in omega (arith, l, f)
 
 -- what the carry leaves, before an older table of which all was carried is freed
 within : (g : _) (c : After-carry_from g) → c.args.carried_to + c.min-many.result ≤ length c.args.older.now.slots

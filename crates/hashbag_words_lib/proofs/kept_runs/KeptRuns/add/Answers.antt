@@ -5,8 +5,8 @@ use Rattle.hashbag_words_lib.proofs.KeptRunsLemmas.{kept_fed, kept_merged}
 use Rattle.hashbag_words_lib.proofs.kept_runs.KeptRuns.add.Goals as goal
 
 -- a run was fed
-pub returns-clause-fed : goal.returns-clause-fed
-returns-clause-fed c = λ rows later fed run kept written.
+pub returns-clause-new_rows : goal.returns-clause-new_rows
+returns-clause-new_rows c = λ rows later fed run kept written.
     let self = c.args.self.now in
     subst (λ (l : List ℕ). AreKept [] (self.files.items ++ l) c.in-Some.next later (fed ++ run ∷ [])) (sym c.in_ok-push.ensures)
     (kept_fed self.files.items (runs_in self.kept) self.next_number c.in-Some.next rows later fed run c.in-Some.ensures.1 written kept)

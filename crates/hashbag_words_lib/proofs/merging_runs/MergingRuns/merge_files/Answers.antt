@@ -11,8 +11,8 @@ returns-in_default-clause-merges g c =
     merges_both read c.args.self.now c.merges.self (record c.merges.self { kept = c.take_files.new.self }) c.merges.invariant
     (taken_none read c.in_ok-merge.field-0 c.merges.self c.take_files.new.self c.in_default.is c.in_ok-merge.ensures.numbers c.in_ok-merge.ensures.taken)
 
-pub returns-in_default-clause-alike : goal.returns-in_default-clause-alike
-returns-in_default-clause-alike g c = c.in_ok-merge.ensures.end c.in_default.is
+pub returns-in_default-clause-one_kind : goal.returns-in_default-clause-one_kind
+returns-in_default-clause-one_kind g c = c.in_ok-merge.ensures.end c.in_default.is
 
 -- files were merged, and runs too, as often as a level was full
 pub merges-preserved : goal.merges-preserved

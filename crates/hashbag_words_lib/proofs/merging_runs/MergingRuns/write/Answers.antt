@@ -10,5 +10,5 @@ returns g c =
     let read = g.T.NumberedTexts.bytes_read in
     let tape = c.in-Ok.tape in
     keeps_rows read (bytes_left c.args.text.now) c.args.self.now c.merge_full.new.self
-    (subst (λ (l : List ℕ). AddsRuns read (l ∷ []) c.args.self.now c.merge_full.new.self) c.in-Ok.ensures.told
+    (subst (λ (l : List ℕ). AddsRuns read (l ∷ []) c.args.self.now c.merge_full.new.self) c.in-Ok.ensures.tape
     (adds_merged read (tape ∷ []) c.args.self.now c.add.new.self c.merge_full.new.self (run_added read tape c.args.self.now c.add.new.self c.in_ok-add.ensures) c.in_ok-merge_full.ensures))

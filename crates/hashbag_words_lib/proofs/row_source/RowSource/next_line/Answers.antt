@@ -32,8 +32,8 @@ returns-in-Some-read-clause-meets c = λ more may.
     let whole : self.unread ++ more ≡ front ++ 10 ∷ rest = ap (λ (l : List ℕ). l ++ more) (sym c.bytes-bytes.ensures ∙ found.1) ∙ append_assoc front (10 ∷ drop (at + 1) bytes) more in
     let left : c.skip.new.self ++ more ≡ rest = ap (λ (l : List ℕ). l ++ more) (c.skip.ensures ∙ ap (drop (at + 1)) (sym c.bytes-bytes.ensures)) in
     let same : c.read_line.new.reading.bad_lines ≡ bad = c.read_line.ensures.bad_lines ∙ c.count_line.ensures.bad_lines in
-    let is : form ≡ Tsv → bad ≡ Rejected → read_as (marked_line marked (strip_carriage_return front)) ≡ Some (row_of row) = λ tsv refused.
-    let read = subst (λ o. IsSomeAnd o (λ r. read_as c.unmarked-line.result.now ≡ Some (row_of r))) c.in-Some-read.is (c.in_ok-read.ensures.row tsv (c.count_line.ensures.bad_lines ∙ refused)) in
+    let is : form ≡ Tsv → bad ≡ Rejected → read_as (marked_line marked (strip_carriage_return front)) ≡ Some (row_of row) = λ tsv rejected.
+    let read = subst (λ o. IsSomeAnd o (λ r. read_as c.unmarked-line.result.now ≡ Some (row_of r))) c.in-Some-read.is (c.in_ok-read.ensures.row tsv (c.count_line.ensures.bad_lines ∙ rejected)) in
     let shown : marked_line marked (strip_carriage_return front) ≡ c.unmarked-line.result.now =
     by_mark marked (strip_carriage_return front) c.unmarked-line.result.now (λ no_mark. c.unmarked-line.ensures.plain no_mark ∙ c.without_return.ensures) (λ mark. c.unmarked-line.ensures.marked mark ∙ ap without_mark c.without_return.ensures) in
     ap read_as shown ∙ read
@@ -48,4 +48,4 @@ pub returns-in-None-clause-meets : goal.returns-in-None-clause-meets
 returns-in-None-clause-meets c = λ more may.
     let self = c.args.self.now in
     none_passed self.form self.reading.bad_lines self.may_be_marked (self.unread ++ more)
-    (λ tsv refused. subst (λ o. IsSomeAnd o (λ r. read_as c.unmarked-line.result.now ≡ Some (row_of r))) c.in-None.is (c.in_ok-read.ensures.row tsv (c.count_line.ensures.bad_lines ∙ refused)))
+    (λ tsv rejected. subst (λ o. IsSomeAnd o (λ r. read_as c.unmarked-line.result.now ≡ Some (row_of r))) c.in-None.is (c.in_ok-read.ensures.row tsv (c.count_line.ensures.bad_lines ∙ rejected)))

@@ -4,7 +4,7 @@ use Rattle.hashbag_words_lib.specs.Sources.{Gives}
 use Rattle.hashbag_words_lib.specs.declared.lines.BadLines.TheVariants.{Rejected, Skipped}
 use Rattle.hashbag_words_lib.specs.declared.row_source.Next.TheVariants.{End}
 use Rattle.hashbag_words_lib.proofs.CountedLemmas.{nil_of}
-use Rattle.hashbag_words_lib.proofs.RunLemmas.{gives_end, known_refused}
+use Rattle.hashbag_words_lib.proofs.RunLemmas.{gives_end, known_rejected}
 use Rattle.hashbag_words_lib.proofs.row_source.RowSource.next_unended.Goals as goal
 
 -- all bytes were read, and no more come
@@ -20,6 +20,6 @@ returns-then-n-eq0-clause-meets c = λ more may.
 pub returns-clause-meets : goal.returns-clause-meets
 returns-clause-meets c = λ more may known.
     let self = c.args.self.now in
-    let refused : self.reading.bad_lines ≡ Rejected = known_refused self.form self.reading.bad_lines self.may_be_marked (self.unread ++ more) known in
+    let rejected : self.reading.bad_lines ≡ Rejected = known_rejected self.form self.reading.bad_lines self.may_be_marked (self.unread ++ more) known in
     let skipped : self.reading.bad_lines ≡ Skipped = sym c.count_line.ensures.bad_lines ∙ c.in_ok-pass_over.ensures.only_passed in
-    let both : Rejected ≡ Skipped = sym refused ∙ skipped in absurd (cc)
+    let both : Rejected ≡ Skipped = sym rejected ∙ skipped in absurd (cc)

@@ -14,17 +14,17 @@ lengthened n m long before after went none same all =
 pub invariant_of-result : goal.invariant_of-result
 invariant_of-result g c =
     let i = c.self.inside in
-    let tags = lengthened (vec_capacity i.tags) c.capacity-count.result i.tags.len i.tags.items c.resize.new.self.items (rw c.unwrap.ensures at c.resize.ensures.items) c.self.invariant.1 i.tags.ok.0 c.capacity-count.ensures in
+    let tags = lengthened (vec_capacity i.tags) c.capacity-slots.result i.tags.len i.tags.items c.resize.new.self.items (rw c.unwrap.ensures at c.resize.ensures.items) c.self.invariant.1 i.tags.ok.0 c.capacity-slots.ensures in
     blank_columns (vec_capacity i.tags) c.resize.new.self.items i.cells tags c.self.invariant.2 g.T.PartialEq.eq c.self.invariant.0
 
 pub returns-clause-slots : goal.returns-clause-slots
 returns-clause-slots g c =
     let i = c.self.inside in
-    let tags = lengthened (vec_capacity i.tags) c.capacity-count.result i.tags.len i.tags.items c.resize.new.self.items (rw c.unwrap.ensures at c.resize.ensures.items) c.self.invariant.1 i.tags.ok.0 c.capacity-count.ensures in
+    let tags = lengthened (vec_capacity i.tags) c.capacity-slots.result i.tags.len i.tags.items c.resize.new.self.items (rw c.unwrap.ensures at c.resize.ensures.items) c.self.invariant.1 i.tags.ok.0 c.capacity-slots.ensures in
     blank_slots (vec_capacity i.tags) c.resize.new.self.items i.cells tags c.self.invariant.2 ∙ ap (λ n. replicate n Empty) c.self.view_is
 
 pub returns-clause-reached : goal.returns-clause-reached
 returns-clause-reached g c hash =
     let i = c.self.inside in
-    let tags = lengthened (vec_capacity i.tags) c.capacity-count.result i.tags.len i.tags.items c.resize.new.self.items (rw c.unwrap.ensures at c.resize.ensures.items) c.self.invariant.1 i.tags.ok.0 c.capacity-count.ensures in
+    let tags = lengthened (vec_capacity i.tags) c.capacity-slots.result i.tags.len i.tags.items c.resize.new.self.items (rw c.unwrap.ensures at c.resize.ensures.items) c.self.invariant.1 i.tags.ok.0 c.capacity-slots.ensures in
     blank_reached (vec_capacity i.tags) c.resize.new.self.items i.cells tags c.self.invariant.2 hash

@@ -3,7 +3,7 @@ use Rattle.std.proofs.lemmas.Iterator.Adapters.{YieldsList-from_vec}
 use Rattle.hashbag.specs.Inserts.{empty_bag}
 use Rattle.hashbag.proofs.CallerLemmas.{count_listed}
 use Rattle.hashbag_ops.proofs.MostCommon.{first_is_most}
-use Rattle.hashbag_callers.proofs.list_uses.commonest.Goals as goal
+use Rattle.hashbag_callers.proofs.list_uses.most_common_value.Goals as goal
 
 -- the bag has the counts of the list
 pub returns-in-Some : goal.returns-in-Some

@@ -2,7 +2,7 @@ use Rattle.std.proofs.Common.{◌+◌, ◌∙◌, inl, inr, arith}
 use Rattle.std.proofs.lemmas.Bool.{cases_lt, leb-false}
 use Rattle.hashbag_slots.proofs.GroupLemmas.{none_told, tells_fresh}
 use Rattle.hashbag_slots.proofs.Walking.{is_fingerprint, in_block, third_block, other_pass}
-use Rattle.hashbag_slots.proofs.live.live_group.Goals as goal
+use Rattle.hashbag_slots.proofs.live.next_live_group.Goals as goal
 
 pub groups-preserved-then-at-eq0 : goal.groups-preserved-then-at-eq0
 groups-preserved-then-at-eq0 c =

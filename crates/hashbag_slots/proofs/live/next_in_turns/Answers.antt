@@ -2,8 +2,8 @@ use Rattle.std.proofs.Common.{◌≡◌, ◌+◌, ◌-◌, ◌/◌, suc, ℕ, sy
 use Rattle.hashbag_slots.specs.Walks.{of_turn, IsNextGroup, NoneLive}
 use Rattle.hashbag_slots.proofs.GroupLemmas.{tells_fresh}
 use Rattle.hashbag_slots.proofs.Walking.{is_fingerprint, of_turn-odd, of_turn-even, next_on, next_on_earlier, left_skip, turn_ends, last_ends}
-use Rattle.hashbag_slots.proofs.live.seek.Goals.{then-turn-eq1, else-turn-eq1, In_default, Joined-turn-eq1}
-use Rattle.hashbag_slots.proofs.live.seek.Goals as goal
+use Rattle.hashbag_slots.proofs.live.next_in_turns.Goals.{then-turn-eq1, else-turn-eq1, In_default, Joined-turn-eq1}
+use Rattle.hashbag_slots.proofs.live.next_in_turns.Goals as goal
 
 pub overflow_add-course : goal.overflow_add-course
 overflow_add-course c =

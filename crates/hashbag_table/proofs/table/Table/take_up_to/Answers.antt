@@ -6,8 +6,8 @@ use Rattle.hashbag_table.specs.Tables.{Swaps, slot_in}
 use Rattle.hashbag_table.proofs.KeyLemmas.{named_present, named_absent, named_found, named_positive}
 use Rattle.hashbag_table.proofs.RoomKeptLemmas.{kept_Rewrites}
 use Rattle.hashbag_table.proofs.SpotLemmas.{held_entry, fewer_swapped, gone_swapped, fewer_absent}
-use Rattle.hashbag_table.proofs.table.Table.take.Goals.{In-Some, After-take_spot-former}
-use Rattle.hashbag_table.proofs.table.Table.take.Goals as goal
+use Rattle.hashbag_table.proofs.table.Table.take_up_to.Goals.{In-Some, After-take_spot-former}
+use Rattle.hashbag_table.proofs.table.Table.take_up_to.Goals as goal
 
 -- the entry at the spot, which is that of the named value
 held_at : (g : _) (c : In-Some g) → (e : g.row.T.Denot × ℕ) × (slot_entry (slot_in c.args.self.now.tables c.in-Some.spot) ≡ Some e)

@@ -1,6 +1,6 @@
 use Rattle.std.proofs.Common.{◌≡◌, ◌%◌, ◌≤◌, length}
 use Rattle.hashbag_slots.specs.Walks.{of_turn, places_left}
-use Rattle.hashbag_slots.proofs.live.seek.Given as goal
+use Rattle.hashbag_slots.proofs.live.next_in_turns.Given as goal
 
 -- what was left is what is left from here on
 abbrev pub invariant-turns : goal.invariant-turns

@@ -1,7 +1,7 @@
 use Rattle.std.proofs.Common.{List, ℕ, Some, refl, sym, ◌∙◌, ap}
 use Rattle.csv.specs.Reading.{strip_bom}
 use Rattle.hashbag_csv.proofs.ReaderLemmas.{cut_is, unread}
-use Rattle.hashbag_csv.proofs.sheet.Sheet.unread.Goals as goal
+use Rattle.hashbag_csv.proofs.sheet.Sheet.open_unread.Goals as goal
 
 -- all records of the text without its mark
 pub returns-clause-left : goal.returns-clause-left

@@ -1,10 +1,10 @@
 use Rattle.std.proofs.Common.{◌≡◌, ℕ, ◌+◌, ◌-◌, ◌%◌, ◌<◌, ◌≤◌, length, get_or}
 use Rattle.hashbag_slots.specs.Walks.{pass_of}
-use Rattle.hashbag_slots.proofs.live.live_group.Given as goal
+use Rattle.hashbag_slots.proofs.live.next_live_group.Given as goal
 
 -- the group at `at` is of the pass, and no slot of the pass before it is Live
 abbrev pub invariant-groups : goal.invariant-groups
 invariant-groups l = (l.from ≤ l.at) × (l.at ≤ length l.tags + 512) × (l.at % 16 ≡ 0) × (pass_of l.at ≡ l.pass) × ((q : ℕ) → l.from ≤ q → q < l.at → pass_of q ≡ l.pass → get_or l.tags q 0 < 128)
 
 abbrev pub decreases-groups : goal.decreases-groups
-decreases-groups l = l.count + 512 - l.at
+decreases-groups l = l.slots + 512 - l.at

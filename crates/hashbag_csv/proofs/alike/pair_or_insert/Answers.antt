@@ -2,7 +2,7 @@ use Rattle.std.proofs.Common.{◌≡◌, ◌∙◌, Some, sym}
 use Rattle.std.specs.HashMap.{get}
 use Rattle.hashbag_csv.specs.Alike.{same_texts}
 use Rattle.hashbag_csv.proofs.AlikeLemmas.{noted, paired}
-use Rattle.hashbag_csv.proofs.alike.pair_or_note.Goals as goal
+use Rattle.hashbag_csv.proofs.alike.pair_or_insert.Goals as goal
 
 -- next to the first article with these fields
 pub returns-in_ok-push-in-Some-clause-near : goal.returns-in_ok-push-in-Some-clause-near
