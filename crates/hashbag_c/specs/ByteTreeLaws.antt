@@ -15,7 +15,7 @@ same_some x y e = cc
 two_of : {X : Type 0} (o : Option X) (x y : X) → o ≡ Some x → o ≡ Some y → x ≡ y
 two_of o x y p q = same_some x y (sym p ∙ q)
 
--- ---- what is read of a tree is made of bytes
+-- ---- if a tree is read as a list, each number of the list is a byte
 
 abbrev IsOfBytes : Option (List ℕ) → Type 0
 IsOfBytes None = Unit {0}
@@ -53,7 +53,7 @@ some_is_read (Some x) h e = (x, h, refl)
 pub bytes_are_read : (d : Data) → is_some (bytes_item d) ≡ true → (x : List ℕ) × (are_bytes x ≡ true) × (bytes_item d ≡ Some x)
 bytes_are_read d e = some_is_read (bytes_item d) (in_tree d) e
 
--- ---- the tree of a byte string is read as it
+-- ---- the tree of a byte string is read as this byte string
 
 pub text_read : (x : List ℕ) → are_bytes x ≡ true → text_within x ≡ Some x
 text_read x h = ap (λ b. cond b (Some x) None) h

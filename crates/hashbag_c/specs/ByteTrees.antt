@@ -22,20 +22,20 @@ bytes_tree bs = if is_utf8 bs then string bs else numbers_tree bs
 abbrev pub byte_within : ℕ → Option ℕ
 byte_within n = if nat_lt n 256 then Some n else None
 
--- the byte that a tree is, none if it isn't a whole number from 0 to 255
+-- a tree read as a byte, none if it isn't a whole number from 0 to 255
 abbrev pub byte_item : Data → Option ℕ
 byte_item d = option_and_then byte_within (u64_of d)
 
--- the bytes that the trees of an array are, none if one of them isn't a byte
+-- the trees of an array read as bytes, none if one of the trees isn't a byte
 abbrev pub bytes_in : Items → Option (List ℕ)
 bytes_in no_items = Some []
 bytes_in (item d ds) = option_and_then (λ b. option_map (λ bs. b ∷ bs) (bytes_in ds)) (byte_item d)
 
--- the bytes of a string if they are bytes, else none. No tree of a `Value` has a string of other numbers
+-- the string if each of its numbers is a byte, else none. In the tree of a `Value` each is
 abbrev pub text_within : List ℕ → Option (List ℕ)
 text_within s = if are_bytes s then Some s else None
 
--- the byte string that a tree is, none if it is neither a string nor an array of whole numbers from 0 to 255
+-- a tree read as a byte string, none if it is neither a string nor an array of whole numbers from 0 to 255
 abbrev pub bytes_item : Data → Option (List ℕ)
 bytes_item null = None
 bytes_item (boolean b) = None

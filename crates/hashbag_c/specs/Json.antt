@@ -100,7 +100,7 @@ fault_number (TooMany i) = 7
 fault_number json_error.Memory = 8
 fault_number BadLimit = 10
 
--- the pair that is at fault
+-- the index of the pair that is at fault, if a pair is
 abbrev pub fault_pair : JsonError → Option ℕ
 fault_pair NotAnArray = None
 fault_pair (NotAPair i) = Some i
@@ -116,7 +116,7 @@ code_of Memory = 1
 code_of (NotJson place) = 24
 code_of (Fault error) = fault_number error
 
--- the place of an error: that in the text, or the number of the pair that is at fault
+-- the place of an error: the place in the text, or the index of the pair that is at fault
 abbrev pub place_of : TextError → Option ℕ
 place_of Memory = None
 place_of (NotJson place) = Some place

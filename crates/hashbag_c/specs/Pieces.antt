@@ -6,11 +6,11 @@ use Rattle.hashbag_c.specs.Quotas.{Retains}
 use Rattle.hashbag_c.specs.Whole.{Adds}
 use Rattle.hashbag_c.specs.declared.state.Keys.{Keys}
 
--- a byte string is that from one place of `bytes` to another
+-- `piece` is the bytes from place `from` up to place `end`
 abbrev pub IsPiece : List ℕ → ℕ → ℕ → List ℕ → Type 0
 IsPiece bytes from end piece = (piece ≡ slice_range bytes from end) × (from ≤ end) × (end ≤ length bytes)
 
--- the strings that lie one after another, the first from a place on: each ends where `ends` says
+-- the strings that lie one after another in `bytes`. The first begins at place `from`, and each ends at its place in `ends`
 abbrev pub pieces_from : ℕ → List ℕ → List ℕ → List (List ℕ)
 pieces_from from bytes [] = []
 pieces_from from bytes (end ∷ ends) = slice_range bytes from end ∷ pieces_from end bytes ends

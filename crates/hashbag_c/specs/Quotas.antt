@@ -5,7 +5,7 @@ use Rattle.hashbag_core.specs.Bag.{Bag}
 use Rattle.hashbag_core.specs.Occurrences.{count}
 
 module _ {T : Type 0} (eq : T → T → Bool) where
-  -- the number beside the first listed value that equals v, 0 if there is none. A value without a number isn't listed
+  -- the number in `ns` at the place of the first listed value that equals v, 0 if there is none. A value without a number isn't listed
   abbrev pub quota : T → List T → List ℕ → ℕ
   quota v [] ns = 0
   quota v (u ∷ us) [] = 0

@@ -19,7 +19,7 @@ use Rattle.hashbag_c.specs.declared.state.State.{State}
 abbrev pub least_length : {X Y Z : Type 0} → List X → List Y → List Z → ℕ
 least_length xs ys zs = min (length xs) (min (length ys) (length zs))
 
--- the first n entries of a walk over numbers are written, as many as there are or both arrays have places for
+-- the first n entries of a walk over numbers are written: n is the number of entries, or of places in the shorter array if that is less
 pub record HasWritten {C : Type 0} (entries : List (ℕ × C)) (n : ℕ) (values : List ℕ) (counts : List C) : Type 0 where
   pub places : n ≡ least_length entries values counts
   pub values_are : take n values ≡ map (λ e. e.0) (take n entries)
@@ -31,7 +31,7 @@ pub record HasRead {C : Type 0} (IsWalk : List (ℕ × C) → Type 0) (n : ℕ) 
   pub is_walk : IsWalk walk
   pub written : HasWritten walk n values counts
 
--- the first n items of an outer join of two bags are written: as many as there are or the three arrays have places for
+-- the first n items of an outer join of two bags are written: n is the number of items, or of places in the shortest array if that is less
 pub record HasReadJoin (first second : Bag ℕ State) (n : ℕ) (values firsts seconds : List ℕ) : Type 0 where
   pub join : List (ℕ × ℕ × ℕ)
   pub outer_join : IsOuterJoinOf nat_eq first second join
@@ -49,8 +49,8 @@ abbrev pub ends_from : {C : Type 0} → ℕ → List (List ℕ × C) → List �
 ends_from at [] = []
 ends_from at (e ∷ walk) = (at + length e.0) ∷ ends_from (at + length e.0) walk
 
--- the first n entries of a walk over byte strings are written, the strings one after another. If that isn't all, the next one has no place, so all
--- are written, if there are places for them, and bytes for their strings
+-- the first n entries of a walk over byte strings are written, the strings one after another. If that isn't all, the next entry has no place
+-- (`most`). So all are written if `ends` and `counts` have places for all entries, and `bytes` for all their bytes (`all`)
 pub record HasWrittenTexts {C : Type 0} (entries : List (List ℕ × C)) (n : ℕ) (bytes ends : List ℕ) (counts : List C) : Type 0 where
   pub few : n ≤ length entries
   pub bytes_are : take (size_of (take n entries)) bytes ≡ flat_map (λ e. e.0) (take n entries)
@@ -96,7 +96,7 @@ HasMostCommonNumbers bag n values counts = HasRead (IsMostCommon nat_eq nat_cmp 
 abbrev pub HasSortedTexts : Bag (List ℕ) Keys → ℕ → List ℕ → List ℕ → List ℕ → Type 0
 HasSortedTexts bag n bytes ends counts = HasReadTexts (IsSortedWalkOf bytes_eq (slice_cmp nat_cmp) bag) n bytes ends counts
 
--- the most common byte strings of a bag are written, n of as many as there are ends and counts
+-- the first n of the k most common byte strings of a bag are written; k is the lesser of the lengths of `ends` and `counts`
 abbrev pub HasMostCommonTexts : Bag (List ℕ) Keys → ℕ → List ℕ → List ℕ → List ℕ → Type 0
 HasMostCommonTexts bag n bytes ends counts = HasReadTexts (IsMostCommon bytes_eq (slice_cmp nat_cmp) (min (length ends) (length counts)) bag) n bytes ends counts
 
@@ -110,7 +110,7 @@ pub record HasSize (bag : Bag (List ℕ) Keys) (size : ℕ) : Type 0 where
 abbrev pub BeginWithStrings : List ℕ → List (List ℕ × ℕ) → Type 0
 BeginWithStrings bytes pairs = take (size_of pairs) bytes ≡ flat_map (λ e. e.0) pairs
 
--- all items of a join are written, if there are places for them, and bytes for their strings
+-- all items of a join are written if `ends`, `firsts` and `seconds` have places for all items, and `bytes` for all their bytes
 abbrev pub WritesAllJoinedIfTheyFit : List (List ℕ × ℕ × ℕ) → List ℕ → List ℕ → List ℕ → List ℕ → ℕ → Type 0
 WritesAllJoinedIfTheyFit items bytes ends firsts seconds written =
     length items ≤ length ends → length items ≤ length firsts → length items ≤ length seconds → size_of (with_firsts items) ≤ length bytes → written ≡ length items

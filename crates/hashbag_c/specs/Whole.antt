@@ -11,7 +11,7 @@ use Rattle.hashbag_c.specs.Calls.{named, occurs, HasNumbers, HasTexts, BothNumbe
 use Rattle.hashbag_c.specs.declared.held.Held.{Held}
 use Rattle.hashbag_c.specs.declared.state.Keys.{Keys}
 
--- n more would pass the limit of a bag
+-- with n more occurrences, the total would pass the limit of a bag
 abbrev pub Overfills : {T S : Type 0} → Bag T S → ℕ → Type 0
 Overfills bag n = bag.most < length bag.items + n
 
@@ -84,7 +84,7 @@ CanHold bag n = length bag.items + n ≤ bag.most
 abbrev pub TotalChangesAs : {T S : Type 0} → ℕ → ℕ → Bag T S → Bag T S → Type 0
 TotalChangesAs was is bag after = length after.items + was ≡ length bag.items + is
 
--- the total changes as the count of what a key names did, which is `now` after
+-- the total changes by as much as the count of what a key names. That count is `now` afterwards
 abbrev pub TotalFollows : {T S : Type 0} → (T → Bool) → ℕ → Bag T S → Bag T S → Type 0
 TotalFollows names now bag after = TotalChangesAs (count_named names bag.items) now bag after
 
@@ -92,7 +92,7 @@ TotalFollows names now bag after = TotalChangesAs (count_named names bag.items) 
 abbrev pub InsertsText : List ℕ → ℕ → Bag (List ℕ) Keys → Bag (List ℕ) Keys → Type 0
 InsertsText bytes n bag after = InsertsNamed bytes_eq (named bytes) n bag after
 
--- the total of `bag`, with what its count of the byte string lacks to n, is within the limit
+-- the total stays within the limit if the count of the byte string is raised to n. A count above n is left as it is
 abbrev pub CanSet : List ℕ → ℕ → Bag (List ℕ) Keys → Type 0
 CanSet bytes n bag = CanHold bag (n - occurs bytes bag)
 

@@ -208,7 +208,7 @@ fn copied(held: &Held) -> Result<Held, BagError>
 /// `HASHBAG_MEMORY` if an allocation fails; `HASHBAG_EMPTY` if `handle` has no bag. Then nothing changes.
 #[unsafe(no_mangle)]
 pub extern "C" fn hashbag_clone(alloc: Global, handle: &mut Handle, copy: &mut Handle) -> u8
-    // If the result is 0: `copy` has the counts, the total, the limit and the hash state of the bag, in the least number of slots with room.
+    // If the result is 0: `copy` has the counts, the total, the limit and the hash state of the bag, in the fewest slots with room for its values.
     ensures copied { result ≡ 0 → BagTo handle.old.held copy.new.held (λ _ _ eq bag made. IsCopy eq bag made) }
     ensures memory { result ≢ 0 → (result ≡ 1) ⊎ (handle.old.held ≡ None) }
     ensures empty { handle.old.held ≡ None → result ≡ EMPTY }

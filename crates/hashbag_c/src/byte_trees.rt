@@ -29,7 +29,7 @@ fn list_value(alloc: Global, bytes: &[u8]) -> Result<Value, AllocError>
     Ok(Value::Array(list))
 }
 
-// Returns the byte that a tree is.
+// Returns the byte of a tree, or `None` if the tree isn't a whole number from 0 to 255.
 fn byte_of(tree: &Value) -> Option<u8>
     ensures { result ≡ byte_item (view tree.now) }
 {
@@ -44,7 +44,7 @@ fn byte_of(tree: &Value) -> Option<u8>
     }
 }
 
-// Returns whether each tree is that of a byte.
+// Returns whether each tree is a byte.
 fn all_are_bytes(list: &Vec<Value>) -> bool
     ensures { result ≡ is_some (bytes_in (items_view list.now.items)) }
 {
@@ -57,7 +57,7 @@ fn all_are_bytes(list: &Vec<Value>) -> bool
     true
 }
 
-// Returns the bytes that trees are, if each is one.
+// Returns the bytes of the trees, or `None` if a tree isn't a byte.
 fn bytes_of(alloc: Global, list: &Vec<Value>) -> Result<Option<Vec<u8>>, AllocError>
     ensures { IfOk result (λ r. option_map (λ v. v.items) r ≡ bytes_in (items_view list.now.items)) }
 {
@@ -97,7 +97,7 @@ impl JsonItem for Bytes {
         let Some(list) = v.as_array() else {
             return Err(ItemError::NotAnItem);
         };
-        // An array of something else is no item, whether there is memory or not.
+        // Checked before anything is allocated: an array of other values is `NotAnItem` even if an allocation would fail.
         if !all_are_bytes(list) {
             return Err(ItemError::NotAnItem);
         }

@@ -15,7 +15,8 @@ use hashbag_core::{BagError, HashBag};
 use std::alloc::Global;
 use std::hash::{BuildHasher, Hash};
 
-/// Calls a function with the bags of two handles, if both are of one kind, and is what it returns. Else it is `EMPTY` or `KIND`.
+/// Calls `$call` with the bags of two handles if both are of one kind; the value is the result of the call. If the kinds differ, the value is
+/// `KIND`. If a handle is empty, the surrounding function returns `EMPTY`.
 macro_rules! with_two_bags {
     ($alloc:ident, $a:ident, $b:ident, $call:ident) => {
         with_both!($alloc, $a, $b, EMPTY, |mut first, second| match (first, second) {
@@ -42,8 +43,8 @@ fn add<T: Eq + Hash + Clone + Drop, S: BuildHasher + Clone + Drop>(
     }
 }
 
-/// Adds all occurrences of the bag of `from` to that of `into`, and returns 0: each count is then the sum of both. The bag of `from` stays.
-/// `into` and `from` must be different handles.
+/// Adds all occurrences of the bag of `from` to the bag of `into`, and returns 0: each count is then the sum of both counts. The bag of
+/// `from` is unchanged. `into` and `from` must be different handles.
 ///
 /// # Errors
 ///
@@ -78,8 +79,8 @@ fn lessen<T: Eq + Hash + Drop, S: BuildHasher + Drop>(
     0
 }
 
-/// Keeps of each value as many as both bags have, the lesser of both counts, and returns 0. It changes the bag of `handle`, doesn't
-/// allocate, and that of `other` stays. `handle` and `other` must be different handles.
+/// Lowers each count in the bag of `handle` to the lesser of the counts in both bags, and returns 0. The call doesn't allocate,
+/// and the bag of `other` is unchanged. `handle` and `other` must be different handles.
 ///
 /// # Errors
 ///
@@ -108,8 +109,8 @@ fn subtract<T: Eq + Hash + Drop, S: BuildHasher + Drop>(
     0
 }
 
-/// Removes from the bag of `handle` what that of `other` has, of each value as many as there are there, or all if there are fewer, and
-/// returns 0. It doesn't allocate, and the bag of `other` stays. `handle` and `other` must be different handles.
+/// Subtracts each count in the bag of `other` from the count in the bag of `handle`, never below 0, and returns 0. The call doesn't
+/// allocate, and the bag of `other` is unchanged. `handle` and `other` must be different handles.
 ///
 /// # Errors
 ///
@@ -148,8 +149,8 @@ fn raise<T: Eq + Hash + Clone + Drop, S: BuildHasher + Clone + Drop>(
     }
 }
 
-/// Raises each count in the bag of `into` to the greater of the counts in both bags, and returns 0. The bag of `from` stays. `into` and
-/// `from` must be different handles. It copies the bag of `from` while it runs.
+/// Raises each count in the bag of `into` to the greater of the counts in both bags, and returns 0. The bag of `from` is unchanged. `into`
+/// and `from` must be different handles. The call makes a copy of the bag of `from`, and frees it.
 ///
 /// # Errors
 ///

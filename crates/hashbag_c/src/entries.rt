@@ -14,7 +14,7 @@ use std::slice;
 
 /// A walk over values, each with a count, or with the difference of two counts.
 pub trait Entries<'a, T: 'a, C> {
-    /// What is left of it.
+    /// The entries that are left.
     ghost entries: { Self → List (T × C) };
 
     /// Returns the next value.
@@ -89,7 +89,7 @@ pub(crate) fn put(bytes: &mut [u8], from: usize, piece: &[u8])
     bytes[from..from + piece.len()].copy_from_slice(piece);
 }
 
-/// Writes the first numbers of a walk with what belongs to them, as many as both slices have places for, and returns how many.
+/// Writes the first numbers of a walk, each with its count or difference, as many as both slices have places for, and returns how many.
 pub fn write_numbers<'a, C: Drop, W: Entries<'a, u64, C> + Drop>(
     mut walk: W,
     values: &mut [u64],
@@ -111,15 +111,15 @@ pub fn write_numbers<'a, C: Drop, W: Entries<'a, u64, C> + Drop>(
     most
 }
 
-/// Writes the first byte strings of a walk with what belongs to them, as many as there are places for, and returns how many.
+/// Writes the first byte strings of a walk, each with its count or difference, as many as there are places for, and returns how many.
 pub fn write_texts<'a, C: Drop, W: Entries<'a, Bytes, C> + Drop>(
     mut walk: W,
     bytes: &mut [u8],
     ends: &mut [usize],
     counts: &mut [C],
 ) -> usize
-    // `bytes` begins with the first `result` strings, `ends` with their ends, `counts` with what belongs to them. If that isn't all, the next one has
-    // no place, so all are written if `ends` and `counts` have a place for each entry, and `bytes` for all their bytes.
+    // `bytes` begins with the first `result` strings, `ends` with their ends, `counts` with their counts or differences. If that isn't all, the
+    // next string has no place. So all are written if `ends` and `counts` have a place for each entry, and `bytes` for all their bytes.
     ensures { HasWrittenTexts (W.entries walk) result bytes.new ends.new counts.new }
 {
     let most = ends.len().min(counts.len());

@@ -75,7 +75,7 @@ impl Handle {
         }
     }
 
-    /// Takes the box out, and leaves nothing. Returns `None` if nothing is there.
+    /// Removes and returns the box. Returns `None` if there is none.
     pub fn take(&mut self, alloc: Global) -> Option<Box<Held>>
         ensures taken { MatchOption result (self.old.held ≡ None) (λ held. self.old.held ≡ Some held.value) }
         ensures left_empty { self.new.held ≡ None }
@@ -83,7 +83,7 @@ impl Handle {
         mem::replace(self, Handle::none(alloc)).into_box()
     }
 
-    /// Puts a box in where nothing is.
+    /// Puts a box into a handle that has nothing.
     pub fn put(&mut self, held: Box<Held>)
         requires { self.old.held ≡ None }
         ensures { self.new.held ≡ Some held.value }
@@ -91,7 +91,7 @@ impl Handle {
         mem::forget(mem::replace(self, Handle::of(held)));
     }
 
-    /// Puts this in, and returns 0, or 1 if an allocation fails. What was there is freed.
+    /// Puts `held` into the handle, and returns 0. What the handle had is freed. Returns 1 if an allocation fails: then nothing changes.
     pub fn begin(&mut self, alloc: Global, held: Held) -> u8
         ensures begun { result ≡ 0 → self.new.held ≡ Some held }
         ensures memory { result ≢ 0 → result ≡ 1 }

@@ -118,7 +118,7 @@ pub fn read_bag<T: JsonItem + Hash + Drop, S: BuildHasher + Drop>(
     }
 }
 
-/// Writes the length of a text, and the text at the beginning of a buffer, if it has places for all of it.
+/// Writes the length of a text into `len`, and the text at the beginning of `bytes`. If `bytes` has too few places, only the length is written.
 pub fn write_text(text: &str, bytes: &mut [u8], len: &mut usize) -> u8
     ensures long { len.new ≡ length text.now }
 
@@ -150,7 +150,8 @@ fn text_of<T: JsonItem + Ord + Hash + Drop, S: BuildHasher + Drop>(
     Ok(tree.to_string(alloc)?)
 }
 
-/// Writes the JSON of a bag at the beginning of a buffer, if it has places for all of it, and its length.
+/// Writes the length of the JSON of a bag into `len`, and the JSON at the beginning of `bytes`. If `bytes` has too few places, only the length is
+/// written.
 pub fn write_json<T: JsonItem + Ord + Hash + Drop, S: BuildHasher + Drop>(
     alloc: Global,
     bag: &HashBag<T, S>,
@@ -176,7 +177,7 @@ pub fn write_json<T: JsonItem + Ord + Hash + Drop, S: BuildHasher + Drop>(
     }
 }
 
-/// Puts the bag of a JSON text into a handle and is 0, or writes the place of the error and is its number.
+/// Puts the bag of a JSON text into a handle; the value is 0. On an error, writes its place, if it has one; the value is its number.
 macro_rules! read_json {
     ($alloc:ident, $handle:ident, $kind:ident, $state:expr, $most:ident, $text:ident, $at:ident) => {
         match read_bag($alloc, $state, $most, $text) {

@@ -1,4 +1,4 @@
-//! Calls on a bag of numbers, each of which is given or returns many of them at once. In clauses `held` is what a handle has: a bag of numbers,
+//! Calls on a bag of numbers that take or write many numbers at once. In clauses `held` is what a handle has: a bag of numbers,
 //! a bag of byte strings, or nothing.
 //!
 //! - `IfNumbers held P`: if `held` is a bag of numbers, P holds of it.
@@ -71,7 +71,7 @@ pub extern "C" fn hashbag_numbers_insert_all(
     })
 }
 
-// Returns a bag that has each number as often as `bag`, but at most as often as the list says.
+// Returns a bag that has each listed number as often as `bag`, but at most as often as `most` says at its first place, and no other number.
 fn allowed(
     alloc: Global,
     bag: &HashBag<u64, State>,
@@ -192,8 +192,8 @@ fn outer_join(
 }
 
 /// Writes each number of two bags once, with its count in the first and in the second bag, 0 in a bag that lacks it. The numbers of the
-/// first bag come first. Returns how many were written: as many as the three arrays have places for; all, if these are as many as both bags
-/// together have distinct numbers; 0 if a handle has no bag of numbers. `a` and `b` must be different handles.
+/// first bag come first. Returns how many were written: as many as the shortest array has places for; 0 if a handle has no bag of numbers.
+/// All are written if each array has as many places as both bags together have distinct numbers. `a` and `b` must be different handles.
 #[unsafe(no_mangle)]
 pub extern "C" fn hashbag_numbers_outer_join(
     alloc: Global,

@@ -1,7 +1,7 @@
 //! Joins of two bags of numbers. In clauses `held` is what a handle has: a bag of numbers, a bag of byte strings, or nothing.
 //!
 //! - `ReadsBothNumbers IsJoin a b n values counts`: if `a` and `b` are bags of numbers, the arrays begin with the first n entries of some list of
-//!   numbers, each with its number in the join. `IsJoin` holds of the list. n is its length, or how many places both arrays have if that is less.
+//!   numbers, each with its count or difference. `IsJoin` holds of the list. n is its length, or how many places both arrays have if that is less.
 //! - `UnlessBothNumbers a b P`: if `a` or `b` is no bag of numbers, P holds.
 ghost use Rattle.std.specs.Prelude.{◌≡◌, nat_eq};
 ghost use Rattle.hashbag_c.specs.Calls.{UnlessBothNumbers};
@@ -61,9 +61,9 @@ fn not_in(
     write_numbers(x.not_in(y), values, counts)
 }
 
-/// Writes each number of the first bag that the second lacks, with its count: as many as both arrays have places for, in no particular order.
-/// Returns how many. All are written if both arrays have as many places as the first bag has distinct numbers. They must be two handles, not
-/// one twice. It returns 0 if one of them has no bag of numbers. It doesn't allocate.
+/// Writes each number of the first bag that the second lacks, with its count: as many as both arrays have places for, in no particular
+/// order. Returns how many. All are written if both arrays have as many places as the first bag has distinct numbers. `a` and `b` must be
+/// different handles. It returns 0 if one of them has no bag of numbers. It doesn't allocate.
 #[unsafe(no_mangle)]
 pub extern "C" fn hashbag_numbers_not_in(
     alloc: Global,
@@ -90,10 +90,10 @@ fn signed_difference(
     write_numbers(x.signed_difference(y), values, differences)
 }
 
-/// Writes each number of two bags once, with its count in the first less its count in the second: those of the first bag first. A difference
-/// above `PTRDIFF_MAX` or below `PTRDIFF_MIN` is written as that bound. It writes as many as both arrays have places for, and returns how
-/// many. All are written if both arrays have as many places as both bags together have distinct numbers. They must be two handles, not one
-/// twice. It returns 0 if one of them has no bag of numbers. It doesn't allocate.
+/// Writes each number of two bags once, with its count in the first less its count in the second. The numbers of the first bag come first. A
+/// difference above `PTRDIFF_MAX` or below `PTRDIFF_MIN` is written as that bound. It writes as many as both arrays have places for, and
+/// returns how many. All are written if both arrays have as many places as both bags together have distinct numbers. `a` and `b` must be
+/// different handles. It returns 0 if one of them has no bag of numbers. It doesn't allocate.
 #[unsafe(no_mangle)]
 pub extern "C" fn hashbag_numbers_signed_difference(
     alloc: Global,

@@ -18,9 +18,9 @@ use std::alloc::Global;
 
 #[tactic(auto, using(crate::proofs::JsonTextLemmas::number_shallow, crate::proofs::JsonTextLemmas::number_same))]
 /// Writes a bag of numbers as a JSON text at the beginning of `bytes`, writes the length of the text into `len`, and returns 0. No NUL
-/// follows. The text is `[[5,2],[7,1]]`: each distinct number with its count, numbers in ascending order, without spaces. A bag with a
-/// limit below `SIZE_MAX` is `{"limit":9,"pairs":[[5,2],[7,1]]}`. Bags with the same counts and the same limit have the same text. It makes
-/// the whole text in memory of its own first.
+/// follows. The text is `[[5,2],[7,1]]`: each distinct number with its count, numbers in ascending order, without spaces. A bag with a limit
+/// below `SIZE_MAX` is `{"limit":9,"pairs":[[5,2],[7,1]]}`. Bags with the same counts and the same limit have the same text. The whole text
+/// is first built in memory that the call allocates.
 ///
 /// # Errors
 ///
@@ -50,9 +50,9 @@ pub extern "C" fn hashbag_numbers_to_json(
     })
 }
 
-/// Puts into the handle the bag of numbers that a JSON text is, and returns 0. The bag that the handle had is freed. Its limit is that of
-/// the text or `most`, whichever is less. The text has one of the forms that `hashbag_numbers_to_json` writes; spaces may be between its
-/// tokens. Equal numbers add up, and a pair with the count 0 is checked and adds nothing.
+/// Reads a bag of numbers from a JSON text, puts it into the handle, and returns 0. The bag that the handle had is freed. The limit of the
+/// new bag is the limit in the text or `most`, whichever is less. The text has one of the forms that `hashbag_numbers_to_json` writes;
+/// spaces may be between its tokens. Equal numbers add up, and a pair with the count 0 is checked and adds nothing.
 ///
 /// Its numbers are hashed under fixed keys, alike in every run. Use `hashbag_numbers_from_json_keyed` if strangers wrote the text.
 ///
@@ -82,12 +82,12 @@ pub extern "C" fn hashbag_numbers_from_json(
     read_json!(alloc, handle, Numbers, State::fixed(), most, text, at)
 }
 
-/// Puts into the handle the bag that a JSON text is, as `hashbag_numbers_from_json` does, with two keys of the caller. Draw the keys at
-/// random: whoever knows them can find numbers that collide.
+/// Reads a bag from a JSON text into the handle, as `hashbag_numbers_from_json` does, with two keys of the caller. Draw the keys at random:
+/// whoever knows them can find numbers that collide.
 ///
 /// # Errors
 ///
-/// Those of `hashbag_numbers_from_json`.
+/// Same as `hashbag_numbers_from_json`.
 #[unsafe(no_mangle)]
 pub extern "C" fn hashbag_numbers_from_json_keyed(
     alloc: Global,

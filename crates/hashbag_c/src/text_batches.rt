@@ -1,4 +1,4 @@
-//! Calls on a bag of byte strings that take or give many at once. In clauses `held` is what a handle has: a bag of numbers,
+//! Calls on a bag of byte strings that take or write many byte strings at once. In clauses `held` is what a handle has: a bag of numbers,
 //! a bag of byte strings, or nothing.
 //!
 //! - `IfTexts held P`: if `held` is a bag of byte strings, P holds of it.
@@ -47,7 +47,7 @@ impl From<BagError> for PieceError {
     }
 }
 
-// The bytes from one place to another.
+// Returns the bytes from one place to another, or `Ends` if there are no such bytes.
 fn piece(bytes: &[u8], from: usize, end: usize) -> Result<Name<'_>, PieceError>
     ensures { IfOk result (λ name. IsPiece bytes.now from end name.bytes.now) }
 {
@@ -81,8 +81,8 @@ fn insert_each(
     Ok(())
 }
 
-/// Inserts byte strings that lie one after another in `bytes`, each once, in turn, until one fails. The first is `bytes[0..ends[0]]`, and
-/// that of i is `bytes[ends[i - 1]..ends[i]]`. Writes how many were inserted, and returns 0 if that is all.
+/// Inserts byte strings that lie one after another in `bytes`, each once, in turn, until one fails. String 0 is `bytes[0..ends[0]]`, and
+/// string i is `bytes[ends[i - 1]..ends[i]]`. Writes how many were inserted, and returns 0 if that is all.
 ///
 /// # Errors
 ///
@@ -184,7 +184,7 @@ fn start(ends: &[usize], i: usize) -> usize
     if i == 0 { 0 } else { ends[i - 1] }
 }
 
-// Returns a bag that has of each piece as many as `bag` and the list allow.
+// Returns a bag that has each listed string as often as `bag`, but at most as often as `most` says at its first place, and no other string.
 fn allowed(
     alloc: Global,
     bag: &HashBag<Bytes, Keys>,
@@ -204,7 +204,7 @@ fn allowed(
     Ok(made)
 }
 
-// Keeps of each byte string at most as many as the list says.
+// Keeps at most `most[i]` occurrences of the string that ends at `ends[i]`, and none of a string that isn't listed.
 fn keep_listed(
     alloc: Global,
     bag: &mut HashBag<Bytes, Keys>,
@@ -220,10 +220,9 @@ fn keep_listed(
     Ok(())
 }
 
-/// Keeps of each byte string at most as many as a list says, and returns 0. The strings lie one after another in `bytes`, as
-/// `hashbag_texts_insert_all` has it; `most[i]` is the greatest count for the one that ends at `ends[i]`. Of a string that is listed twice
-/// the first place counts. A string that isn't listed is removed. If `ends` and `most` differ in length, the rest of the longer one is
-/// ignored.
+/// Keeps at most `most[i]` occurrences of each listed string i, and returns 0. The strings lie one after another in `bytes`, as those of
+/// `hashbag_texts_insert_all`: string i ends at `ends[i]`. If a string is listed twice, its first place counts. A string that isn't listed
+/// is removed. If `ends` and `most` differ in length, the rest of the longer one is ignored.
 ///
 /// # Errors
 ///
@@ -252,7 +251,7 @@ pub extern "C" fn hashbag_texts_retain(
     })
 }
 
-// The number of bytes of all strings of a walk, or the greatest `usize`.
+// Returns the number of bytes of all strings of a walk, or `usize::MAX` if there are more.
 fn sizes(walk: SetIter<'_, Bytes>) -> usize
     ensures { result ≡ min (size_of walk.entry) usize.MAX }
 {
@@ -263,7 +262,7 @@ fn sizes(walk: SetIter<'_, Bytes>) -> usize
     sum
 }
 
-/// Returns how many bytes the distinct byte strings have in all, which `hashbag_texts_read` needs places for. It is 0 if the handle has no
+/// Returns how many bytes the distinct byte strings have in all: `hashbag_texts_read` needs as many places. Returns 0 if the handle has no
 /// bag of byte strings.
 #[unsafe(no_mangle)]
 pub extern "C" fn hashbag_texts_bytes(alloc: Global, handle: &mut Handle) -> usize
@@ -278,9 +277,10 @@ pub extern "C" fn hashbag_texts_bytes(alloc: Global, handle: &mut Handle) -> usi
     })
 }
 
-/// Writes distinct byte strings into `bytes`, one after another, the place where each ends into `ends`, and its count into `counts`. Returns
-/// how many. It stops before the first string for which there is no place. All are written, in no particular order, if `ends` and `counts`
-/// have `hashbag_set_len` places and `bytes` has `hashbag_texts_bytes`. It returns 0 if the handle has no bag of byte strings.
+/// Writes distinct byte strings one after another into `bytes`, the place where each string ends into `ends`, and its count into `counts`.
+/// Returns how many strings were written. It stops before the first string for which there is no place. All are written, in no particular
+/// order, if `ends` and `counts` have `hashbag_set_len` places and `bytes` has `hashbag_texts_bytes`. It returns 0 if the handle has no bag
+/// of byte strings.
 #[unsafe(no_mangle)]
 pub extern "C" fn hashbag_texts_read(
     alloc: Global,

@@ -1,8 +1,8 @@
 //! Joins of two bags of byte strings. In clauses `held` is what a handle has: a bag of numbers, a bag of byte strings, or nothing.
 //!
-//! - `ReadsBothTexts IsJoin a b n bytes ends counts`: if `a` and `b` are bags of byte strings, there is a list of strings, each with its number in
-//!   the join, for which `IsJoin` holds. Its first n entries are written: `bytes` begins with the strings one after another, `ends` with where each
-//!   ends, `counts` with the numbers. If n isn't all, the next entry has no place.
+//! - `ReadsBothTexts IsJoin a b n bytes ends counts`: if `a` and `b` are bags of byte strings, there is a list of strings, each with its count or
+//!   difference, for which `IsJoin` holds. Its first n entries are written: `bytes` begins with the strings one after another, `ends` with where each
+//!   ends, `counts` with the counts or differences. If n isn't all, the next entry has no place.
 //! - `ReadsTextJoin a b n bytes ends firsts seconds`: the same of an outer join, with the count in the first bag in `firsts`, in the second in `seconds`;
 //!   all entries are written if all have places.
 //! - `UnlessBothTexts a b P`: if `a` or `b` is no bag of byte strings, P holds.
@@ -161,11 +161,11 @@ fn signed_difference(
     write_texts(x.signed_difference(y), bytes, ends, differences)
 }
 
-/// Writes the byte strings of two bags, each once, as `hashbag_texts_read` does, with its count in the first less its count in the second:
-/// those of the first bag first. A difference above `PTRDIFF_MAX` or below `PTRDIFF_MIN` is written as that bound. It writes as many as
-/// there are places for, and returns how many. All are written if `ends` and `differences` have as many places as both bags together have
-/// distinct strings, and `bytes` as many as these strings have bytes. `a` and `b` must be different handles. It returns 0 if one of them has
-/// no bag of byte strings. It doesn't allocate.
+/// Writes the byte strings of two bags, each once, as `hashbag_texts_read` does, with its count in the first less its count in the second.
+/// The strings of the first bag come first. A difference above `PTRDIFF_MAX` or below `PTRDIFF_MIN` is written as that bound. It writes as
+/// many as there are places for, and returns how many. All are written if `ends` and `differences` have as many places as both bags together
+/// have distinct strings, and `bytes` as many as these strings have bytes. `a` and `b` must be different handles. It returns 0 if one of
+/// them has no bag of byte strings. It doesn't allocate.
 #[unsafe(no_mangle)]
 pub extern "C" fn hashbag_texts_signed_difference(
     alloc: Global,

@@ -19,8 +19,8 @@ use std::alloc::Global;
 /// Writes a bag of byte strings as a JSON text at the beginning of `bytes`, writes the length of the text into `len`, and returns 0. No NUL
 /// follows. The text is `[["cat",2],["dog",1]]`: each distinct string with its count, strings in ascending order by their bytes, without
 /// spaces. A string that isn't UTF-8 is an array of its bytes, as `[255,0]`. A bag with a limit below `SIZE_MAX` is
-/// `{"limit":9,"pairs":[["cat",2],["dog",1]]}`. Bags with the same counts and the same limit have the same text. It makes the whole text in
-/// memory of its own first.
+/// `{"limit":9,"pairs":[["cat",2],["dog",1]]}`. Bags with the same counts and the same limit have the same text. The whole text is first
+/// built in memory that the call allocates.
 ///
 /// # Errors
 ///
@@ -50,10 +50,10 @@ pub extern "C" fn hashbag_texts_to_json(
     })
 }
 
-/// Puts into the handle the bag of byte strings that a JSON text is, and returns 0. The bag that the handle had is freed. Its limit is that
-/// of the text or `most`, whichever is less. The text has one of the forms that `hashbag_texts_to_json` writes. Spaces may be between its
-/// tokens, and a string may be an array of its bytes even if they are UTF-8. Equal strings add up, and a pair with the count 0 is checked
-/// and adds nothing.
+/// Reads a bag of byte strings from a JSON text, puts it into the handle, and returns 0. The bag that the handle had is freed. The limit of
+/// the new bag is the limit in the text or `most`, whichever is less. The text has one of the forms that `hashbag_texts_to_json` writes.
+/// Spaces may be between its tokens, and a string may be an array of its bytes even if they are UTF-8. Equal strings add up, and a pair with
+/// the count 0 is checked and adds nothing.
 ///
 /// Its strings are hashed by SipHash under fixed keys, alike in every run. Use `hashbag_texts_from_json_keyed` if strangers wrote the text.
 ///
@@ -84,12 +84,12 @@ pub extern "C" fn hashbag_texts_from_json(
     read_json!(alloc, handle, Texts, keys, most, text, at)
 }
 
-/// Puts into the handle the bag that a JSON text is, as `hashbag_texts_from_json` does, with two keys of SipHash. The caller draws them at
+/// Reads a bag from a JSON text into the handle, as `hashbag_texts_from_json` does, with two keys of SipHash. The caller draws them at
 /// random: then nobody can choose byte strings that collide.
 ///
 /// # Errors
 ///
-/// Those of `hashbag_texts_from_json`.
+/// Same as `hashbag_texts_from_json`.
 #[unsafe(no_mangle)]
 pub extern "C" fn hashbag_texts_from_json_keyed(
     alloc: Global,

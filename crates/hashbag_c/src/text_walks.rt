@@ -104,7 +104,7 @@ pub extern "C" fn hashbag_texts_next(
     })
 }
 
-// The number of bytes of the first string, 0 if there is none.
+// Returns the number of bytes of the first string, or 0 if there is none.
 fn front_len(pairs: &VecDeque<(Bytes, usize)>) -> usize
     ensures { result ≡ next_size pairs.now.items }
 {

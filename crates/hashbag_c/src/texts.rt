@@ -21,9 +21,9 @@ use crate::state::Keys;
 use hashbag_core::{BagError, HashBag};
 use std::alloc::Global;
 
-/// Puts into the handle an empty bag of byte strings, whose total is at most `most`, and returns 0. The bag that the handle had is freed.
+/// Puts an empty bag of byte strings with the limit `most` into the handle, and returns 0. The bag that the handle had is freed.
 ///
-/// Its byte strings are hashed by SipHash under fixed keys, alike in every run. Use `hashbag_texts_new_keyed` if strangers choose them.
+/// The byte strings are hashed by SipHash under fixed keys, the same in every run. Use `hashbag_texts_new_keyed` if strangers choose the strings.
 ///
 /// # Errors
 ///
@@ -154,7 +154,7 @@ pub extern "C" fn hashbag_texts_take_all(alloc: Global, handle: &mut Handle, val
     })
 }
 
-// Sets the count of a byte string, of which there are `before`.
+// Sets the count of a byte string to `n`. `before` must be its count.
 pub(crate) fn recount(
     bag: &mut HashBag<Bytes, Keys>,
     value: &[u8],

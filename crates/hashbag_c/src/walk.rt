@@ -76,7 +76,7 @@ impl Walk {
         }
     }
 
-    /// Takes the box out, and leaves nothing. Returns `None` if nothing is there.
+    /// Removes and returns the box. Returns `None` if there is none.
     pub fn take(&mut self, alloc: Global) -> Option<Box<Left>>
         ensures taken { MatchOption result (self.old.left ≡ None) (λ left. self.old.left ≡ Some left.value) }
         ensures left_empty { self.new.left ≡ None }
@@ -84,7 +84,7 @@ impl Walk {
         mem::replace(self, Walk::none(alloc)).into_box()
     }
 
-    /// Puts a box in where nothing is.
+    /// Puts a box into a walk that has nothing.
     pub fn put(&mut self, left: Box<Left>)
         requires { self.old.left ≡ None }
         ensures { self.new.left ≡ Some left.value }
@@ -92,7 +92,7 @@ impl Walk {
         mem::forget(mem::replace(self, Walk::of(left)));
     }
 
-    /// Begins a walk over these pairs, and returns 0, or 1 if an allocation fails. What was there is freed.
+    /// Puts these pairs into the walk, and returns 0. What the walk had is freed. Returns 1 if an allocation fails: then nothing changes.
     pub fn begin(&mut self, alloc: Global, left: Left) -> u8
         ensures begun { result ≡ 0 → self.new.left ≡ Some left }
         ensures memory { result ≢ 0 → result ≡ 1 }

@@ -1,4 +1,4 @@
--- How the files of a job are read: as its options say, and where they say nothing, as the stock says.
+-- How the files of a job are read: by the options of the job, and without an option by what the stock keeps.
 use Rattle.std.specs.Prelude.{◌≡◌, ℕ, Bool, ◌-◌, ◌^◌, nat_le, if◌then◌else◌, List, Option, None, Some, String, string_bytes, codes, option_map, unwrap_or}
 use Rattle.std.specs.Borrow.{Bor}
 use Rattle.std.specs.Global.{Global}
@@ -19,8 +19,8 @@ use Rattle.hashbag_ledger_lib.specs.declared.reading.Columns.{Columns}
 use Rattle.hashbag_ledger_lib.specs.declared.style.Style.{Style}
 use Rattle.hashbag_text.specs.declared.encoding.Encoding.{Encoding}
 
--- how files are written: with the mark and the delimiter of the job's options, else with those of `kept`. If `kept` has the mark `.` and the
--- delimiter `;`, and the job only `--mark ,`, then the mark is `,` and the delimiter `;`
+-- how files are written: with the mark of the job's options, else the mark of `kept`, and so with the delimiter. If `kept` has the mark `.` and
+-- the delimiter `;`, and the only option of the job is `--mark ,`, the mark is `,` and the delimiter `;`
 abbrev pub style_by : Job → Style → Style
 style_by job kept = record { scale = kept.scale; mark = unwrap_or job.mark kept.mark; delimiter = unwrap_or job.delimiter kept.delimiter }
 
@@ -32,8 +32,8 @@ decimals_by n = if nat_le n most_decimals then n else 0
 abbrev pub mark_by : Style → Mark
 mark_by style = if nat_le style.scale most_decimals then style.mark else Point
 
--- texts have the delimiter, and numbers the mark, of the job's options, else those of `kept`. Numbers have the decimals of `kept`, and are
--- at most the greatest number of a database
+-- texts have the delimiter of `style_by`, and numbers its mark and the decimals of `kept`. If no scale has so many decimals, numbers have none,
+-- and the mark is `.`. A number is at most 2^63-1
 pub record IsReadingOf (job : Job) (kept : Style) (reading : Reading) : Type 0 where
   pub delimiter : reading.delimiter ≡ (style_by job kept).delimiter
   pub decimals : reading.scale.decimals ≡ decimals_by kept.scale
@@ -57,7 +57,7 @@ kept_names kept = record { article = string_bytes kept.article; change = change_
 abbrev pub plain_names : Columns (List ℕ)
 plain_names = record { article = codes "article"; change = Signed (codes "change") }
 
--- the names of the columns of movements: those of the job, else those of `kept`
+-- the names of the columns of movements: the names that the job has, else `kept`
 abbrev pub names_by : Job → Columns (List ℕ) → Columns (List ℕ)
 names_by job kept = elim job.columns [ None ↦ kept | Some given ↦ names_now given ]
 
@@ -77,11 +77,11 @@ kept_extras kept = record { date = option_map string_bytes kept.date; note = opt
 abbrev pub no_extras : ExtraColumns (List ℕ)
 no_extras = record { date = None; note = None }
 
--- the name of a column, if there is such a column: what the job says, else `kept`. `Some None` of the job says that there is none
+-- the name of a column of dates or notes, or `None` without a column. The job decides if it has `Some`: `Some None` is no column. Else `kept`
 abbrev pub extra_by : Option (Option (Bor (List ℕ))) → Option (List ℕ) → Option (List ℕ)
 extra_by None kept = kept
 extra_by (Some given) kept = option_map (λ n. n.now) given
 
--- the columns of dates and of notes of movements: those of the job, else those of `kept`
+-- the columns of dates and of notes of movements: for each, the column of the job, else the column of `kept`
 abbrev pub extras_by : Job → ExtraColumns (List ℕ) → ExtraColumns (List ℕ)
 extras_by job kept = record { date = extra_by job.extras.date kept.date; note = extra_by job.extras.note kept.note }

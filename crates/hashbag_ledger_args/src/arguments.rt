@@ -33,7 +33,7 @@ pub struct Settings<'a> {
     pub output: Option<&'a str>,
     /// The file to which refusals are written; `None` is standard error.
     pub refused: Option<&'a str>,
-    /// Whether, after a refusal, only the first refusal is written.
+    /// Whether, if there is a refusal, only the first refusal is written, and no balance.
     pub strict: bool,
     /// When the progress of reading is reported.
     pub reports: Reports,

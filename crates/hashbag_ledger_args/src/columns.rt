@@ -94,7 +94,7 @@ impl KeptColumns {
         }
     }
 
-    /// Copies the names of a text that a database keeps. Returns `None` if the text isn't two or three names with commas between them.
+    /// Splits a text that a database keeps into names, and copies them. Returns `None` if the text isn't two or three names with commas between them.
     ///
     /// # Errors
     ///

@@ -39,7 +39,7 @@ pub struct Job<'a> {
     pub encoding: Option<Encoding>,
     /// The columns of movements, if they are named.
     pub columns: Option<Columns<&'a str>>,
-    /// The columns of dates and of notes, if they are named: `Some(None)` says that there is none.
+    /// The columns of dates and of notes, each `None` if it isn't named, and `Some(None)` if the arguments say that there is none.
     pub extras: ExtraColumns<Option<&'a str>>,
     /// The day of the balance, if one is named.
     pub at: Option<&'a str>,

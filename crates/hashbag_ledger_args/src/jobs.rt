@@ -49,7 +49,8 @@ fn is_database(word: &str) -> bool {
     word == "--db" || word.starts_with("--db=")
 }
 
-/// Returns whether these words ask for a subcommand: the second word names one, or a word is `--db`. The first word is the program's name.
+/// Returns whether these words ask for a subcommand: the second word names one or is `help`, or a word is `--db` or begins with `--db=`.
+/// The first word is the program's name.
 pub fn has_job(words: &[String]) -> bool {
     words.get(1).is_some_and(|word| is_job(word.as_str()))
         || words.iter().any(|word| is_database(word.as_str()))
@@ -60,7 +61,7 @@ fn with_job<'a>(command: CommandResult<'a>, job: CommandResult<'a>) -> CommandRe
     command?.subcommand(job?)
 }
 
-// Returns a subcommand on a database, with `--progress`, and with `--quiet`, which has this help.
+// Returns a subcommand with `--db`, `--wait`, `--progress` and `--quiet`. `quiet` is the help of `--quiet`.
 fn job<'a>(alloc: Global, name: &'a str, about: &'a str, quiet: &'a str) -> CommandResult<'a> {
     let db = Arg::new(alloc, "db")
         .long("db")
@@ -163,7 +164,7 @@ fn with_extras<'a>(alloc: Global, command: CommandResult<'a>) -> CommandResult<'
     with(with(command, date), note)
 }
 
-// Adds how many decimals numbers have.
+// Adds the option that says how many decimals numbers have.
 fn with_scale<'a>(alloc: Global, command: CommandResult<'a>) -> CommandResult<'a> {
     let scale = Arg::new(alloc, "scale")
         .short('s')

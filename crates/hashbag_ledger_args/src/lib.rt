@@ -1,4 +1,4 @@
-//! The arguments of `hashbag_ledger`: what may be given, its help, and what is asked for. Nothing is opened here.
+//! The arguments of `hashbag_ledger`: which ones there are, their help, and what a call asks for. Nothing is opened here.
 #![tactic(auto)]
 
 pub mod arguments;

@@ -10,7 +10,7 @@ use std::alloc::Global;
 ///
 /// # Errors
 ///
-/// `BadLine` if a line is bad; it names `--start-encoding` if the text is in another encoding. `Memory` if an allocation failed or fails.
+/// `BadLine` if a line is bad; its message names `--start-encoding` if the text is in another encoding. `Memory` if an allocation failed or fails.
 pub fn in_start<T: Drop>(
     alloc: Global,
     file: &str,

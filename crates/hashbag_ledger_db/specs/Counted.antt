@@ -20,12 +20,12 @@ use Rattle.hashbag_text.specs.Encodings.{text_in}
 abbrev pub counted_by : Job → Reading → List (String Global × ℕ) → List ℕ → List (List ℕ × Change)
 counted_by job reading kept text = map plain_content (movements_in reading (start_names job) text) ++ (if job.counts_all then map none_counted kept else [])
 
--- these movements are the records of a count, which this input has
+-- `records` are the records of a count whose text is the text of the input
 abbrev pub AreRecordsOf : Job → Reading → List (String Global × ℕ) → Input → List (Movement (String Global)) → Type 0
 AreRecordsOf job reading kept input records = contents_of records ≡ counted_by job reading kept input.text.items
 
--- the balance was counted: the text was read as the job says, and where it says nothing, as the stock says; `style` is how the files of the stock are
--- written
+-- `filed` is what a count of `text` does to `kept`. The text is read by the options of the job, and without an option by `style`, which the stock
+-- keeps
 pub record IsCountedAs (job : Job) (style : Style) (kept : List (String Global × ℕ)) (text : List ℕ) (filed : Filed) : Type 0 where
   pub reading : Reading
   pub is : IsReadingOf job style reading
@@ -33,12 +33,12 @@ pub record IsCountedAs (job : Job) (style : Style) (kept : List (String Global �
   pub read : contents_of records ≡ counted_by job reading kept text
   pub counted : IsCounted kept records filed
 
--- the balance was counted: these bytes are the text of what was counted, in the encoding of the job
+-- `filed` is what a count does to `kept`; these bytes are the text of what was counted, in the encoding of the job
 pub record IsCountedIn (job : Job) (style : Style) (kept : List (String Global × ℕ)) (bytes : List ℕ) (filed : Filed) : Type 0 where
   pub text : List ℕ
   pub decoded : text_in job.encoding bytes ≡ Some text
   pub all : IsCountedAs job style kept text filed
 
--- a count did this to a stock of this shape: these bytes are the text of what was counted, in the encoding of the job
+-- `counted` is what a count does to a stock of this shape; these bytes are the text of what was counted, in the encoding of the job
 abbrev pub IsCountOf : Job → Shape → List ℕ → Counted → Type 0
 IsCountOf job shape bytes counted = IsCountedIn job shape.style counted.kept.items bytes counted.filed

@@ -66,19 +66,19 @@ pub record IsFiledOf (job : Job) (reading : Reading) (names : Columns (List ℕ)
   pub changed : Rises kept → AreChanges kept filed.booked.balance.items filed.changed.items
   pub counts : filed.counts.items ≡ map (λ f. vec_len f) files
 
--- the movements were read as the job says, and where it says nothing, as the stock says: `style` is how files are written, `names` are the columns of
+-- `filed` is what the inputs do to `kept`. They are read by the options of the job, and without an option by `style` and by `names`, the columns of
 -- movements
 pub record IsFiledAs (job : Job) (style : Style) (names : Columns (List ℕ)) (inputs : List Input) (kept : List (String Global × ℕ)) (filed : Filed) : Type 0 where
   pub reading : Reading
   pub is : IsReadingOf job style reading
   pub all : IsFiledOf job reading (names_by job names) inputs kept filed
 
--- all movements were booked on the balance that was read from the database. They were read as the job says, and where it says nothing, by the columns
--- that the database keeps
+-- `filed` is what the inputs do to the balance that was read from the database. They are read by the options of the job, and without an option by
+-- `style` and by the columns that the database keeps
 abbrev pub IsFiledOn : Job → Style → Before → List Input → Filed → Type 0
 IsFiledOn job style before inputs filed = IsFiledAs job style (kept_names before.columns) inputs before.balance.items filed
 
--- all movements were booked on an empty stock, whose numbers have as many decimals as the job asks for; it keeps nothing else
+-- `filed` is what the inputs do to an empty stock. They are read by the options of the job, and without an option by the defaults
 abbrev pub IsFiledAnew : Job → List Input → Filed → Type 0
 IsFiledAnew job inputs filed = IsFiledAs job (asked_style job) plain_names inputs [] filed
 
@@ -87,8 +87,8 @@ abbrev pub style_in : Contents → Job → Style
 style_in Empty job = asked_style job
 style_in (Stock shape) job = shape.style
 
--- all movements were booked on the balance that was read from the database. They were read as the job says, and where it says nothing, by the
--- columns, the decimals, the delimiter and the mark that the database keeps
+-- `ready` is what the inputs do to a database with these contents. They are read by the options of the job, and without an option by what the
+-- database keeps. A database without a stock keeps the default columns, delimiter and mark, and the decimals that the job asks for
 pub record IsFiledIn (job : Job) (contents : Contents) (inputs : List Input) (ready : Ready) : Type 0 where
   pub is : ready.before.contents ≡ contents
   pub empty : contents ≡ Empty → ready.before.balance.items ≡ []

@@ -17,7 +17,7 @@ use Rattle.hashbag_text.specs.declared.encoding.Encoding.{Encoding}
 abbrev pub HasTextOf : Option Encoding → List ℕ → Input → Type 0
 HasTextOf encoding bytes input = (text_in encoding bytes ≡ Some input.text.items) × (string_bytes input.sha256 ≡ encode_lower (sha256 bytes))
 
--- an input was read from its file
+-- an input was read from its file; `gives file bytes` says that the file has these bytes
 pub record IsRead (gives : List ℕ → List ℕ → Type 0) (job : Job) (input : Input) : Type 0 where
   pub bytes : List ℕ
   pub given : gives input.file.now bytes
@@ -36,7 +36,7 @@ pub record AreInputsOf (gives : List ℕ → List ℕ → Type 0) (job : Job) (i
   pub are : map name_and_kind inputs ≡ names_in job
   pub read : All (IsRead gives job) inputs
 
--- `ready` is the result of entering all inputs of the job into the contents of its database
+-- `ready` is the result of entering all inputs of the job into its database; `has db contents` says that the database has these contents
 pub record IsReadyOf (gives : List ℕ → List ℕ → Type 0) (has : List ℕ → Contents → Type 0) (job : Job) (ready : Ready) : Type 0 where
   pub inputs : List Input
   pub are : AreInputsOf gives job inputs

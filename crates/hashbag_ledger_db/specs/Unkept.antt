@@ -37,7 +37,7 @@ module _ (gives : List ℕ → List ℕ → Type 0) (settings : Settings) where
     pub all : map content_of ms ≡ movements_in settings.reading (names_now settings.columns) text
     pub places : All (λ m. m.place.file ≡ n) ms
 
-  -- these are the movements of files, in turn, of which the first has the number n
+  -- these are the movements of files, in turn; the first file has the number n
   abbrev pub AreMovementsFrom : ℕ → List (Bor (List ℕ)) → List (Movement (String Global)) → Type 0
   AreMovementsFrom n [] ms = ms ≡ []
   AreMovementsFrom n (file ∷ files) ms =
@@ -51,7 +51,7 @@ module _ (gives : List ℕ → List ℕ → Type 0) (settings : Settings) where
   abbrev pub EntersFileOf : {S H : Type 0} → ℕ → List ℕ → Ledger (String Global) S H → Ledger (String Global) S H → Type 0
   EntersFileOf n file old new = (ms : List (Movement (String Global))) × AreMovementsIn n file ms × EntersAll ms old new
 
-  -- the movements of these files, of which the first has the number 0, came to a ledger in turn
+  -- the movements of these files came to a ledger, in turn; the first file has the number 0
   abbrev pub EntersFiles : {S H : Type 0} → List (Bor (List ℕ)) → Ledger (String Global) S H → Ledger (String Global) S H → Type 0
   EntersFiles files old new = (ms : List (Movement (String Global))) × AreMovementsFrom 0 files ms × EntersAll ms old new
 

@@ -139,8 +139,8 @@ pub fn count_in<'a, D: Alter, S: BuildHasher + Copy + Drop, G: Stages>(
     conn: &mut Connection<D>,
     bytes: Vec<u8>,
 ) -> Result<Counted, Trouble<'a>>
-    // The text of `bytes`, in the job's encoding, is read as the job says, and where it says nothing, as the stock says. `filed` is what a count by
-    // its records, and by those of `--all`, does to the balance `kept`.
+    // `filed` is what a count does to the balance `kept`. The count has the records of `bytes` and of `--all`. `bytes` are decoded by the job's
+    // encoding, and read by the options of the job, and without an option as the stock says.
     ensures counted { IfOk result (IsCountOf job.now shape bytes.items) }
     ensures rising { IfOk result (λ counted. Rises counted.kept.items) }
 {

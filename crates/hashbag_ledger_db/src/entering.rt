@@ -294,14 +294,14 @@ pub fn is_refused(filed: &Filed) -> bool
     count_refused(&filed.booked.entries) > 0
 }
 
-// Returns the status of a run that books this.
+// Returns the status of a run with this result.
 fn status_of(filed: &Filed) -> u8
     ensures { result ≡ status_after filed.now }
 {
     if is_refused(filed) { DENIED } else { DONE }
 }
 
-/// Returns what the inputs do to an empty stock. So a bad input is found before the file of the database is made.
+/// Returns what the inputs do to an empty stock. `enter_named` calls it before it makes a database, so a bad input makes no database.
 ///
 /// # Errors
 ///

@@ -1,5 +1,5 @@
-//! What the subcommands of `hashbag_ledger` do in a database, whatever stores it, and what a call without a database does: bytes of files and
-//! rows in, rows and texts out. It opens a database only by [`files::Databases`], and any other file only by [`hashbag_shell::inputs::Inputs`].
+//! What the subcommands of `hashbag_ledger` do in a database, whatever stores it, and what a call without a database does. Databases are opened
+//! by [`files::Databases`] alone, and other files by [`hashbag_shell::inputs::Inputs`] alone.
 #![tactic(auto)]
 
 pub mod before;

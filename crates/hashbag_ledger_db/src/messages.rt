@@ -7,7 +7,7 @@ use hashbag_shell::tips::Nearest;
 use std::alloc::{AllocError, Global};
 use std::fmt::Write;
 
-// From how many movements on a new database is suggested: the open of a file with that many takes about a second.
+// If a database has this many movements or more, a new one is suggested. Opening a database of this size takes about a second.
 const MANY: u64 = 1_000_000;
 
 // If more new articles than this are counted, no message names them.
@@ -200,8 +200,8 @@ pub fn misspelt_text(
     Ok(text)
 }
 
-/// Returns how the line of a refusal of this article ends: with an article of the balance whose name is near, if this one isn't in the
-/// balance; else with the newline alone.
+/// Returns how the line of a refusal of this article ends. If the balance lacks the article, and has another article whose name is near,
+/// the ending names the other article. Else the ending is the newline alone.
 ///
 /// # Errors
 ///

@@ -116,7 +116,7 @@ pub(crate) fn read<'a>(
     columns: Columns<&str>,
     reading: Reading,
 ) -> Result<Vec<Movement<String>>, SheetError>
-    // The articles and changes are those of the input's text, in turn, but `In 0` for `Out 0`. An opening stock has the columns that the job names for it.
+    // The result has the articles and changes of the text, in turn, with `In 0` for `Out 0`. The job names the columns of an opening stock apart.
     ensures { IfOk result (λ all. AreInputRows job.now reading columns.entry input.now all.items) }
 {
     let text = input.text.as_slice();
@@ -147,7 +147,7 @@ pub fn movements_of<'a>(
     columns: Columns<&str>,
     reading: Reading,
 ) -> Result<Vec<Movement<String>>, Trouble<'a>>
-    // The articles and changes are those of the input's text, in turn, but `In 0` for `Out 0`. An opening stock has the columns that the job names for it.
+    // The result has the articles and changes of the text, in turn, with `In 0` for `Out 0`. The job names the columns of an opening stock apart.
     ensures { IfOk result (λ all. AreInputRows job.now reading columns.entry input.now all.items) }
 {
     let read = read(alloc, job, input, file, columns, reading);
@@ -162,7 +162,7 @@ pub fn has_extras(names: ExtraColumns<&str>) -> bool {
     names.date.is_some() || names.note.is_some()
 }
 
-// Returns the columns that the job doesn't name, and that the stock keeps.
+// Returns the columns among `names` that the job doesn't name. These are the columns that the stock keeps.
 fn kept_of<'n>(job: &Job<'_>, names: ExtraColumns<&'n str>) -> ExtraColumns<&'n str> {
     ExtraColumns {
         date: names.date.filter(|_| job.extras.date.is_none()),

@@ -8,7 +8,7 @@ use hashbag_stock::writing::{NewRows, NewStock, put_batches};
 use sqlite::{Alter, Connection};
 use std::alloc::Global;
 
-/// Returns what was done in a database, or its trouble.
+/// Returns the value in `done`.
 ///
 /// # Errors
 ///

@@ -146,7 +146,7 @@ pub fn no_day<'a>(alloc: Global) -> Trouble<'a> {
     bad("--at takes a date, as 2026-02-28".to_string(alloc))
 }
 
-/// Returns the trouble of movements up to a day that are too many to be added up.
+/// Returns the trouble if the movements up to a day move too much to be added up.
 pub fn moved_too_much<'a>(alloc: Global, db: &str) -> Trouble<'a> {
     let what = format!(in alloc; "{db}: more than 18446744073709551615 moved up to that day");
     Trouble::with_status(what, TOTAL_TOO_LARGE)
@@ -174,7 +174,7 @@ pub fn same_bytes<'a>(alloc: Global, file: &str, other: &str) -> Trouble<'a> {
     )
 }
 
-/// Returns the trouble of a line whose movement, or the opposite of it, takes the total past the maximum.
+/// Returns the trouble of a line whose movement, or its opposite movement, takes the total past the maximum.
 pub fn too_large<'a>(alloc: Global, file: &str, line: u64, reading: Reading) -> Trouble<'a> {
     let what = match write_decimal(alloc, MOST, reading.scale) {
         Ok(most) => format!(in alloc; "{file}:{line}: total past {most}"),

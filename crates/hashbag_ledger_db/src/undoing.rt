@@ -25,7 +25,7 @@ use sqlite::{Alter, Connection};
 use std::alloc::{AllocError, Global};
 use std::hash::BuildHasher;
 
-// What an undo has to know of its batch.
+// What is known of the batch that is to be undone.
 #[derive(Drop)]
 struct Found {
     number: i64,
@@ -36,7 +36,7 @@ struct Found {
     movements: u64,
 }
 
-// What an undo leaves: its refusals, or the message about its batch.
+// What is reported of an undo: its refusals, or the message about the batch that it enters.
 #[derive(Drop)]
 struct Undone {
     refusals: Vec<Refusal<String>>,

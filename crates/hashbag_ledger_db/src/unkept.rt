@@ -152,7 +152,7 @@ fn is_refused(entered: &Entered<String>) -> bool
     entered.refusals.len() > 0
 }
 
-// Returns the status of a call that enters this.
+// Returns the status of a call with this result.
 fn status_of(entered: &Entered<String>) -> u8
     ensures { result ≡ status_with entered.now }
 {
@@ -177,7 +177,7 @@ pub fn enter_unkept<'a, I: Inputs, S: BuildHasher + Drop>(
     // The status is 1 exactly if a movement is refused.
     ensures status { IfOk result (λ report. report.status ≡ status_with report.entered) }
 
-    // No balance is written exactly if `strict` is set, and a movement is refused.
+    // `balance` is `None` exactly if `strict` is set and a movement is refused.
     ensures denied { IfOk result (λ report. report.balance ≡ None ↔ (settings.now.strict ≡ true) × (report.status ≡ 1)) }
 {
     let entered = entered_of(alloc, state, inputs, settings)?;

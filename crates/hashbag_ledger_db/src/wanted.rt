@@ -40,8 +40,8 @@ fn base_of(path: &str) -> &str {
     path.rsplit_once('/').map_or(path, |parts| parts.1)
 }
 
-// Of the batches that are no undo and weren't undone, finds those whose file has the same last component. Returns how many there are, and the
-// last one.
+// Finds the batches whose file has the same last component, and that are no undo and weren't undone. Returns how many there are, and the last
+// of them.
 fn near_to<'b>(batches: &'b [Batch], file: &str) -> (usize, Option<&'b Batch>) {
     let (mut count, mut last) = (0usize, None);
     for batch in batches {

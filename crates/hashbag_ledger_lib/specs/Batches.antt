@@ -14,8 +14,8 @@ all_of [] = []
 all_of (f ∷ fs) = f.items ++ all_of fs
 
 module _ {T : Type 0} (eq : T → T → Bool) (cmp : T → T → Ordering) where
-  -- after the movements `before`, a batch left the balance `left` and these refusals. All these movements, entered as one batch, leave the same
-  -- balance, and their refusals are the earlier refusals followed by these
+  -- after the movements `before`, `batch` left the balance `left`, and had `refusals`. Entered as one batch, `before` and then `batch` leave the
+  -- same balance, and the refusals are the refusals of `before` followed by `refusals`
   pub record Continues (start : T → ℕ) (before batch : List (Movement T)) (left : List (T × ℕ)) (refusals : List (Refusal T)) : Type 0 where
     pub balance : IsBalance eq cmp (in_the_end eq start (before ++ batch)) left
     pub leaves : Leaves eq start (before ++ batch) (listed eq left)

@@ -12,7 +12,7 @@ use Rattle.hashbag_ledger_lib.specs.Entries.{refusals_in, IsStockAfter, TakesNex
 use Rattle.hashbag_ledger_lib.specs.Ledger.{Leaves}
 use Rattle.hashbag_ledger_lib.specs.Settled.{listed, IsPastWithin}
 
--- `booked` is what the movements ms leave of a stock that began as L, and what became of each movement
+-- `booked` is what the movements ms leave of a stock that began as L, and what became of each movement; no total passes `most`
 abbrev pub HasBooked : ℕ → List (String Global × ℕ) → List (Movement (String Global)) → Booked (String Global) → Type 0
 HasBooked most L ms booked = IsBooked string_eq string_cmp most L ms booked.balance.items booked.entries.items
 

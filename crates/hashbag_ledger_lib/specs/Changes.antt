@@ -50,11 +50,11 @@ abbrev pub listed_of : Option RowChange → List RowChange
 listed_of None = []
 listed_of (Some c) = c ∷ []
 
--- the changes `first`, followed by the changes that turn the rows `befores` into `afters`, turn `before` into `after`
+-- if `before` and `after` are in ascending order: `first` and then any changes from `befores` to `afters` are changes from `before` to `after`
 abbrev pub Begins : (before after : List (String Global × ℕ)) (first : List RowChange) (befores afters : List (String Global × ℕ)) → Type 0
 Begins before after first befores afters = (cs : List RowChange) → (Rises befores → Rises afters → AreChanges befores afters cs)
     → Rises before → Rises after → AreChanges before after (first ++ cs)
 
--- `befores` and `afters` together have fewer rows than `before` and `after`, unless these have none
+-- `befores` and `afters` together have fewer rows than `before` and `after`, unless `before` and `after` have none
 abbrev pub LeavesFewerRows : (before after befores afters : List (String Global × ℕ)) → Type 0
 LeavesFewerRows before after befores afters = 0 < length before + length after → length befores + length afters < length before + length after

@@ -41,7 +41,7 @@ Dated = Entry (String Global) × String Global
 abbrev pub counts_at : List ℕ → Dated → Bool
 counts_at date e = counts_by date e.0.outcome (string_bytes e.1)
 
--- of these entries the movements that count on a date
+-- the movements of the entries that count on a date
 abbrev pub counting_by : List ℕ → List Dated → List (Movement (String Global))
 counting_by date [] = []
 counting_by date (e ∷ es) = if counts_at date e then e.0.movement ∷ counting_by date es else counting_by date es
@@ -73,7 +73,7 @@ named_sum v rows = sum_by (λ r. if bytes_eq v r.0 then r.1 else 0) rows
 abbrev pub count_of : Bor (List ℕ) → List (Bor (List ℕ)) → ℕ
 count_of v X = count (λ x y. bytes_eq x.now y.now) v X
 
--- how often the items have an article is the sum of the numbers of its rows
+-- the count of an article among the items is the sum of the numbers in the rows of the article
 abbrev pub HasSumsOf : List (Bor (List ℕ) × ℕ) → List (Bor (List ℕ)) → Type 0
 HasSumsOf rows items = (v : Bor (List ℕ)) → count_of v items ≡ named_sum v.now (map with_bytes rows)
 
@@ -81,7 +81,7 @@ HasSumsOf rows items = (v : Bor (List ℕ)) → count_of v items ≡ named_sum v
 abbrev pub IsNetOf : (came went : List (Bor (List ℕ))) → Bor (List ℕ) × Change → Type 0
 IsNetOf came went r = r.1 ≡ net (count_of r.0 came) (count_of r.0 went)
 
--- how much a change adds to the sum of a part
+-- how much a change adds to the sum of what came, of what went, or of both: the part says which
 abbrev pub amount : Part → Change → ℕ
 amount Came change = coming change
 amount Went change = going change

@@ -18,7 +18,7 @@ days_in y m = if m == 2 then days_in_february y else (if (m == 4) || ((m == 6) |
 abbrev pub digit_at : List ℕ → ℕ → ℕ
 digit_at t i = get_or t i 48 - 48
 
--- the number of the digits at two places
+-- the two digits at these places, as one number
 abbrev pub pair_at : List ℕ → ℕ → ℕ → ℕ
 pair_at t i j = digit_at t i * 10 + digit_at t j
 

@@ -11,7 +11,7 @@ leap_day = refl
 leap_day_of_2000 : is_date (codes "2000-02-29") ≡ true
 leap_day_of_2000 = refl
 
--- 1900 has none
+-- 1900 has no leap day
 no_leap_day : is_date (codes "1900-02-29") ≡ false
 no_leap_day = refl
 

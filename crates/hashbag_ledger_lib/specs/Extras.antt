@@ -24,7 +24,7 @@ HasNoBadDate x = IfSome x.date (λ d. is_date (string_bytes d) ≡ true)
 abbrev pub columns_of : {C D : Type 0} → (C → D) → ExtraColumns C → ExtraColumns D
 columns_of f columns = record { date = option_map f columns.date; note = option_map f columns.note }
 
--- the place of the column of this name under a header, if there is a name
+-- the place that the column of this name has in a header, if there is a name
 abbrev pub place_if : Record → Option (Bor (List ℕ)) → Option ℕ
 place_if header name = option_map (λ n. place_of header n.now) name
 
@@ -36,7 +36,7 @@ field_at r column = option_map (λ p. get_or r p []) column
 abbrev pub last_field_if : Sheet → Option Column → Option (List ℕ)
 last_field_if sheet column = field_at (read_last sheet) (option_map place column)
 
--- the date and the note of a record, which are at these places
+-- the date and the note that a record has at these places
 abbrev pub extra_in : ExtraColumns ℕ → Record → Option (List ℕ) × Option (List ℕ)
 extra_in columns r = (field_at r columns.date, field_at r columns.note)
 

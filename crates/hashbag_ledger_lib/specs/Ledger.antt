@@ -32,7 +32,7 @@ module _ {T : Type 0} (eq : T → T → Bool) where
     pub enough : going m.change ≤ before m.article
     pub counts : (v : T) → after v + (if eq v m.article then going m.change else 0) ≡ before v + (if eq v m.article then coming m.change else 0)
 
-  -- the same of the items of a stock
+  -- the same, for stocks that have these items
   abbrev pub ChangesItems : Movement T → List T → List T → Type 0
   ChangesItems m before after = ChangesStock m (stock_of before) (stock_of after)
 

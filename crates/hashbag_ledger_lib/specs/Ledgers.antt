@@ -29,7 +29,7 @@ module _ {T : Type 0} (eq : T → T → Bool) where
   IsBalanceOf cmp ledger balance =
       (L : List (T × ℕ)) (ms : List (Movement T)) → IsLedgerOf eq L ms ledger.refusals.items ledger.stock → IsBalance eq cmp (in_the_end eq (listed eq L) ms) balance
 
-  -- `balance` is what the movements leave of the list that the ledger began as
+  -- `balance` is what the movements of the ledger leave of the list that it had at the beginning
   abbrev pub IsLeftBy : {S H : Type 0} → Ledger T S H → List (T × ℕ) → Type 0
   IsLeftBy ledger balance =
       (L : List (T × ℕ)) (ms : List (Movement T)) → IsLedgerOf eq L ms ledger.refusals.items ledger.stock → Leaves eq (listed eq L) ms (listed eq balance)

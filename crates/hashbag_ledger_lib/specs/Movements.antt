@@ -49,11 +49,11 @@ columns_by f columns = record { article = f columns.article; change = change_by 
 abbrev pub names_now : Columns (Bor (List ℕ)) → Columns (List ℕ)
 names_now names = columns_by (λ n. n.now) names
 
--- the places of the columns of a change with these names, under a header
+-- the places that the columns of a change have in a header; `names` are the names of the columns
 abbrev pub change_places : Record → ChangeColumns (Bor (List ℕ)) → ChangeColumns ℕ
 change_places header names = change_by (λ n. place_of header n.now) names
 
--- the places of the columns of a movement with these names, under a header
+-- the places that the columns of a movement have in a header; `names` are the names of the columns
 abbrev pub places_under : Record → Columns (Bor (List ℕ)) → Columns ℕ
 places_under header names = columns_by (λ n. place_of header n.now) names
 
@@ -83,7 +83,7 @@ movements_read reading names text = movements_in reading (names_now names) text
 abbrev pub IsNextMovement : Scale → Columns ℕ → List Record → List Record → Movement (String Global) → Type 0
 IsNextMovement scale columns before after m = (r : Record) × (before ≡ r ∷ after) × (content_of m ≡ movement_in scale columns r)
 
--- the movements of one file were entered: `moved` is their content, and any earlier movements may have come before
+-- the movements of one file were entered, after any earlier movements; `moved` is the content of the movements of the file
 pub record EntersFile {S : Type 0} (file : ℕ) (moved : List (List ℕ × Change)) (refused : List (Refusal (String Global))) (stock : Bag (String Global) S) (refused' : List (Refusal (String Global))) (stock' : Bag (String Global) S) : Type 0 where
   pub read : List (Movement (String Global))
   pub all : map content_of read ≡ moved

@@ -19,6 +19,6 @@ abbrev pub size : Change → ℕ
 size (In n) = n
 size (Out n) = n
 
--- n is the number of a change as a row has it
+-- n is the number that a row has for the change; the size of the change is at most 2^63-1
 abbrev pub IsNumberOf : Change → ℤ → Type 0
 IsNumberOf change n = (size change ≤ 2 ^ 63 - 1) × (change_at n ≡ plain change)

@@ -10,7 +10,7 @@ use Rattle.hashbag_ledger_lib.specs.Entries.{entries_of}
 use Rattle.hashbag_ledger_lib.specs.Settled.{listed}
 
 module _ {X : Type 0} where
-  -- the movements ms, each with what became of it, from an empty stock, and with what it carries along
+  -- the movements ms, entered into an empty stock, each with what became of it; X is what a movement carries along, such as its day
   abbrev pub recalled : List (Movement (String Global) × X) → List (Entry (String Global) × X)
   recalled ms = zip (entries_of string_eq (listed string_eq []) (keys_of ms)) (values_of ms)
 

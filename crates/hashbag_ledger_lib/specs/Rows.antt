@@ -27,7 +27,7 @@ kept_of r = record { movement = r.place.file; there = r.there }
 abbrev pub AgreeBefore : {X : Type 0} → ℕ → List X → List X → Type 0
 AgreeBefore place kept counted = (k : ℕ) → k < place → slice_get kept k ≡ slice_get counted k
 
--- `wrong` is what `wrong_at` says of the elements of two lists at the first place where the lists differ
+-- `wrong` is `wrong_at` of the two elements that the lists have at the first place where they differ
 pub record IsFirstDifference {X W : Type 0} (wrong_at : Option X → Option X → W) (kept counted : List X) (wrong : W) : Type 0 where
   pub place : ℕ
   pub before : AgreeBefore place kept counted
@@ -40,8 +40,7 @@ lower_row k c Less = (k.0, k.1, 0)
 lower_row k c Equal = (k.0, k.1, c.1)
 lower_row k c Greater = (c.0, 0, c.1)
 
--- of a kept and a counted row at the same place: the lower article, with its number in each row. The number is 0 if the row is missing, or is of
--- the other article
+-- the lower article of a kept and a counted row, with its number in each row. The number is 0 if the row is missing, or is of the other article
 abbrev pub wrong_row : Option (List ℕ × ℕ) → Option (List ℕ × ℕ) → Option (List ℕ × ℕ × ℕ)
 wrong_row (Some k) (Some c) = Some (lower_row k c (slice_cmp nat_cmp k.0 c.0))
 wrong_row (Some k) None = Some (k.0, k.1, 0)

@@ -24,7 +24,7 @@ with_number m n = m ++ to_le_bytes w64 n
 abbrev pub with_text : List ℕ → List ℕ → List ℕ
 with_text m text = with_number m (length text) ++ text
 
--- a message m and then a number with a sign, after 1; or 0 if the number is missing
+-- a message m, then 1, then a number with a sign; if the number is missing, m and then 0
 abbrev pub with_option : List ℕ → Option ℤ → List ℕ
 with_option m None = with_number m 0
 with_option m (Some n) = with_number (with_number m 1) (cast_unsigned w64 n)
@@ -43,16 +43,16 @@ abbrev pub with_movements : List ℕ → List (Entry (String Global)) → List �
 with_movements m [] = m
 with_movements m (e ∷ es) = with_movements (with_movement m e.movement) es
 
--- a message m and then a text, after 1; or 0 if the text is missing
+-- a message m, then 1, then a text; if the text is missing, m and then 0
 abbrev pub with_maybe : List ℕ → Option (String Global) → List ℕ
 with_maybe m None = with_number m 0
 with_maybe m (Some text) = with_text (with_number m 1) (string_bytes text)
 
--- a message m and then the number of a movement, from 0, its date and its note; nothing if the movement has neither
+-- a message m, then the place n of a movement in its batch, from 0, then its date and its note; m alone if the movement has neither
 abbrev pub with_extra : List ℕ → ℕ → Extra → List ℕ
 with_extra m n x = if is_none x.date && is_none x.note then m else with_maybe (with_maybe (with_number m n) x.date) x.note
 
--- a message m and then the dates and notes of the movements from this number on, in turn
+-- a message m and then the dates and notes of movements, in turn; the first of the movements has the place n in its batch
 abbrev pub with_extras : List ℕ → ℕ → List Extra → List ℕ
 with_extras m n [] = m
 with_extras m n (x ∷ xs) = with_extras (with_extra m n x) (n + 1) xs
@@ -81,7 +81,7 @@ seal_of scale b es xs = encode_lower (sha256 (sealed scale b es xs))
 abbrev pub IsSealed : ℕ → Batch → List (Entry (String Global)) → List Extra → Type 0
 IsSealed scale b es xs = string_bytes b.seal ≡ seal_of scale b es xs
 
--- the row of a batch that has these entries, with these dates and notes
+-- b is the row of a batch that has the fields of the draft d, these entries, and these dates and notes
 pub record IsRowOf (scale : ℕ) (d : Draft) (es : List (Entry (String Global))) (xs : List Extra) (b : Batch) : Type 0 where
   pub number : b.number ≡ d.number
   pub file : string_bytes b.file ≡ d.file.now
@@ -100,7 +100,7 @@ AreRowsOf scale [] es xs (b ∷ bs) = ⊥
 AreRowsOf scale (d ∷ ds) es xs [] = ⊥
 AreRowsOf scale (d ∷ ds) es xs (b ∷ bs) = IsRowOf scale d (take d.movements es) (take b.movements xs) b × AreRowsOf scale ds (drop d.movements es) (drop b.movements xs) bs
 
--- each batch has the seal of its row and of its movements, given the movements of all batches in turn, and their dates and notes
+-- each batch has the right seal. es are the movements of all batches in turn, as many for each as its row says, and xs their dates and notes
 abbrev pub AreSealed : ℕ → List Batch → List (Entry (String Global)) → List Extra → Type 0
 AreSealed scale [] es xs = Unit {0}
 AreSealed scale (b ∷ bs) es xs = IsSealed scale b (take b.movements es) (take b.movements xs) × AreSealed scale bs (drop b.movements es) (drop b.movements xs)

@@ -51,7 +51,7 @@ module _ {T : Type 0} (eq : T → T → Bool) where
   IsAsBefore (Done booked) before = (v : T) → listed eq booked.balance.items v ≡ before v
   IsAsBefore (Refused refusals) before = ⊥
 
-  -- the entries, or the refusals, are those of the opposite movements
+  -- an undo that is `Done` has the entries of all opposite movements, and an undo that is `Refused` has their refusals
   abbrev pub EntersOrRefuses : List (T × ℕ) → List (Movement T) → Undo T → Type 0
   EntersOrRefuses L batch (Done booked) = booked.entries.items ≡ entries_of eq (listed eq L) (opposites_of batch)
   EntersOrRefuses L batch (Refused refusals) = refusals.items ≡ refused_of eq (listed eq L) (opposites_of batch)

@@ -17,7 +17,7 @@ pub enum Form {
     Csv,
     /// In columns, with titles, articles at the left and numbers at the right.
     Table,
-    /// As a JSON array of an object for each article.
+    /// As a JSON array with an object for each article.
     Json,
 }
 
@@ -118,7 +118,7 @@ fn table_of(
 struct Object<'a> {
     article: &'a str,
     number: Change,
-    // The number as a text, if it has decimals.
+    // The number as a text, if numbers have decimals.
     text: Option<String>,
 }
 
@@ -161,7 +161,7 @@ fn json_of(alloc: Global, scale: Scale, balance: &[(&str, Change)]) -> Result<Ve
     Ok(text)
 }
 
-/// Returns the rows of a balance in this form. `Out` is written as a number below 0. In JSON, numbers with decimals are texts.
+/// Returns the rows of a balance in this form. `Out` is written as a number below 0. If numbers have decimals, JSON has them as strings.
 ///
 /// # Errors
 ///

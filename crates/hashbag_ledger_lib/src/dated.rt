@@ -101,7 +101,7 @@ fn moved_by<'a>(
     Ok(list)
 }
 
-// Returns the bag of a list of articles.
+// Returns a bag that has each article as often as its numbers in the list add up to.
 fn stock_of<'a, S: BuildHasher + Drop>(
     alloc: Global,
     state: S,

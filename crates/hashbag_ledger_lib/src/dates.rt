@@ -41,7 +41,7 @@ fn digit_at(bytes: &[u8], at: usize) -> usize
     }
 }
 
-// Returns the number of the digits at two places.
+// Returns the two digits at these places, as one number.
 fn pair_at(bytes: &[u8], first: usize, second: usize) -> usize
     ensures pair { result ≡ pair_at bytes.now first second }
     ensures small { result ≤ 2805 }
@@ -95,7 +95,7 @@ fn is_day_of(year: usize, month: usize, day: usize) -> bool
     is_month && (1 <= day && day <= days)
 }
 
-/// Returns whether a text is a date, as `2026-02-28`: one of the proleptic Gregorian calendar.
+/// Returns whether a text is a date of the proleptic Gregorian calendar, in the form `2026-02-28`.
 pub fn is_date(text: &str) -> bool
     ensures { result ≡ is_date text.now }
 {

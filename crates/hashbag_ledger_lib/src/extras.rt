@@ -23,7 +23,7 @@ pub struct Extra {
     pub note: Option<String>,
 }
 
-/// The columns of dates and of notes, if there are any: names, or places under a header.
+/// The columns of dates and of notes, if there are any: names, or columns of a sheet.
 #[derive(Clone, Copy)]
 pub struct ExtraColumns<C> {
     /// The dates.
@@ -68,7 +68,7 @@ fn column_if<'n>(sheet: &Sheet<'_>, name: Option<&'n str>) -> Result<Option<Colu
     }
 }
 
-// Returns the field that the record that was read last has in this column, or `None` without a column.
+// Returns the field in this column of the record that was read last, or `None` if there is no column.
 fn field_if(
     alloc: Global,
     sheet: &Sheet<'_>,
@@ -82,7 +82,7 @@ fn field_if(
     }
 }
 
-// Returns whether there is no text, or it is a date.
+// Returns whether there is no text, or the text is a date.
 fn is_date_if(text: &Option<String>) -> bool
     ensures { result ≡ true → IfSome text.now (λ t. is_date (string_bytes t) ≡ true) }
 {
@@ -120,11 +120,11 @@ fn next_extra(
     Ok(Some(Extra { date, note }))
 }
 
-/// Reads the dates and the notes of the movements of a text, in the order of its lines: one for each record.
+/// Reads the dates and the notes of the movements of a text, in the order of its lines: one [`Extra`] for each record.
 ///
 /// # Errors
 ///
-/// `NoDate` with the first line whose date field isn't a date, or why the text isn't read.
+/// `NoDate` with the first line whose date field isn't a date. `Sheet` if the text can't be read, or an allocation fails.
 pub fn read_extras(
     alloc: Global,
     text: &[u8],
@@ -146,7 +146,7 @@ pub fn read_extras(
     Ok(extras)
 }
 
-// If `is_out`, appends the dates and notes of the movements that take out, else those of the movements that bring in.
+// If `is_out`, appends the dates and notes of the movements that take out, else the dates and notes of the movements that bring in.
 fn push_turned(
     turned: &mut Vec<Extra>,
     movements: &[(Movement<String>, Extra)],

@@ -1,5 +1,5 @@
-//! A stock into which movements are entered one by one. The clauses hold for any list as which the stock began, and for any movements entered
-//! since.
+//! A stock into which movements are entered one by one. The clauses hold whatever list the stock had at the beginning, and whatever movements
+//! have come since.
 ghost use Rattle.std.specs.Prelude.{◌≡◌, ◌⊎◌, ◌<◌, ◌↔◌, ◌≤◌, [], length, IsTrue, IfOk, IfErr, OnOk};
 ghost use Rattle.hashbag.specs.Occurrences.{count};
 ghost use Rattle.hashbag_csv.specs.Quantities.{number_sum, quantity};

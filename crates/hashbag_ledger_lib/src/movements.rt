@@ -4,8 +4,8 @@ ghost use Rattle.std.specs.Prelude.{◌≡◌};
 /// Where a movement is.
 #[derive(Clone, Copy, PartialEq, Eq, Debug)]
 pub struct Place {
-    /// The number of the movement's file, from 0. In what is read from a database it is 0, the number of the batch, or the
-    /// number of the movement: each call says which.
+    /// The number of the movement's file, from 0. For a movement that is read from a database: 0, the number of its batch, or
+    /// its own number. The function that reads it says which.
     pub file: usize,
     /// The line on which the movement begins, from 1.
     pub line: u64,

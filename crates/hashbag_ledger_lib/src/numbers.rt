@@ -30,9 +30,9 @@ pub fn size_of(change: Change) -> usize
 
 /// Returns the number of a change as a row has it: below 0 for `Out`. Returns `None` if the size is above [`MOST`].
 ///
-/// [`change_of`] turns the number back into the change, but `Out(0)` into `In(0)`.
+/// [`change_of`] turns the number back into the change; for `Out(0)` it returns `In(0)`.
 pub fn number_of(change: Change) -> Option<i64>
-    // `None` exactly if the size is above [`MOST`]. Else the number's change is this one, `Out 0` as `In 0`.
+    // `None` exactly if the size is above [`MOST`]. Else `change_at` of the number is the change; for `Out 0` it is `In 0`.
     ensures { MatchOption result (2 ^ 63 - 1 < size change) (IsNumberOf change) }
 {
     match change {

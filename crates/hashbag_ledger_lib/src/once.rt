@@ -1,8 +1,8 @@
-//! What a batch is, and whether a file was entered before.
+//! The batches of a stock, their kinds, and whether a file was entered before.
 ghost use Rattle.std.specs.Prelude.{◌≡◌};
 ghost use Rattle.hashbag_ledger_lib.specs.Kinds.{name_of, undone_of, IsBatchOfDigest};
 
-/// What a batch is.
+/// The kind of a batch.
 #[derive(Clone, Copy, PartialEq, Eq, Debug)]
 pub enum Kind {
     /// The opening stock.

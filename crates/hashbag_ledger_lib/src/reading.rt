@@ -153,7 +153,7 @@ pub fn read_movements(
     names: Columns<&str>,
     reading: Reading,
 ) -> Result<Vec<Movement<String>>, SheetError>
-    // The articles and changes of the result are those of the records below the header, in turn, read by `names` and `reading`.
+    // The result has the article and the change of each record below the header, in turn, read by `names` and `reading`.
     ensures movements { IfOk result (λ all. contents_of all.items ≡ movements_read reading names.entry text.now) }
     ensures places { IfOk result (λ movements. All (λ m. m.place.file ≡ file) movements.items) }
 {
@@ -172,7 +172,7 @@ pub fn read_movements(
     Ok(movements)
 }
 
-// Enters into a ledger the movement of the record that was read last.
+// Enters a movement into a ledger. An error names the line of the movement.
 fn enter_record<S: BuildHasher + Drop>(
     alloc: Global,
     ledger: &mut Ledger<String, S>,

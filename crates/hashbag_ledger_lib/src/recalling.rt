@@ -11,8 +11,8 @@ use crate::pairs::{unzip, zip};
 use std::alloc::{AllocError, Global};
 use std::hash::BuildHasher;
 
-/// Returns these movements, in turn, each with what became of it, and with what it carries along. The stock is empty at first, so `movements`
-/// has to have all movements of its articles.
+/// Returns these movements, in turn, each with what became of it, and with what it carries along. The stock is empty at first, so
+/// `movements` has to have all movements of each article that it names.
 ///
 /// # Errors
 ///
@@ -72,7 +72,7 @@ pub fn recall_batch<X: Drop, S: BuildHasher + Drop>(
     movements: Vec<(Movement<String>, X)>,
     batch: usize,
 ) -> Result<Vec<(Entry<String>, X)>, LedgerError>
-    // All movements are entered in turn into an empty stock. The result has those whose `place.file` is `batch`, each with what becomes of it.
+    // All movements are entered in turn into an empty stock. The result has the entries whose `place.file` is `batch`.
     ensures { IfOk result (λ own. own.items ≡ recalled_of batch movements.items) }
 {
     let entries = recall(alloc, state, movements)?;

@@ -155,7 +155,7 @@ fn add_source(hasher: &mut Sha256, batch: &Batch)
     add_text(hasher, batch.kind.as_str());
 }
 
-// Adds the rest of the row of a batch.
+// Adds the rest of the row of a batch: which batch it undoes, its time, and how many movements and refusals it has.
 fn add_counts(hasher: &mut Sha256, batch: &Batch)
     ensures { (m : List ℕ) → Holds256 hasher.old m → Holds256 hasher.new (with_counts m batch.now) }
 {
@@ -238,7 +238,7 @@ pub fn cut<T>(list: &[T], count: u64) -> (&[T], &[T])
 
 /// Returns the rows of batches with their seals, in turn, in a stock whose numbers have `scale` decimals. `entries` are the entries of all
 /// batches, in turn: each batch has as many as its draft says, or all that are left if there are fewer. `extras` are the dates and the notes of
-/// the same movements; the list is empty if no movement has one.
+/// the same movements; the list may be empty if no movement has a date or a note.
 ///
 /// # Errors
 ///
@@ -250,8 +250,8 @@ pub fn sealed_rows(
     entries: &[Entry<String>],
     extras: &[Extra],
 ) -> Result<Vec<Batch>, AllocError>
-    // Each batch has the next entries, as many as its draft says, and their dates and notes. Its row has the fields of the draft, how many movements
-    // and refusals these are, and the seal of all this.
+    // Each batch has the next entries, as many as its draft says, and their dates and notes. Its row has the fields of the draft, how many
+    // movements and refusals the batch has, and the seal of the row, the entries, the dates and the notes.
     ensures rows { IfOk result (λ rows. AreRowsOf scale drafts.now entries.now extras.now rows.items) }
 
     // So each seal is right for its row and the next entries, as many as the row says, and their dates and notes: `wrong_seal` finds none.

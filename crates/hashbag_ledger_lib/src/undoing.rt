@@ -88,8 +88,8 @@ pub fn opposites<T: Drop>(
 
 /// Enters the opposite movements of a batch into the kept balance, all or none.
 ///
-/// Returns `Refused` exactly if an article would fall below zero. The undo of the last batch is never `Refused`: the balance is then again
-/// the one before the batch.
+/// Returns `Refused` exactly if an article would fall below zero. The undo of the last batch is never `Refused`: then the balance is
+/// again the balance before the batch.
 ///
 /// # Errors
 ///
@@ -107,7 +107,7 @@ pub fn take_back<S: BuildHasher + Drop>(
     // If the batch turned some stock into the kept balance, the batch is taken back, and the balance is that stock again.
     ensures last { IfOk result (λ u. RestoresWhatWas kept.items batch.items u) }
 
-    // The entries, or the refusals, are those of the opposite movements.
+    // The result has the entries, or the refusals, of the opposite movements.
     ensures entries { IfOk result (EntersOrRefuses string_eq kept.items batch.items) }
     ensures too_many { (result ≡ Err LedgerError.StartTooMany) ↔ (2 ^ 63 - 1 < number_sum kept.items) }
 
@@ -158,7 +158,7 @@ pub fn undo_batch<S: BuildHasher + Drop>(
     // Either the batch is taken back, or the undo is `Refused`, because an article would fall below zero.
     ensures undo { IfOk result (λ u. IsUndo string_eq string_cmp (listed string_eq kept.now) batch.items u.0) }
 
-    // The entries, or the refusals, are those of the opposite movements.
+    // The result has the entries, or the refusals, of the opposite movements.
     ensures entries { IfOk result (λ u. EntersOrRefuses string_eq kept.now batch.items u.0) }
 
     // If the kept rows are in ascending order, the changes turn them into the rows of the new balance; no changes if the undo is `Refused`.

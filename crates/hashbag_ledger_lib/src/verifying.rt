@@ -211,7 +211,7 @@ fn read_batch(
     read
 }
 
-/// Returns the number of the first batch that has other numbers of movements or refusals than its row says. If all rows are right, but a
+/// Returns the number of the first batch that has not as many movements or refusals as its row says. If all rows are right, but a
 /// movement is left over (it is of no batch, or out of turn), returns the batch number that this movement names. Else returns `None`.
 ///
 /// Movements and refusals must be in turn.

@@ -12,7 +12,7 @@ pub enum StockError {
     /// The stock has tables of a later version.
     #[error("a stock of version {0}, which is later than {known}", known = crate::tables::VERSION)]
     Later(i64),
-    /// A row of the tables is one that this program never writes.
+    /// The tables have what this program never writes, or can't have what is to be written. The text says what.
     #[error("{0}")]
     Damaged(&'static str),
     /// Another process has the file open.

@@ -188,7 +188,7 @@ fn movements_with_extras<S: Alter>(
     list_of(alloc, conn, text.as_str(), values)
 }
 
-/// Returns the movements of a batch that were entered, in turn, each with its date and its note. The file of a place is 0.
+/// Returns the movements of a batch that were entered, in turn, each with its date and its note. `place.file` is 0.
 ///
 /// # Errors
 ///
@@ -204,7 +204,7 @@ pub fn entered_of<S: Alter>(
     movements_with_extras(alloc, conn, shape, "0", rest, params![batch])
 }
 
-/// Returns all movements, in turn, each with its batch, its date and its note. The file of a place is the number of the movement.
+/// Returns all movements, in turn, each with its batch, its date and its note. `place.file` is the number of the movement.
 ///
 /// # Errors
 ///
@@ -221,8 +221,8 @@ pub fn movements_of<S: Alter>(
     list_of(alloc, conn, text.as_str(), &[])
 }
 
-/// Returns all movements, in turn, each with its day: its date, else the day on which its batch was entered. The file of a place is the number
-/// of the movement.
+/// Returns all movements, in turn, each with its day: its date, else the day on which its batch was entered. `place.file` is the number of
+/// the movement.
 ///
 /// # Errors
 ///
@@ -266,8 +266,8 @@ pub fn refusals_of<S: Alter>(
     )
 }
 
-/// Returns the movements of this batch and of the batches before it, in turn, each with its date and its note. The file of a place is the number
-/// of the batch.
+/// Returns the movements of this batch and of the batches before it, in turn, each with its date and its note. `place.file` is the number of
+/// the batch.
 ///
 /// # Errors
 ///
@@ -282,7 +282,7 @@ pub fn movements_until<S: Alter>(
     movements_with_extras(alloc, conn, shape, "m.batch", rest, params![batch])
 }
 
-/// Returns the movements of an article, in turn, each with its date and its note. The file of a place is the number of the batch.
+/// Returns the movements of an article, in turn, each with its date and its note. `place.file` is the number of the batch.
 ///
 /// # Errors
 ///

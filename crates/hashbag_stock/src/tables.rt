@@ -17,7 +17,7 @@ const STYLED: i64 = 3;
 // The first version whose movements have dates and notes.
 const DATED: i64 = 3;
 
-// What is known of the stock as a whole: the version, under the name of the program, and how the files of the stock are written.
+// What a stock keeps as a whole: the version, in the row `hashbag_ledger`, how its files are written, and the names of columns.
 const META: &str = "CREATE TABLE meta (name TEXT PRIMARY KEY NOT NULL, value ANY NOT NULL) STRICT";
 
 // The batches: what was entered at one time.
@@ -39,7 +39,7 @@ const ARTICLE: &str =
 /// The statements that create the tables.
 pub static TABLES: [&str; 5] = [META, BATCH, MOVEMENT, REFUSAL, ARTICLE];
 
-/// What is true of all rows of a stock.
+/// What is known of a stock as a whole.
 #[derive(Clone, Copy, PartialEq, Eq, Debug)]
 pub struct Shape {
     /// How the files of the stock are written, unless the arguments of a call say otherwise.
@@ -121,7 +121,7 @@ fn mark_of(name: &str) -> Result<Mark, StockError> {
 /// # Errors
 ///
 /// - `Foreign` if the tables aren't those of a stock, `Later` if they are of a later version;
-/// - `Damaged` if the version, the scale, the mark or the delimiter is one that no stock has;
+/// - `Damaged` if the version, the scale, the mark or the delimiter is one that no stock has, or if a table isn't as in its version;
 /// - else the error of the database.
 pub fn contents_of<S: Alter>(conn: &mut Connection<S>) -> Result<Contents, StockError> {
     let tables: i64 = conn
@@ -196,7 +196,7 @@ pub fn columns_of<S: Alter>(
     Ok(Some(text_of(conn, "columns")?))
 }
 
-/// Returns the names of the columns of dates and of notes that a stock keeps, each if it keeps one.
+/// Returns the names of the columns of dates and of notes that a stock keeps, or `None` for a name that it lacks.
 ///
 /// # Errors
 ///

@@ -26,7 +26,7 @@ pub struct NewRows<'a> {
     pub batches: &'a [Batch],
     /// The movements of all batches, in turn, each with what became of it: for each batch as many as its row says.
     pub entries: &'a [Entry<String>],
-    /// The dates and notes of the same movements; empty if no movement has one, or if the stock keeps none.
+    /// The dates and notes of the same movements; empty if no movement has a date or a note, or if the stock keeps no dates and notes.
     pub extras: &'a [Extra],
     /// The changes of the rows of the balance, after all batches.
     pub changed: &'a [RowChange],

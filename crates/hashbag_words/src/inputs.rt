@@ -57,7 +57,7 @@ fn read_whole<'a>(rt: &HostRuntime, name: &'a str) -> Result<String, Trouble<'a>
 }
 
 impl<'s, 'a, 'm> Work<'s, 'a, 'm> {
-    /// Counts what the inputs of these names have, in order.
+    /// Counts the contents of the inputs of these names, in order.
     ///
     /// # Errors
     ///
@@ -152,7 +152,7 @@ impl<'s, 'a, 'm> Work<'s, 'a, 'm> {
         }
     }
 
-    /// Counts the fields of a column of all inputs, each with its own header. Each is read whole.
+    /// Counts the fields of the column of this name in all inputs. Each input has its own header, and is read whole.
     ///
     /// # Errors
     ///

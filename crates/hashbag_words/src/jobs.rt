@@ -98,7 +98,7 @@ fn take_pair<'a>(
     work.add_all(pair.rows, bag, &[pair.first])?;
     work.add_all(pair.rows, &mut other, &[pair.second])?;
 
-    // From here on tokens are only looked up in it. With all slots carried, a look-up reads one table.
+    // From here on tokens are only looked up in `other`. With all slots carried, a look-up reads one table.
     other.finish_carry();
     Ok(other)
 }

@@ -63,7 +63,7 @@ fn lent(alloc: Global, texts: &Vec<String>) -> Result<Vec<&str>, AllocError> {
     Ok(names)
 }
 
-// Does a job on the files in the folders of these names, and returns the exit status.
+// Does a job on the files of these names, and on the files in the folders of these names. Returns the exit status.
 fn run_on_folders(
     rt: &HostRuntime,
     settings: &Settings<'_, '_>,
@@ -80,7 +80,7 @@ fn run_on_folders(
     run_with_temporary_folder(rt, settings, pattern, &names)
 }
 
-// Does a job, on the inputs of the list if there is one, and returns the exit status.
+// Does a job, and returns the exit status. If there is a list, its names are the inputs.
 fn run_with_names(
     rt: &HostRuntime,
     settings: &Settings<'_, '_>,

@@ -15,7 +15,7 @@ use std::{env, fs, io};
 ///
 /// # Errors
 ///
-/// Why the file can't be read, for example that it isn't UTF-8; that it has a NUL byte, if `null` is false. `Memory` if an allocation fails.
+/// The file can't be read, or isn't UTF-8; or the file has a NUL byte, and `null` is false. `Memory` if an allocation fails.
 pub fn read_list<'a>(rt: &HostRuntime, name: &'a str, null: bool) -> Result<String, Trouble<'a>> {
     let (name, read) = match name {
         "-" => ("standard input", io::read_to_string(rt.alloc(), rt.stdin())),
@@ -99,7 +99,7 @@ pub fn inputs_of<'a>(
 ///
 /// # Errors
 ///
-/// `File` if the path of that folder can't be read.
+/// `File` if the path of the default folder can't be read.
 pub fn temporary_folder<'a>(rt: &HostRuntime) -> Result<String, Trouble<'a>> {
     match env::temp_dir(rt) {
         Ok(folder) => Ok(folder.into_string()),

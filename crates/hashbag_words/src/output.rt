@@ -22,7 +22,7 @@ fn is_empty(job_text: &JobText<'_, File>) -> bool {
 ///
 /// # Errors
 ///
-/// `File` if a write fails. Then a named file is unchanged. No allocation is left to fail.
+/// `File` or `Write` if a write fails. Then a named file is unchanged. All allocations were made before.
 pub fn write<'a>(
     rt: &HostRuntime,
     output: Output<'a>,

@@ -99,7 +99,7 @@ pub fn runs_of<'s, 'a>(
     names: &'s [&'a str],
     kind: SourceKind,
 ) -> Result<Runs<'s, 'a>, Trouble<'a>>
-    // Nothing was read of them.
+    // Nothing was read of the files.
     ensures { IfOk result (AreUnread (λ files. bytes_of_text files.reads)) }
 {
     let files = files_of(rt, folder, names)?;

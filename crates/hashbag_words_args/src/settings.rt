@@ -196,7 +196,7 @@ fn csv_delimiter_of<'a>(alloc: Global, given: &ArgMatches<'a>) -> Result<Delimit
     }
 }
 
-// Returns the field with this number as what is counted. The first field is 1.
+// Returns `By::Field` for the field with this number. The first field has the number 1.
 fn field_of<'a>(
     alloc: Global,
     given: &ArgMatches<'a>,

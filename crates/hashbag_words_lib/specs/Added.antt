@@ -30,7 +30,7 @@ AreReadAs form bad_lines [] rows = rows ≡ []
 AreReadAs form bad_lines (line ∷ lines) rows =
     (now : List (List ℕ × ℕ)) × (later : List (List ℕ × ℕ)) × (rows ≡ now ++ later) × IsReadAs form bad_lines line now × AreReadAs form bad_lines lines later
 
--- a line of a file that has n lines before it; the first line is without a byte order mark at its beginning
+-- a line of a file, after n earlier lines of the file. A byte order mark at the beginning of the first line is removed
 abbrev pub line_at : ℕ → List ℕ → List ℕ
 line_at n line = if nat_eq n 0 then without_mark line else line
 
@@ -42,7 +42,7 @@ AddsRows old new rows = (text : List ℕ) → count bytes_eq text (texts_in new)
 abbrev pub HaveRows : {S : Type 0} → List (List (List ℕ × ℕ)) → Bag (String Global) S → List (List ℕ × ℕ) → Type 0
 HaveRows runs bag rows = (text : List ℕ) → count bytes_eq text (texts_in bag) + sum_by (times_in text) runs ≡ times_in text rows
 
--- `text` is `ended`, its ended lines, and then `partial`. The bag and the runs have the rows of `before` and the rows of `ended`
+-- `text` is `ended` followed by `partial`, the bytes after the last line feed. The bag and the runs have the rows `before` and the rows of `ended`
 pub record Added {S : Type 0} (form : RowForm) (before : List (List ℕ × ℕ)) (runs : List (List (List ℕ × ℕ))) (bag : Bag (String Global) S) (partial : List ℕ) (reading : LinesRead) (text : List ℕ) : Type 0 where
   pub ended : List ℕ
   pub cut : text ≡ ended ++ partial
@@ -57,7 +57,7 @@ pub record Added {S : Type 0} (form : RowForm) (before : List (List ℕ × ℕ))
 abbrev pub HasAdded : {S H : Type 0} → List (List ℕ × ℕ) → List (List (List ℕ × ℕ)) → RowCounter S H → List ℕ → Type 0
 HasAdded before runs counter text = Added counter.form before runs counter.bag counter.partial.items counter.reading text
 
--- these are the rows of the lines of a whole file. A last line without a line feed is skipped, if bad lines are skipped
+-- these are the rows of the lines of a whole file. A last line without a line feed is skipped; with `Rejected` there is none
 pub record AreRowsOf (form : RowForm) (bad_lines : BadLines) (text : List ℕ) (rows : List (List ℕ × ℕ)) : Type 0 where
   pub ended : List ℕ
   pub rest : List ℕ
@@ -90,7 +90,7 @@ pub record IsFirstNoRow (form : RowForm) (text : List ℕ) (reading : LinesRead)
   pub line : reading.line ≡ min (length front + 1) (2 ^ 64 - 1)
   pub rejected : reading.bad_lines ≡ Rejected
 
--- the line is read in this form; the new bag has the rows of the old bag and those of the line
+-- the line is read in this form; the new bag has the rows of the old bag and the rows of the line
 abbrev pub AddsRowsOfLine : {S : Type 0} → Bag (String Global) S → Bag (String Global) S → RowForm → LinesRead → List ℕ → Type 0
 AddsRowsOfLine old new form reading line =
     (rows : List (List ℕ × ℕ)) × IsReadAs form reading.bad_lines (line_at reading.line line) rows × AddsRows old new rows
@@ -106,7 +106,7 @@ abbrev pub AddsBytes : {S H : Type 0} → RowCounter S H → RowCounter S H → 
 AddsBytes old new bytes =
     (before : List (List ℕ × ℕ)) → (runs : List (List (List ℕ × ℕ))) → (text : List ℕ) → HasAdded before runs old text → HasAdded before runs new (text ++ bytes)
 
--- the new counter has added the file as a whole
+-- if the old counter had added `text` of a file, the new counter has added `text` as the whole file
 abbrev pub AddsWholeFile : {S H : Type 0} → RowCounter S H → RowCounter S H → Type 0
 AddsWholeFile old new =
     (before : List (List ℕ × ℕ)) → (runs : List (List (List ℕ × ℕ))) → (text : List ℕ) → HasAdded before runs old text → HasAddedAll before runs old.reading.bad_lines text new

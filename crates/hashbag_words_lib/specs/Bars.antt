@@ -16,7 +16,7 @@ shown_char c = if c == 9 then 0x2409 else (if is_control c then 0xFFFD else c)
 abbrev pub name_of : List ℕ → List ℕ
 name_of token = map shown_char (chars token)
 
--- how many columns a character has in a terminal, and a name
+-- how many columns a character has in a terminal; `columns`: how many columns a name has
 abbrev pub char_columns : ℕ → ℕ
 char_columns c = unwrap_or (char_width false c) 0
 

@@ -16,15 +16,15 @@ use Rattle.hashbag_words_lib.specs.declared.choice.Choice.{Choice}
 use Rattle.hashbag_words_lib.specs.declared.choice.Order.{Order}
 use Rattle.hashbag_words_lib.specs.declared.choice.Order.TheVariants.{Ascending, Unordered, MostCommon}
 
--- these pairs of the bag are shown. Each text is there once, with its count, in ascending order of bytes or in no particular order; or only the first
--- k of these pairs are there, the most common first
+-- in this order, these pairs of the bag are shown. `Ascending`, `Unordered`: each text once, with its count, in ascending order of bytes or in no
+-- particular order. `MostCommon k`: the first k pairs of all texts with their counts, the most common first
 abbrev pub AreChosen : {S : Type 0} → Order → Bag (String Global) S → List (String Global × ℕ) → Type 0
 AreChosen Ascending bag pairs = IsSetWalkOf string_eq bag pairs × IsStrictlySortedBy string_cmp (keys_of pairs)
 AreChosen Unordered bag pairs = IsSetWalkOf string_eq bag pairs
 AreChosen (MostCommon k) bag pairs =
     (W : List (String Global × ℕ)) × IsSetWalkOf string_eq bag W × IsStrictlySortedBy (rank string_cmp) W × (pairs ≡ take k W)
 
--- the text isn't shown, whatever its count: the bag of texts that aren't shown, if there is one, has it
+-- the text is in the bag of texts that aren't shown, if there is such a bag. Then it isn't shown, whatever its count is
 abbrev pub is_excepted : {S : Type 0} → Option (Bor (Bag (String Global) S)) → List ℕ → Bool
 is_excepted None text = false
 is_excepted (Some bag) text = nat_lt 0 (count bytes_eq text (texts_in bag.now))

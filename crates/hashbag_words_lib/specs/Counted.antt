@@ -52,8 +52,8 @@ pub record IsFirstBad (rule : Rule) (text : List ℕ) (reading : LinesRead) : Ty
 abbrev pub HaveTogether : {S : Type 0} → List (List (List ℕ × ℕ)) → Bag (String Global) S → List (List ℕ) → Type 0
 HaveTogether runs bag tokens = (text : List ℕ) → count bytes_eq text (texts_in bag) + sum_by (times_in text) runs ≡ count bytes_eq text tokens
 
--- `text` is `ended`, its ended lines, and then `partial`. The bag and the runs have the tokens `before`, which are of earlier texts, and the tokens
--- of `ended`
+-- `text` is `ended` followed by `partial`, the bytes after the last line feed. Together, the bag and the runs have the tokens `before`, of earlier
+-- texts, and the tokens of `ended`
 pub record Counted {S : Type 0} (rule : Rule) (before : List (List ℕ)) (runs : List (List (List ℕ × ℕ))) (bag : Bag (String Global) S) (partial : List ℕ) (reading : LinesRead) (text : List ℕ) : Type 0 where
   pub ended : List ℕ
   pub cut : text ≡ ended ++ partial
@@ -97,7 +97,7 @@ abbrev pub CountsBytes : {S H : Type 0} → TextCounter S H → TextCounter S H 
 CountsBytes old new bytes =
     (before : List (List ℕ)) → (runs : List (List (List ℕ × ℕ))) → (text : List ℕ) → HasCounted before runs old text → HasCounted before runs new (text ++ bytes)
 
--- the new counter has counted the text as a whole
+-- if the old counter had counted `text`, the new counter has counted `text` as a whole text
 abbrev pub CountsWholeText : {S H : Type 0} → TextCounter S H → TextCounter S H → Type 0
 CountsWholeText old new =
     (before : List (List ℕ)) → (runs : List (List (List ℕ × ℕ))) → (text : List ℕ) → HasCounted before runs old text → HasEnded old.rule before runs new text

@@ -8,7 +8,7 @@ use Rattle.hashbag.specs.Bag.{Bag}
 use Rattle.hashbag.specs.Occurrences.{count}
 use Rattle.hashbag_words_lib.specs.Tokens.{token_of}
 
--- the texts in a bag, each as often as it occurs. Definitions speak of any bytes, also those that are no text
+-- the texts in a bag, each as often as it occurs. In definitions a text is any list of bytes, UTF-8 or not
 abbrev pub texts_in : {S : Type 0} → Bag (String Global) S → List (List ℕ)
 texts_in bag = map string_bytes bag.items
 

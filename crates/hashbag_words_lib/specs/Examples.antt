@@ -32,7 +32,7 @@ pub no_text_is_no_run : {S : Type 0} (bag : Bag (String Global) S) → bag.items
 no_text_is_no_run bag none h =
     false≢true (sym (ap (λ (n : ℕ). n == 1) (h.counts (255 ∷ []) ∙ ap (λ (items : List (String Global)). count bytes_eq (255 ∷ []) (map string_bytes items)) none)))
 
--- between blanks no field is empty; between commas the first one here is
+-- between blanks no field is empty; between commas the first field of this line is empty
 fields_between_blanks : fields_of Blanks (32 ∷ 97 ∷ 9 ∷ 32 ∷ 98 ∷ 99 ∷ 32 ∷ []) ≡ (97 ∷ []) ∷ (98 ∷ 99 ∷ []) ∷ []
 unfolding chars lib.Utf8.encode
 fields_between_blanks = refl
@@ -41,7 +41,7 @@ fields_between_commas : fields_of (Char 44) (44 ∷ 97 ∷ 32 ∷ []) ≡ [] ∷
 unfolding chars lib.Utf8.encode
 fields_between_commas = refl
 
--- the second column, `b`, below the header `a`, `b`: its name isn't counted, and an empty field is
+-- the second column, `b`, below the header `a`, `b`: the name in the header isn't counted, and an empty field is counted
 fields_of_a_column : column_under (98 ∷ []) (((97 ∷ []) ∷ (98 ∷ []) ∷ []) ∷ ((120 ∷ []) ∷ (98 ∷ []) ∷ []) ∷ ((98 ∷ []) ∷ [] ∷ []) ∷ []) ≡ (98 ∷ []) ∷ [] ∷ []
 fields_of_a_column = refl
 

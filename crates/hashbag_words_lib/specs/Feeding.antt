@@ -17,7 +17,7 @@ How = Rule ⊎ (RowForm × BadLines)
 
 -- ---- what a counter and runs have: of texts that ended, and of one that has begun
 
--- the counter and these runs have the tokens of all these texts
+-- together, the counter and these runs have the tokens of `texts`, which ended, and have counted `text` so far
 abbrev pub HasCountedTexts : {S H : Type 0} → How → TextCounter S H → List (List (List ℕ × ℕ)) → List (List ℕ) → List ℕ → Type 0
 HasCountedTexts (inl rule) counter runs texts text = (counter.rule ≡ rule) × HasCounted (flat_map (tokens_of rule) texts) runs counter text
 HasCountedTexts (inr lines) counter runs texts text = ⊥
@@ -28,7 +28,7 @@ AreRowsOfAll form bad_lines [] rows = rows ≡ []
 AreRowsOfAll form bad_lines (text ∷ texts) rows =
     (first : List (List ℕ × ℕ)) × (later : List (List ℕ × ℕ)) × AreRowsOf form bad_lines text first × AreRowsOfAll form bad_lines texts later × (rows ≡ first ++ later)
 
--- the counter and these runs have the rows of all these texts
+-- together, the counter and these runs have the rows of `texts`, which ended, and have added `text` so far
 pub record HasAddedRows {S H : Type 0} (form : RowForm) (bad_lines : BadLines) (counter : RowCounter S H) (runs : List (List (List ℕ × ℕ))) (texts : List (List ℕ)) (text : List ℕ) : Type 0 where
   pub same_form : counter.form ≡ form
   pub same_lines : counter.reading.bad_lines ≡ bad_lines
@@ -71,7 +71,7 @@ module _ {R : Type 0} (kept : R → List (List (List ℕ × ℕ)) → Type 0) wh
   AreKeptIn None runs = runs ≡ []
   AreKeptIn (Some keeper) runs = kept keeper runs
 
-  -- the runs that were kept have no rows
+  -- the runs that were kept count nothing
   abbrev pub HasNothing : R → Type 0
   HasNothing keeper = (runs : List (List (List ℕ × ℕ))) → kept keeper runs → (text : List ℕ) → sum_by (times_in text) runs ≡ 0
 
@@ -79,7 +79,7 @@ module _ {R : Type 0} (kept : R → List (List (List ℕ × ℕ)) → Type 0) wh
   abbrev pub KeepsRows : R → R → List (List ℕ × ℕ) → Type 0
   KeepsRows old new rows = (runs : List (List (List ℕ × ℕ))) → kept old runs → kept new (runs ++ rows ∷ [])
 
--- ---- a counter together with the keeper of its runs, if there is one. Where the runs were cut doesn't matter
+-- ---- a counter together with the keeper of its runs, if there is one. How the counts are divided among the runs isn't said
 
 module _ {C R : Type 0} (has : How → C → List (List (List ℕ × ℕ)) → List (List ℕ) → List ℕ → Type 0) (kept : R → List (List (List ℕ × ℕ)) → Type 0) where
   -- the counter and the runs that were kept have together what is counted of these texts

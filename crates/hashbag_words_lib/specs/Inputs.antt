@@ -21,7 +21,7 @@ ReadsBlock (Some input) before (byte ∷ bytes) begun after = (begun ≡ Some (i
 abbrev pub ReadsNextBlock : {B : Type 0} → (B → List (List ℕ × List ℕ)) → (B → Option (List ℕ × List ℕ)) → (B → List ℕ) → B → B → Type 0
 ReadsNextBlock ended begun last old new = ReadsBlock (begun old) (ended old) (last new) (begun new) (ended new)
 
--- the text that a decoder makes of the bytes that it keeps and of these bytes; without a decoder the bytes are the text
+-- the text of the bytes that a decoder keeps, followed by these bytes, if it can decode them; without a decoder the bytes are the text
 abbrev pub text_left : Option Decoder → List ℕ → Option (List ℕ)
 text_left None bytes = Some bytes
 text_left (Some decoder) bytes = text_from_decoder decoder bytes
@@ -30,8 +30,8 @@ text_left (Some decoder) bytes = text_from_decoder decoder bytes
 abbrev pub Decodes : Option Decoder → List ℕ → List ℕ → Option Decoder → Type 0
 Decodes old block text new = (bytes : List ℕ) → text_left old (block ++ bytes) ≡ after_bytes text (text_left new bytes)
 
--- the inputs of these names were read to their ends, in order, and these are their texts. `before` and `after`: the inputs that had been read to
--- their ends, before that and after it
+-- the inputs of these names were read to their ends, in order, and these are their texts. `before` has all inputs that had been
+-- read to their ends before these were read, and `after` has them and these
 pub record AreRead (encoding : Option Encoding) (names : List (Bor (List ℕ))) (before after : List (List ℕ × List ℕ)) (texts : List (List ℕ)) : Type 0 where
   pub inputs : List (List ℕ × List ℕ)
   pub named : map (λ (input : List ℕ × List ℕ). input.0) inputs ≡ map (λ (name : Bor (List ℕ)). name.now) names
@@ -41,7 +41,7 @@ pub record AreRead (encoding : Option Encoding) (names : List (Bor (List ℕ))) 
 -- ---- counting. `has` says what a counter has, `kept` which runs were kept, and `ended` which inputs were read to their ends
 
 module _ {C R : Type 0} (has : How → C → List (List (List ℕ × ℕ)) → List (List ℕ) → List ℕ → Type 0) (kept : R → List (List (List ℕ × ℕ)) → Type 0) where
-  -- the counter was fed the text that the decoder makes of a block
+  -- the decoder decoded a block, and the counter was fed the text of the block
   pub record FeedsNext (old new : C) (keeper keeper' : Option R) (decoder : Option Decoder) (block : List ℕ) (decoder' : Option Decoder) : Type 0 where
     pub text : List ℕ
     pub decodes : Decodes decoder block text decoder'
@@ -60,7 +60,7 @@ module _ {C R : Type 0} (has : How → C → List (List (List ℕ × ℕ)) → L
       pub decoded : text_in encoding bytes ≡ Some text
       pub feeds : Feeds has kept old new keeper keeper' text
 
-    -- an input was read to its end, and its text was counted
+    -- an input was read to its end, and its text was counted as one more text, from its beginning to its end
     pub record CountsInput (name : List ℕ) (inputs inputs' : B) (old new : C) (keeper keeper' : Option R) : Type 0 where
       pub bytes : List ℕ
       pub read : ended inputs' ≡ ended inputs ++ (name, bytes) ∷ []

@@ -61,7 +61,7 @@ module _ {R : Type 0} (kept : R → List (List (List ℕ × ℕ)) → Type 0) (f
   -- ---- writing
 
   module _ (choice : Choice) (look : Look) where
-    -- the bytes show the tokens that the kept runs have, wherever the runs were cut
+    -- the bytes show the tokens that the kept runs count together, however the counts are divided among the runs
     abbrev pub ShowsRuns : R → R → List ℕ → Type 0
     ShowsRuns old new bytes =
         FitsOrder look choice.order → faithful new → (runs : List (List (List ℕ × ℕ))) → kept old runs → (tokens : List (List ℕ)) → CountTexts runs tokens

@@ -46,7 +46,7 @@ AddsRun old new =
     (rows later : ℕ → List (List ℕ × ℕ)) → (fed : List (List (List ℕ × ℕ))) → (run : List (List ℕ × ℕ)) → HasKept old rows fed
     → WritesRun old.next_number run rows later → HasKept new later (fed ++ run ∷ [])
 
--- the merge of the texts that were taken is a run, and nothing more was fed
+-- the texts that were taken were merged into one more run, and no rows were added to `fed`
 abbrev pub AddsMerged : KeptRuns → KeptRuns → Type 0
 AddsMerged old new =
     (rows later : ℕ → List (List ℕ × ℕ)) → (fed : List (List (List ℕ × ℕ))) → (run : List (List ℕ × ℕ)) → (taken : List ℕ) → HasKeptWith taken old rows fed

@@ -142,7 +142,7 @@ abbrev pub LengthensText : Merger → Merger → ℕ → List ℕ → Type 0
 LengthensText old new i bytes =
     (given : List (SourceKind × List ℕ)) → (out : List (List ℕ × ℕ)) → HasMerged given old out → (text : SourceKind × List ℕ) → text ≡ slice_index_or given i text → HasMerged (slice_set given i (text.0, text.1 ++ bytes)) new out
 
--- what the new merger returned next follows the rows that were returned before
+-- what the call returned follows the rows that were returned before, as `Follows` says
 abbrev pub FollowsWhatCameOut : Merger → Merged → Merger → Type 0
 FollowsWhatCameOut old next new =
     (given : List (SourceKind × List ℕ)) → (out : List (List ℕ × ℕ)) → HasMerged given old out → Follows given out next new

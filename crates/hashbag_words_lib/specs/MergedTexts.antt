@@ -54,7 +54,7 @@ look_of format Unordered bars = InRows format
 look_of format (MostCommon k) None = InRows format
 look_of format (MostCommon k) (Some width) = WithBars width
 
--- before rows with bars the format has no text
+-- if the rows have bars, the format writes nothing before the first row
 abbrev pub BeginsAs : Look → Format → Type 0
 BeginsAs (InRows rows) format = Unit {0}
 BeginsAs WithShares format = Unit {0}
@@ -73,8 +73,8 @@ abbrev pub IsTopOf : Choice → Option (ShownRows TopRows) → Type 0
 IsTopOf choice None = ShowsAllRows choice.order
 IsTopOf choice (Some top) = (choice.order ≡ MostCommon top.sink.most) × (top.choice ≡ choice) × KeepsTop top.sink []
 
--- `rows` were put. All rows: `taken`, then the part, is their text without its end. Most common only: `top` keeps them, and `taken`, then the
--- part, is the head of the format
+-- `rows` were put. If all are shown, `taken` followed by the part is the text of the shown rows, without the end of the text. If only the most
+-- common are shown, `top` keeps these, and `taken` followed by the part is the head of the format
 abbrev pub HaveCome : Choice → Option (ShownRows TopRows) → RowParts → List (List ℕ × ℕ) → List ℕ → Type 0
 HaveCome choice None parts rows taken = ShowsAllRows choice.order × HasBuilt parts (shown_in choice rows) taken
 HaveCome choice (Some top) parts rows taken =

@@ -34,7 +34,7 @@ pub record Wanted (number : ℕ) (text : MergedText) : Type 0 where
   pub wanted : IsWanted text.merge
   pub is : number ≡ slice_index_or text.merge.numbers.items text.merge.wanted number
 
--- the bytes that were now read of the wanted text were given to the merge
+-- the bytes that were read of the wanted text between `before` and `after` were given to the merge
 abbrev pub GivesRead : ℕ → (ℕ → List ℕ) → MergedText → (ℕ → List ℕ) → MergedText → Type 0
 GivesRead number before old after new =
     Wanted number old → (kind : SourceKind) → (taken : List ℕ) → HasRead kind before old taken → HasRead kind after new taken

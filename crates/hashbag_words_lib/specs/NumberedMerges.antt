@@ -18,7 +18,7 @@ pub record AreOpening (kind : SourceKind) (given : List (SourceKind × List ℕ)
   pub next : (text : SourceKind × List ℕ) → let part = slice_index_or given (length sources) text in Holds part.0 part.1 rows
   pub later : (i : ℕ) → length sources < i → i < length given → (text : SourceKind × List ℕ) → slice_index_or given i text ≡ (kind, [])
 
--- these texts were given so far, and these rows came out: none before the first row of each text is known
+-- these texts were given so far, and the rows `out` were returned. No row is returned until the first row of each text is known
 pub record AreTaken (kind : SourceKind) (numbers : List ℕ) (merger : Merger) (rows : RowSource) (given : List (SourceKind × List ℕ)) (out : List (List ℕ × ℕ)) : Type 0 where
   pub many : length given ≡ length numbers
   pub within : length merger.sources.items ≤ length given

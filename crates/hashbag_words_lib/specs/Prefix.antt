@@ -47,13 +47,13 @@ AreRising from rows = All (HasWord from) rows × IsNonDecreasingBy number_of row
 abbrev pub row_cmp : Bor (String Global) × ℕ → Bor (String Global) × ℕ → Ordering
 row_cmp x y = ordering_then (string_cmp x.0.now y.0.now) (nat_cmp x.1 y.1)
 
--- the rows are the same in another order, and are sorted if their tokens agreed before place `from`
+-- the rows are the same in another order. They are sorted if the first `from` bytes of all their tokens are the same, read as a number
 pub record SortsFrom (from : ℕ) (rows sorted_rows : List (ℕ × (Bor (String Global) × ℕ))) : Type 0 where
   pub permutation : IsPermutation (map bare_row rows) (map bare_row sorted_rows)
   pub sorted : (number : ℕ) → All (Starts from number) rows → IsSorted row_cmp (map bare_row sorted_rows)
 
--- the rows are the same in another order; sorted, if their tokens agreed before place `from` and were in order by the eight bytes from
--- there on
+-- the rows are the same in another order. They are sorted if the first `from` bytes of all their tokens are the same, read as a number, and if the
+-- numbers before the rows are the next eight bytes, in ascending order
 pub record SortsBlocks (from : ℕ) (rows sorted_rows : List (ℕ × (Bor (String Global) × ℕ))) : Type 0 where
   pub permutation : IsPermutation (map bare_row rows) (map bare_row sorted_rows)
   pub sorted : (number : ℕ) → AreRising from rows → All (Starts from number) rows → IsSorted row_cmp (map bare_row sorted_rows)

@@ -93,6 +93,6 @@ resumed token (Some is_marked) rest = option_map (λ more. token ++ more) (unesc
 abbrev pub IsRead : {E : Type 0} → List ℕ → ℕ → Result (String Global × ℕ) E → Type 0
 IsRead token count read = IsOkAnd read (λ p. (string_bytes p.0 ≡ token) × (p.1 ≡ count))
 
--- reading this byte changes the token so far and the flag, but not the whole token (`resumed`), whatever escaped bytes follow
+-- reading this byte changes the token read so far and the flag. The whole token (`resumed`) is unchanged, whatever escaped bytes follow
 abbrev pub ReadsByte : ℕ → List ℕ → Bool → List ℕ → Option Bool → Type 0
 ReadsByte byte old is_marked new marked = (rest : List ℕ) → resumed old (Some is_marked) (byte ∷ rest) ≡ resumed new marked rest

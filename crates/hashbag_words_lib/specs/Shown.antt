@@ -29,8 +29,8 @@ pub record HasShown (choice : Choice) (texts : List (List ℕ)) (rows : List (Li
   pub once : IsDistinct bytes_eq (keys_of rows)
   pub counts : (text : List ℕ) → times_in text rows ≡ shown_count choice text (count bytes_eq text texts)
 
--- these rows are shown, in this order: tokens in ascending order, or as they come; or the first k of them, the most common first, and tokens that are
--- equally common in ascending order
+-- these rows are shown. `Ascending`, `Unordered`: all, with tokens in ascending order or in no particular order. `MostCommon k`: the first k of all,
+-- the most common first, and rows with equal counts in ascending order of tokens
 abbrev pub AreShown : Order → Choice → List (List ℕ) → List (List ℕ × ℕ) → Type 0
 AreShown Ascending choice texts rows = HasShown choice texts rows × Rises rows
 AreShown Unordered choice texts rows = HasShown choice texts rows
@@ -57,7 +57,7 @@ pub record IsShownBars (choice : Choice) (width : ℕ) (texts : List (List ℕ))
 abbrev pub AreBarsOfKept : {S : Type 0} → Choice → ℕ → Bag (String Global) S → List ℕ → Type 0
 AreBarsOfKept choice width bag bytes = (texts : List (List ℕ)) → KeepsShown choice texts bag → IsShownBars choice width texts bytes
 
--- the bytes show these tokens, as `choice` and `look` say. A share is of all of them, shown or not
+-- the bytes show these tokens, as `choice` and `look` say. A share is of the number of all tokens, shown or not
 abbrev pub ShowsTexts : Choice → Look → List (List ℕ) → List ℕ → Type 0
 ShowsTexts choice (InRows format) texts bytes = IsShownText choice format texts bytes
 ShowsTexts choice WithShares texts bytes = IsShownText choice (Shares (length texts)) texts bytes

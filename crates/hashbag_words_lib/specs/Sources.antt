@@ -38,14 +38,14 @@ row_in (Row row) = Some row
 row_in Wants = None
 row_in End = None
 
--- if the rows that were left are known: the next one was taken; or none was, because it isn't known yet, or no row is left
+-- if the rows that were left are known, `next` says what was done. `Row`: the next row was taken. `Wants`: no row was taken. `End`: no row was left
 abbrev pub Gives : Option (List (List ℕ × ℕ)) → Next → Option (List (List ℕ × ℕ)) → Type 0
 Gives None next new = Unit {0}
 Gives (Some rows) (Row row) new = (rest : List (List ℕ × ℕ)) × (rows ≡ row_of row ∷ rest) × (new ≡ Some rest)
 Gives (Some rows) Wants new = new ≡ Some rows
 Gives (Some rows) End new = (rows ≡ []) × (new ≡ Some [])
 
--- one line gave what comes next, as `Gives` says; or it was skipped, which is only possible if the rows left aren't known (`None`)
+-- `Some next`: one line gave `next`, as `Gives` says. `None`: the line was skipped; this happens only if the rows that were left aren't known
 abbrev pub Meets : Option (List (List ℕ × ℕ)) → Option Next → Option (List (List ℕ × ℕ)) → Type 0
 Meets old None new = IsSome old → ⊥
 Meets old (Some next) new = Gives old next new

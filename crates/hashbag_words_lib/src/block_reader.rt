@@ -1,4 +1,4 @@
-//! A reader of inputs, block by block. For contracts it has what was read.
+//! A reader of inputs, block by block. For contracts alone it also keeps what was read.
 ghost use Rattle.std.specs.Prelude.{◌≡◌, [], take, Some, OnOk};
 ghost use Rattle.std.specs.Io.{ReadsAtMost};
 ghost use Rattle.hashbag_words_lib.specs.BlockReaders.{begun_in, ended_in, last_in, ReadsNext};
@@ -90,7 +90,7 @@ impl<'a, F: Read + Drop> BlockReader<'a, F> {
     ///
     /// The system's error.
     pub fn read(&mut self) -> io::Result<()>
-        // The block is appended to what was read of the open input, if one is open. An empty block appends this input to those read to their ends.
+        // The block is appended to what was read of the open input, if one is open. If the block is empty, the input was read to its end.
         ensures { OnOk result (ReadsNext self.old self.new) }
     {
         let Some(mut open) = self.open.take() else {

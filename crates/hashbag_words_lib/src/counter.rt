@@ -4,7 +4,7 @@
 //! the clauses:
 //!
 //! - `text` is what was fed of this text so far;
-//! - `before` are the tokens of earlier texts, after the tokens that the bag had at first;
+//! - `before` has the tokens that the bag had at first, and then the tokens of earlier texts;
 //! - `runs` are the runs that were written;
 //! - `HasCounted`: the bag and `runs` together have the tokens of `before`, and of the lines of `text` that have ended.
 ghost use Rattle.std.specs.Prelude.{◌≡◌, [], ◌∷◌, ◌++◌, IfOk, OnOk};
@@ -106,8 +106,8 @@ impl<'r, S: BuildHasher + Drop> TextCounter<'r, S> {
         &self.bag
     }
 
-    /// Returns how many lines of the text have ended, were skipped and were replaced. After an `InputFault` the line that failed is
-    /// included.
+    /// Returns how many lines of the text have ended, how many bad lines were skipped, and in how many lines bytes were replaced. After an
+    /// `InputFault` the line that failed is included.
     pub fn reading(&self) -> LinesRead
         ensures { result ≡ self.now.reading }
     {

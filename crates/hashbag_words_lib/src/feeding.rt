@@ -73,7 +73,7 @@ pub trait Counter {
 
     /// Empties the bag, since a run of it was kept.
     fn end_run(&mut self)
-        // If `rows` are a run of the old bag: with these as one more run, the bag and the runs have together what they had before.
+        // If `rows` are a run of the old bag: the new bag, the runs and one more run of these rows have what the old bag and the runs had.
         ensures { (rows : List (List ℕ × ℕ)) → is_run self.old rows → KeepsRun has self.old self.new rows };
 }
 

@@ -2,7 +2,7 @@
 use hashbag::HashBag;
 use std::hash::BuildHasher;
 
-// The bytes of a slot: a text's place and length, its count, and a tag.
+// The bytes of a slot: the address, the length and the capacity of a text, its count, and a tag.
 const SLOT: usize = 33;
 
 // The bytes of a token without its text: what the allocator adds, and its place in a sorted list.
@@ -24,7 +24,7 @@ pub struct Gauge {
     lines: usize,
 }
 
-// Returns how many bytes a bag takes whose texts have `texts` bytes. If the bag has little room, returns how many it takes while it grows next.
+// Returns how many bytes a bag takes whose texts have `texts` bytes. If the bag has little room, returns how many it takes during its next growth.
 fn bytes_taken<S: BuildHasher + Drop>(bag: &HashBag<String, S>, texts: usize) -> usize {
     let slots = bag.slots().saturating_add(bag.waiting());
     let next = if bag.room() < LITTLE_ROOM {

@@ -39,7 +39,7 @@ pub trait Blocks<'a> {
     ///
     /// Why it can't be read.
     fn read(&mut self) -> Result<(), Trouble<'a>>
-        // The block is appended to what was read of the open input, if one is open. An empty block appends this input to `ended`.
+        // The block is appended to what was read of the open input, if one is open. If the block is empty, this input is appended to `ended`.
         ensures { OnOk result (ReadsNextBlock ended begun last self.old self.new) };
 
     /// The block that was read last.

@@ -177,7 +177,7 @@ impl KeptRuns {
 
     /// Takes all runs, or all files if there is no run. Call it once [`KeptRuns::take_files`] has returned `None`.
     pub fn take_all<'e>(&mut self, layout: RowLayout<'e>) -> Result<MergedText<'e>, AllocError>
-        // If there are no files or no runs, the texts that were taken count what `fed` counts: with those left (`taken`), and by themselves (`all`).
+        // If there are no files or no runs: the texts that were taken count what `fed` counts, with the texts left (`taken`) and alone (`all`).
         ensures taken { IfOk result (λ text. IsOneKind self.old → DividesRows text.merge.numbers.items self.old self.new) }
         ensures all { IfOk result (λ text. IsOneKind self.old → MergesAll text.merge.numbers.items self.old) }
 

@@ -9,7 +9,7 @@ use std::alloc::{AllocError, Global};
 /// How many runs, or files, are merged at once.
 pub const FAN: usize = 16;
 
-/// Runs that are kept, each with its level. The levels are in descending order, and fewer than `FAN` runs are of one level.
+/// Runs that are kept, each with its level. If full levels are merged, the levels are in descending order, with at most `FAN` runs of a level.
 #[derive(Drop)]
 pub struct Levels<R> {
     runs: Vec<R>,

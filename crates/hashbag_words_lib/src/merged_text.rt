@@ -255,7 +255,7 @@ impl<'e> MergedText<'e> {
         // What was given and what was taken are unchanged.
         ensures given { KeepsGivenAndTaken self.old self.new }
 
-        // The wanted text has ended: one that is merged (`merged`), or the one whose first row isn't known (`opening`).
+        // The wanted text has ended. It is one of the texts that are merged already (`merged`), or the one whose first row isn't known (`opening`).
         ensures merged { EndsWanted self.old.merge self.new.merge }
         ensures opening { EndsOpening self.old.merge self.new.merge }
         ensures numbers { self.new.merge.numbers ≡ self.old.merge.numbers }

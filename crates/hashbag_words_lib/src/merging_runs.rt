@@ -1,7 +1,7 @@
 //! Merges files of counts and runs, sixteen at a time into one run, and at last all that are left into one text.
 //!
-//! The files are in any [`NumberedTexts`]. In the clauses `rows n` are the rows of text n, as they were read; of a run also as they were written
-//! (`AgreesWith`).
+//! The files are in any [`NumberedTexts`]. In the clauses `rows n` are the rows that were read from text n. If text n is a run that was written,
+//! they are also the rows that were written (`AgreesWith`).
 ghost use Rattle.std.specs.Prelude.{◌≡◌, ◌↔◌, [], ℕ, length, true, IfOk, OnOk};
 ghost use Rattle.hashbag_words_lib.specs.Feeding.{HasNothing, KeepsRows};
 ghost use Rattle.hashbag_words_lib.specs.Jobs.{ShowsKeptRuns};
@@ -222,7 +222,7 @@ impl<'a, T: NumberedTexts<'a> + Drop> MergingRuns<T> {
 
     // Merges the files of counts into runs, if there are more than sixteen.
     fn merge_files(&mut self) -> Result<(), Trouble<'a>>
-        // Together, the texts count the same tokens as before. There are files or runs, and not both.
+        // Together, the texts count the same tokens as before. There are no files, or no runs.
         ensures merges { OnOk result (Merges T.bytes_read self.old self.new) }
         ensures one_kind { OnOk result (IsOneKind self.new.kept) }
     {
@@ -317,8 +317,8 @@ impl<'a, T: NumberedTexts<'a> + Drop> MergingRuns<T> {
         // (bars only with `MostCommon`), the tokens that the texts count together by `rows`. Nothing more is read of texts that were merged before.
         ensures tokens { IfOk result (λ shown. ShowsTokens T.bytes_read choice.entry look self.old self.new (bytes_in shown)) }
 
-        // If each temporary file is read as it was written (`IsFaithful`), the text shows the tokens that the runs given to `keep` count. It is the
-        // clause of `KeepsRuns::show`.
+        // If each temporary file is read as it was written (`IsFaithful`), the text shows the tokens that the runs given to `keep` count. This is
+        // the clause of `KeepsRuns::show`.
         ensures runs { IfOk result (λ shown. ShowsKeptRuns T.bytes_read choice.entry look self.old self.new (bytes_in shown)) }
     {
         self.merge_files()?;

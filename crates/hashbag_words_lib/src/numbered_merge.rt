@@ -170,7 +170,7 @@ impl NumberedMerge {
         // What was given and the rows that were returned are unchanged.
         ensures given { IsWanted self.old → KeepsTaken self.old self.new }
 
-        // The wanted text has ended: one that is merged (`merged`), or the one whose first row isn't known (`opening`).
+        // The wanted text has ended. It is one of the texts that are merged already (`merged`), or the one whose first row isn't known (`opening`).
         ensures merged { EndsWanted self.old self.new }
         ensures opening { EndsOpening self.old self.new }
         ensures same { self.new.numbers ≡ self.old.numbers }

@@ -7,7 +7,7 @@ use std::marker::Model;
 use std::mem;
 use std::snapshot::Snapshot;
 
-// A read of the text `number`, which gave the first `n` bytes of `block`, and the reads before it. Without a block it is no read.
+// A read of the text `number`, after the reads `before`. It gave the first `n` bytes of `block`. If `block` is `None`, there was no read.
 #[derive(Drop)]
 struct OneRead {
     before: Option<Snapshot<OneRead>>,
@@ -61,7 +61,7 @@ impl Reads {
         });
     }
 
-    /// Adds a read of the text of that number, which gave the first `n` bytes of the block: 0 at its end.
+    /// Adds a read of the text of that number, which gave the first `n` bytes of the block. At the end of the text `n` is 0.
     pub fn add(&mut self, number: usize, block: &Vec<u8>, n: usize)
         // The first n bytes of the block are appended to what was read of text `number`. Nothing was read of other texts.
         ensures bytes { ReadsText (bytes_of_text self.old) (bytes_of_text self.new) number (take n block.now.items) }

@@ -4,7 +4,7 @@
 //! the clauses:
 //!
 //! - `text` is what was fed of this file so far;
-//! - `before` are the rows of earlier files, after rows with the counts that the bag had at first;
+//! - `before` has rows with the counts that the bag had at first, and then the rows of earlier files;
 //! - `runs` are the runs that were written;
 //! - `HasAdded`: the bag and `runs` together have the rows of `before`, and of the lines of `text` that have ended.
 ghost use Rattle.std.specs.Prelude.{◌≡◌, ℕ, ◌+◌, ◌-◌, ◌^◌, ◌∷◌, ◌++◌, [], List, min, IfOk, OnErr, OnOk};

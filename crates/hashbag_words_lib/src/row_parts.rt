@@ -44,7 +44,7 @@ impl RowParts {
     ///
     /// An allocation fails. Then the part may have some of the row.
     pub fn push(&mut self, token: &str, count: usize) -> io::Result<()>
-        // If the parts that were taken, and then the part, were the text of some rows without its end, they are now that of these rows and this one.
+        // If the parts that were taken, followed by the part, were the text of some rows without its end, they are now the text with this row.
         ensures built { OnOk result (BuildsRow self.old self.new (token.now, count)) }
         ensures format { self.new.format ≡ self.old.format }
     {

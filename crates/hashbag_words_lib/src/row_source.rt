@@ -195,13 +195,13 @@ impl RowSource {
         }
     }
 
-    /// Takes and returns the next row. `End` is returned only after the last byte, in each form, and also if bad lines are skipped.
+    /// Takes and returns the next row. `End` is returned only after the last byte, in each form, whether bad lines are skipped or not.
     ///
     /// # Errors
     ///
     /// A line is bad, or has no line feed, and bad lines aren't skipped; or an allocation fails.
     pub fn next_row(&mut self) -> Result<Next, InputFault>
-        // If the rows that are left are known: the next one was taken; or none was, because it isn't known yet or no row is left.
+        // If the rows that were left are known: with `Row` the next row was taken, with `Wants` no row was taken, and with `End` no row was left.
         ensures gives { IfOk result (λ next. GivesWhateverComes self.old next self.new) }
         ensures ended { self.new.is_ended ≡ self.old.is_ended }
 
@@ -219,7 +219,7 @@ impl RowSource {
     }
 
     // Skips the row that was taken last, which is bad, if bad lines are skipped; else returns an error. If `left_with` is `Some` (form
-    // `tsv`, bad lines rejected), it always returns the error.
+    // `tsv`, bad lines rejected), the call always returns an error.
     pub(crate) fn pass_over(&mut self, bad: BadLine) -> Result<(), InputFault>
         ensures known { (more : List ℕ) → IsSome (left_with self.old more) → IsErr result }
         ensures ended { self.new.is_ended ≡ self.old.is_ended }

@@ -36,7 +36,7 @@ fn next_above(rows: &mut RowSource, last: &str) -> Result<Next, InputFault>
 #[derive(Drop)]
 pub struct Source {
     pub(crate) rows: RowSource,
-    // `None` after the last one.
+    // The next row, or `None` after the last row.
     pub(crate) head: Option<Head>,
 }
 
@@ -84,7 +84,7 @@ impl Source {
     ///
     /// # Errors
     ///
-    /// The fault of the row after it. `BadLine::NotInOrder` if the token of the row after it isn't greater than the token of the next row.
+    /// The fault of the row after the next row. `BadLine::NotInOrder` if its token isn't greater than the token of the next row.
     pub(crate) fn take(&mut self) -> Result<Next, InputFault>
         // The row that came next was taken, if the one after it is known; or none was left.
         ensures same { IfOk result (λ next. IfSome (row_in next) (λ row. self.old.head ≡ Some row)) }

@@ -58,7 +58,7 @@ pub fn is_of_database<'a>(rt: &HostRuntime, db: &str, name: &str) -> Result<bool
     Ok(false)
 }
 
-// Opens a file, and tries again for some seconds while another process has it open.
+// Opens a file, and tries again for `wait` seconds while another process has it open.
 fn open_at<'a>(rt: &HostRuntime, db: &'a str, wait: usize) -> Result<Db, Trouble<'a>> {
     let tries = wait.saturating_mul(TRIES);
     for i in 0..u64::MAX {

@@ -20,7 +20,7 @@ const MANY: usize = 200_000;
 // Puts the cursor of a terminal at the beginning of its line, and erases the line.
 const ERASE: &str = "\r\x1b[K";
 
-/// The stages of a subcommand. On a terminal each takes the place of the one before. If the work is short, none is shown.
+/// The stages of a subcommand. A terminal shows one stage at a time, and none if the work is short.
 #[derive(Drop)]
 pub struct HostStages<'s> {
     rt: &'s HostRuntime,

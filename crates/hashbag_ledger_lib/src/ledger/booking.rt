@@ -109,7 +109,7 @@ pub fn book_batch<S: BuildHasher + Drop>(
     // The balance is what `batch` leaves of `kept`, and the entries say what became of each movement.
     ensures booked { IfOk result (λ b. HasBooked (2 ^ 63 - 1) kept.items batch.items b) }
 
-    // For any movements that left the balance `kept`: with `batch` after them, as one batch, they leave this balance, and their refusals come before these.
+    // Let earlier movements have left `kept`. As one batch, they and `batch` leave this balance; the earlier refusals come first, then the new ones.
     ensures continues { IfOk result (λ b. ContinuesFrom kept.items batch.items b) }
     ensures too_many { (result ≡ Err LedgerError.StartTooMany) ↔ (2 ^ 63 - 1 < number_sum kept.items) }
 
