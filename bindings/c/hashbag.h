@@ -123,31 +123,30 @@ bool hashbag_equal(hashbag *a, hashbag *b);
 
 /* ---- two bags of one kind */
 
-/* Adds all occurrences of the bag of `from` to that of `into`, and returns 0: each count is then the sum of both. The
- * bag of `from` stays. `into` and `from` must be different handles.
+/* Adds all occurrences of the bag of `from` to the bag of `into`, and returns 0: each count is then the sum of both
+ * counts. The bag of `from` is unchanged. `into` and `from` must be different handles.
  *
  * Errors:
  * `HASHBAG_TOO_MANY` if the total would pass the limit of `into`; `HASHBAG_MEMORY` if an allocation fails;
  * `HASHBAG_EMPTY` if a handle is empty; `HASHBAG_KIND` if the bags are of different kinds. Nothing changes then. */
 uint8_t hashbag_merge(hashbag *into, hashbag *from);
 
-/* Keeps of each value as many as both bags have, the lesser of both counts, and returns 0. It changes the bag of
- * `handle`, doesn't allocate, and that of `other` stays. `handle` and `other` must be different handles.
+/* Lowers each count in the bag of `handle` to the lesser of the counts in both bags, and returns 0. The call doesn't
+ * allocate, and the bag of `other` is unchanged. `handle` and `other` must be different handles.
  *
  * Errors:
  * `HASHBAG_EMPTY` if a handle is empty; `HASHBAG_KIND` if the bags are of different kinds. Nothing changes then. */
 uint8_t hashbag_keep_common(hashbag *handle, hashbag *other);
 
-/* Removes from the bag of `handle` what that of `other` has, of each value as many as there are there, or all if there
- * are fewer, and returns 0. It doesn't allocate, and the bag of `other` stays. `handle` and `other` must be different
- * handles.
+/* Subtracts each count in the bag of `other` from the count in the bag of `handle`, never below 0, and returns 0. The
+ * call doesn't allocate, and the bag of `other` is unchanged. `handle` and `other` must be different handles.
  *
  * Errors:
  * `HASHBAG_EMPTY` if a handle is empty; `HASHBAG_KIND` if the bags are of different kinds. Nothing changes then. */
 uint8_t hashbag_take_away(hashbag *handle, hashbag *other);
 
 /* Raises each count in the bag of `into` to the greater of the counts in both bags, and returns 0. The bag of `from`
- * stays. `into` and `from` must be different handles. It copies the bag of `from` while it runs.
+ * is unchanged. `into` and `from` must be different handles. The call makes a copy of the bag of `from`, and frees it.
  *
  * Errors:
  * `HASHBAG_MEMORY` if an allocation fails; `HASHBAG_TOO_MANY` if the total of the greater counts would pass the limit
@@ -225,9 +224,9 @@ uint8_t hashbag_numbers_retain(hashbag *handle, const uint64_t *values, size_t v
 size_t hashbag_numbers_read(hashbag *handle, uint64_t *values, size_t values_len, size_t *counts, size_t counts_len);
 
 /* Writes each number of two bags once, with its count in the first and in the second bag, 0 in a bag that lacks it.
- * The numbers of the first bag come first. Returns how many were written: as many as the three arrays have places for;
- * all, if these are as many as both bags together have distinct numbers; 0 if a handle has no bag of numbers. `a` and
- * `b` must be different handles. */
+ * The numbers of the first bag come first. Returns how many were written: as many as the shortest array has places
+ * for; 0 if a handle has no bag of numbers. All are written if each array has as many places as both bags together
+ * have distinct numbers. `a` and `b` must be different handles. */
 size_t hashbag_numbers_outer_join(hashbag *a, hashbag *b, uint64_t *values, size_t values_len, size_t *firsts,
                                   size_t firsts_len, size_t *seconds, size_t seconds_len);
 
@@ -242,16 +241,16 @@ size_t hashbag_numbers_difference(hashbag *a, hashbag *b, uint64_t *values, size
 
 /* Writes each number of the first bag that the second lacks, with its count: as many as both arrays have places for,
  * in no particular order. Returns how many. All are written if both arrays have as many places as the first bag has
- * distinct numbers. They must be two handles, not one twice. It returns 0 if one of them has no bag of numbers. It
+ * distinct numbers. `a` and `b` must be different handles. It returns 0 if one of them has no bag of numbers. It
  * doesn't allocate. */
 size_t hashbag_numbers_not_in(hashbag *a, hashbag *b, uint64_t *values, size_t values_len, size_t *counts,
                               size_t counts_len);
 
-/* Writes each number of two bags once, with its count in the first less its count in the second: those of the first
- * bag first. A difference above `PTRDIFF_MAX` or below `PTRDIFF_MIN` is written as that bound. It writes as many as
- * both arrays have places for, and returns how many. All are written if both arrays have as many places as both bags
- * together have distinct numbers. They must be two handles, not one twice. It returns 0 if one of them has no bag of
- * numbers. It doesn't allocate. */
+/* Writes each number of two bags once, with its count in the first less its count in the second. The numbers of the
+ * first bag come first. A difference above `PTRDIFF_MAX` or below `PTRDIFF_MIN` is written as that bound. It writes as
+ * many as both arrays have places for, and returns how many. All are written if both arrays have as many places as
+ * both bags together have distinct numbers. `a` and `b` must be different handles. It returns 0 if one of them has no
+ * bag of numbers. It doesn't allocate. */
 size_t hashbag_numbers_signed_difference(hashbag *a, hashbag *b, uint64_t *values, size_t values_len,
                                          ptrdiff_t *differences, size_t differences_len);
 
@@ -283,7 +282,7 @@ uint8_t hashbag_numbers_most_common(hashbag *handle, uint64_t *values, size_t va
 /* Writes a bag of numbers as a JSON text at the beginning of `bytes`, writes the length of the text into `len`, and
  * returns 0. No NUL follows. The text is `[[5,2],[7,1]]`: each distinct number with its count, numbers in ascending
  * order, without spaces. A bag with a limit below `SIZE_MAX` is `{"limit":9,"pairs":[[5,2],[7,1]]}`. Bags with the
- * same counts and the same limit have the same text. It makes the whole text in memory of its own first.
+ * same counts and the same limit have the same text. The whole text is first built in memory that the call allocates.
  *
  * Errors:
  * `HASHBAG_SHORT` if the text is longer than `bytes`: `len` is its length then, and nothing else is written.
@@ -291,10 +290,10 @@ uint8_t hashbag_numbers_most_common(hashbag *handle, uint64_t *values, size_t va
  * unchanged in any case. */
 uint8_t hashbag_numbers_to_json(hashbag *handle, uint8_t *bytes, size_t bytes_len, size_t *len);
 
-/* Puts into the handle the bag of numbers that a JSON text is, and returns 0. The bag that the handle had is freed.
- * Its limit is that of the text or `most`, whichever is less. The text has one of the forms that
- * `hashbag_numbers_to_json` writes; spaces may be between its tokens. Equal numbers add up, and a pair with the count
- * 0 is checked and adds nothing.
+/* Reads a bag of numbers from a JSON text, puts it into the handle, and returns 0. The bag that the handle had is
+ * freed. The limit of the new bag is the limit in the text or `most`, whichever is less. The text has one of the forms
+ * that `hashbag_numbers_to_json` writes; spaces may be between its tokens. Equal numbers add up, and a pair with the
+ * count 0 is checked and adds nothing.
  *
  * Its numbers are hashed under fixed keys, alike in every run. Use `hashbag_numbers_from_json_keyed` if strangers
  * wrote the text.
@@ -306,21 +305,21 @@ uint8_t hashbag_numbers_to_json(hashbag *handle, uint8_t *bytes, size_t bytes_le
  * two cases above. */
 uint8_t hashbag_numbers_from_json(hashbag *handle, size_t most, const uint8_t *text, size_t text_len, size_t *at);
 
-/* Puts into the handle the bag that a JSON text is, as `hashbag_numbers_from_json` does, with two keys of the caller.
- * Draw the keys at random: whoever knows them can find numbers that collide.
+/* Reads a bag from a JSON text into the handle, as `hashbag_numbers_from_json` does, with two keys of the caller. Draw
+ * the keys at random: whoever knows them can find numbers that collide.
  *
  * Errors:
- * Those of `hashbag_numbers_from_json`. */
+ * Same as `hashbag_numbers_from_json`. */
 uint8_t hashbag_numbers_from_json_keyed(hashbag *handle, size_t most, uint64_t key0, uint64_t key1,
                                         const uint8_t *text, size_t text_len, size_t *at);
 
 /* ---- bags of byte strings */
 
-/* Puts into the handle an empty bag of byte strings, whose total is at most `most`, and returns 0. The bag that the
- * handle had is freed.
+/* Puts an empty bag of byte strings with the limit `most` into the handle, and returns 0. The bag that the handle had
+ * is freed.
  *
- * Its byte strings are hashed by SipHash under fixed keys, alike in every run. Use `hashbag_texts_new_keyed` if
- * strangers choose them.
+ * The byte strings are hashed by SipHash under fixed keys, the same in every run. Use `hashbag_texts_new_keyed` if
+ * strangers choose the strings.
  *
  * Errors:
  * `HASHBAG_MEMORY` if an allocation fails. Nothing changes then. */
@@ -362,8 +361,8 @@ uint8_t hashbag_texts_set_count(hashbag *handle, const uint8_t *value, size_t va
 
 /* ---- bags of byte strings, many at once */
 
-/* Inserts byte strings that lie one after another in `bytes`, each once, in turn, until one fails. The first is
- * `bytes[0..ends[0]]`, and that of i is `bytes[ends[i - 1]..ends[i]]`. Writes how many were inserted, and returns 0 if
+/* Inserts byte strings that lie one after another in `bytes`, each once, in turn, until one fails. String 0 is
+ * `bytes[0..ends[0]]`, and string i is `bytes[ends[i - 1]..ends[i]]`. Writes how many were inserted, and returns 0 if
  * that is all.
  *
  * Errors:
@@ -382,10 +381,10 @@ uint8_t hashbag_texts_insert_all(hashbag *handle, const uint8_t *bytes, size_t b
 uint8_t hashbag_texts_insert_split(hashbag *handle, const uint8_t *bytes, size_t bytes_len, uint8_t separator,
                                    size_t *done);
 
-/* Keeps of each byte string at most as many as a list says, and returns 0. The strings lie one after another in
- * `bytes`, as `hashbag_texts_insert_all` has it; `most[i]` is the greatest count for the one that ends at `ends[i]`.
- * Of a string that is listed twice the first place counts. A string that isn't listed is removed. If `ends` and `most`
- * differ in length, the rest of the longer one is ignored.
+/* Keeps at most `most[i]` occurrences of each listed string i, and returns 0. The strings lie one after another in
+ * `bytes`, as those of `hashbag_texts_insert_all`: string i ends at `ends[i]`. If a string is listed twice, its first
+ * place counts. A string that isn't listed is removed. If `ends` and `most` differ in length, the rest of the longer
+ * one is ignored.
  *
  * Errors:
  * `HASHBAG_ENDS` if an end is below the one before it, or above `bytes_len`; `HASHBAG_MEMORY` if an allocation fails,
@@ -393,14 +392,14 @@ uint8_t hashbag_texts_insert_split(hashbag *handle, const uint8_t *bytes, size_t
 uint8_t hashbag_texts_retain(hashbag *handle, const uint8_t *bytes, size_t bytes_len, const size_t *ends,
                              size_t ends_len, const size_t *most, size_t most_len);
 
-/* Returns how many bytes the distinct byte strings have in all, which `hashbag_texts_read` needs places for. It is 0
+/* Returns how many bytes the distinct byte strings have in all: `hashbag_texts_read` needs as many places. Returns 0
  * if the handle has no bag of byte strings. */
 size_t hashbag_texts_bytes(hashbag *handle);
 
-/* Writes distinct byte strings into `bytes`, one after another, the place where each ends into `ends`, and its count
- * into `counts`. Returns how many. It stops before the first string for which there is no place. All are written, in
- * no particular order, if `ends` and `counts` have `hashbag_set_len` places and `bytes` has `hashbag_texts_bytes`. It
- * returns 0 if the handle has no bag of byte strings. */
+/* Writes distinct byte strings one after another into `bytes`, the place where each string ends into `ends`, and its
+ * count into `counts`. Returns how many strings were written. It stops before the first string for which there is no
+ * place. All are written, in no particular order, if `ends` and `counts` have `hashbag_set_len` places and `bytes` has
+ * `hashbag_texts_bytes`. It returns 0 if the handle has no bag of byte strings. */
 size_t hashbag_texts_read(hashbag *handle, uint8_t *bytes, size_t bytes_len, size_t *ends, size_t ends_len,
                           size_t *counts, size_t counts_len);
 
@@ -432,11 +431,11 @@ size_t hashbag_texts_not_in(hashbag *a, hashbag *b, uint8_t *bytes, size_t bytes
                             size_t *counts, size_t counts_len);
 
 /* Writes the byte strings of two bags, each once, as `hashbag_texts_read` does, with its count in the first less its
- * count in the second: those of the first bag first. A difference above `PTRDIFF_MAX` or below `PTRDIFF_MIN` is
- * written as that bound. It writes as many as there are places for, and returns how many. All are written if `ends`
- * and `differences` have as many places as both bags together have distinct strings, and `bytes` as many as these
- * strings have bytes. `a` and `b` must be different handles. It returns 0 if one of them has no bag of byte strings.
- * It doesn't allocate. */
+ * count in the second. The strings of the first bag come first. A difference above `PTRDIFF_MAX` or below
+ * `PTRDIFF_MIN` is written as that bound. It writes as many as there are places for, and returns how many. All are
+ * written if `ends` and `differences` have as many places as both bags together have distinct strings, and `bytes` as
+ * many as these strings have bytes. `a` and `b` must be different handles. It returns 0 if one of them has no bag of
+ * byte strings. It doesn't allocate. */
 size_t hashbag_texts_signed_difference(hashbag *a, hashbag *b, uint8_t *bytes, size_t bytes_len, size_t *ends,
                                        size_t ends_len, ptrdiff_t *differences, size_t differences_len);
 
@@ -471,7 +470,7 @@ uint8_t hashbag_texts_most_common(hashbag *handle, uint8_t *bytes, size_t bytes_
  * and returns 0. No NUL follows. The text is `[["cat",2],["dog",1]]`: each distinct string with its count, strings in
  * ascending order by their bytes, without spaces. A string that isn't UTF-8 is an array of its bytes, as `[255,0]`. A
  * bag with a limit below `SIZE_MAX` is `{"limit":9,"pairs":[["cat",2],["dog",1]]}`. Bags with the same counts and the
- * same limit have the same text. It makes the whole text in memory of its own first.
+ * same limit have the same text. The whole text is first built in memory that the call allocates.
  *
  * Errors:
  * `HASHBAG_SHORT` if the text is longer than `bytes`: `len` is its length then, and nothing else is written.
@@ -479,10 +478,10 @@ uint8_t hashbag_texts_most_common(hashbag *handle, uint8_t *bytes, size_t bytes_
  * unchanged in any case. */
 uint8_t hashbag_texts_to_json(hashbag *handle, uint8_t *bytes, size_t bytes_len, size_t *len);
 
-/* Puts into the handle the bag of byte strings that a JSON text is, and returns 0. The bag that the handle had is
- * freed. Its limit is that of the text or `most`, whichever is less. The text has one of the forms that
- * `hashbag_texts_to_json` writes. Spaces may be between its tokens, and a string may be an array of its bytes even if
- * they are UTF-8. Equal strings add up, and a pair with the count 0 is checked and adds nothing.
+/* Reads a bag of byte strings from a JSON text, puts it into the handle, and returns 0. The bag that the handle had is
+ * freed. The limit of the new bag is the limit in the text or `most`, whichever is less. The text has one of the forms
+ * that `hashbag_texts_to_json` writes. Spaces may be between its tokens, and a string may be an array of its bytes
+ * even if they are UTF-8. Equal strings add up, and a pair with the count 0 is checked and adds nothing.
  *
  * Its strings are hashed by SipHash under fixed keys, alike in every run. Use `hashbag_texts_from_json_keyed` if
  * strangers wrote the text.
@@ -494,11 +493,11 @@ uint8_t hashbag_texts_to_json(hashbag *handle, uint8_t *bytes, size_t bytes_len,
  * two cases above. */
 uint8_t hashbag_texts_from_json(hashbag *handle, size_t most, const uint8_t *text, size_t text_len, size_t *at);
 
-/* Puts into the handle the bag that a JSON text is, as `hashbag_texts_from_json` does, with two keys of SipHash. The
+/* Reads a bag from a JSON text into the handle, as `hashbag_texts_from_json` does, with two keys of SipHash. The
  * caller draws them at random: then nobody can choose byte strings that collide.
  *
  * Errors:
- * Those of `hashbag_texts_from_json`. */
+ * Same as `hashbag_texts_from_json`. */
 uint8_t hashbag_texts_from_json_keyed(hashbag *handle, size_t most, uint64_t key0, uint64_t key1,
                                       const uint8_t *text, size_t text_len, size_t *at);
 

@@ -247,9 +247,9 @@ ends 1 "" cased.csv lower.csv --key Sku --trim --only surplus --to csv -q
 has ../out 'Sku,ordered,delivered,missing,surplus\nstrasse,0,3,0,3\n\317\203\316\243,0,1,0,1\n' "trimmed fields that aren't folded"
 ends 2 'hashbag_match: cased.csv:1: no column `sku`; there are: `Sku`, `number`; is it `Sku`?' cased.csv lower.csv --key sku --fold
 # The nearest name is named, and not the first that is near
-printf 'Preis1,Preis2,number\n' > prices.csv
-ends 2 'hashbag_match: prices.csv:1: no column `Pries2`; there are: `Preis1`, `Preis2`, `number`; is it `Preis2`?' prices.csv prices.csv --key Pries2
-rm prices.csv
+printf 'Preis1,Preis2,number\n' > preise.csv
+ends 2 'hashbag_match: preise.csv:1: no column `Pries2`; there are: `Preis1`, `Preis2`, `number`; is it `Preis2`?' preise.csv preise.csv --key Pries2
+rm preise.csv
 
 # Outputs: whole or not at all, and no input
 printf 'old\n' > kept

@@ -1,4 +1,4 @@
--- A handle that has something, of a bag or of a walk, and the words of its box, own what a box at the same types owns.
+-- The boxes that the handle of a bag and that of a walk have.
 use mir.Syntax.{impl, tnil, dnil}
 use mathlib.Core.List.{[]}
 use denote.Param.Laws.{Laws}
@@ -13,30 +13,17 @@ use Rattle.hashbag_c.proofs.held.Held.TheLaws as held
 use Rattle.hashbag_c.specs.contracts.held.Left as Left
 use Rattle.hashbag_c.proofs.held.Left.TheLaws as left
 use Rattle.hashbag_c.specs.contracts.raw_box.RawBox as RawBox
-use Rattle.hashbag_c.specs.contracts.handle.Handle as Handle
-use Rattle.hashbag_c.specs.contracts.walk.Walk as Walk
+use Rattle.hashbag_c.proofs.RawBoxWords.{box_of}
 
 abbrev box : (Y : RattleType) → Laws Y → Bx
-box Y L = record { row = Y; laws = L; al = record { row = Heap.the_row; laws = heap.the_row_laws; g = ghosts; d = dict; drops = impl [] tnil dnil } }
-
-abbrev words : RattleType → Slot 0
-words Y = plain (λ _. RawBox.the_row Y Heap.the_row ghosts)
+box Y L = box_of Y Heap.the_row L heap.the_row_laws ghosts dict (impl [] tnil dnil)
 
 abbrev pub E : Bx
 E = box Held.the_row held.the_row_laws
 
-abbrev pub FromRaw : Slot 0
-FromRaw = words Held.the_row
-
-abbrev pub FromHandle : Slot 0
-FromHandle = plain (λ _. Handle.the_row)
-
--- of a walk
 abbrev pub LeftE : Bx
 LeftE = box Left.the_row left.the_row_laws
 
-abbrev pub FromLeftRaw : Slot 0
-FromLeftRaw = words Left.the_row
-
-abbrev pub FromWalk : Slot 0
-FromWalk = plain (λ _. Walk.the_row)
+-- the two words of a box, as the argument of a function
+abbrev pub words : RattleType → Slot 0
+words Y = plain (λ _. RawBox.the_row Y Heap.the_row ghosts)

@@ -1,8 +1,9 @@
 -- Two lists with the same elements at the same places, and what a look at a place gives.
-use Rattle.std.proofs.Common.{◌≡◌, ℕ, ◌<◌, ◌≤◌, suc, List, [], ◌∷◌, length, map, Option, Some, None, IsNone, slice_get, Bor, inl, inr, refl, sym, ◌∙◌, ap, arith, ◌≢◌}
+use Rattle.std.proofs.Common.{◌≡◌, ℕ, ◌<◌, ◌≤◌, ◌+◌, ◌++◌, suc, List, [], ◌∷◌, length, map, Option, Some, None, IsNone, slice_get, Bor, inl, inr, refl, sym, ◌∙◌, ap, arith, ◌≢◌}
 use Rattle.std.proofs.lemmas.Bool.{cases_lt}
 use Rattle.std.specs.Option.{option_copied, option_map}
 use Rattle.std.specs.Slice.{IsItemAt}
+use Rattle.std.proofs.lemmas.List.{append_assoc, append-nil, nil_from_length}
 use Rattle.std.proofs.lemmas.Option.{slice_get_past, slice_get_read, slice_get-map}
 
 -- an element is itself wherever it is
@@ -39,3 +40,24 @@ pub one_is_there : {X Y : Type 0} (f : X → Y) (A B : List X) (i : ℕ) (r s : 
 one_is_there f A B i None None h k differ gone none = differ (sym (lent_as f A i None h) ∙ lent_as f B i None k)
 one_is_there f A B i None (Some y) h k differ gone none = cc
 one_is_there f A B i (Some x) s h k differ gone none = cc
+
+-- what is left of a list is one less, once an element was taken
+pub one_less : {X : Type 0} (x : X) (all rest : List X) (m n : ℕ) → all ≡ x ∷ rest → n + 1 ≡ m → m ≡ length all → n ≡ length rest
+one_less x all rest m n steps shorter long =
+    let fewer : length all ≡ length (x ∷ rest) = ap (λ (l : List _). length l) steps in
+    omega arith
+
+-- one more element was taken, and what it gives was appended to what is gathered
+pub one_gathered : {X Y : Type 0} (f : List X → List Y) (x : X) (all rest : List X) (own old new whole : List Y) → all ≡ x ∷ rest → new ≡ old ++ own → old ++ f all ≡ whole → f (x ∷ rest) ≡ own ++ f rest → new ++ f rest ≡ whole
+one_gathered f x all rest own old new whole steps pushed was first =
+    ap (λ (l : List _). l ++ f rest) pushed
+    ∙ append_assoc old own (f rest)
+    ∙ ap (λ (l : List _). old ++ l) (sym first)
+    ∙ (λ i. old ++ f (sym steps i))
+    ∙ was
+
+-- all elements were taken
+pub all_gathered : {X Y : Type 0} (f : List X → List Y) (left whole all : List X) (n : ℕ) (old : List Y) → f [] ≡ [] → n ≡ length left → n ≡ 0 → old ++ f left ≡ f whole → whole ≡ all → old ≡ f all
+all_gathered f left whole all n old none long ended was is =
+    let empty : left ≡ [] = nil_from_length _ (sym long ∙ ended) in
+    sym (append-nil old) ∙ ap (λ (l : List _). old ++ l) (sym none) ∙ (λ i. old ++ f (sym empty i)) ∙ was ∙ ap f is

@@ -65,6 +65,10 @@ balance_at date es v = net (came_of v (counting_by date es)) (went_of v (countin
 abbrev pub with_bytes : {N : Type 0} → Bor (List ℕ) × N → List ℕ × N
 with_bytes e = (e.0.now, e.1)
 
+-- the same of all articles of a list
+abbrev pub byte_rows : {N : Type 0} → List (Bor (List ℕ) × N) → List (List ℕ × N)
+byte_rows list = map with_bytes list
+
 -- the sum of the numbers of the rows of v
 abbrev pub named_sum : List ℕ → List (List ℕ × ℕ) → ℕ
 named_sum v rows = sum_by (λ r. if bytes_eq v r.0 then r.1 else 0) rows
@@ -75,7 +79,7 @@ count_of v X = count (λ x y. bytes_eq x.now y.now) v X
 
 -- the count of an article among the items is the sum of the numbers in the rows of the article
 abbrev pub HasSumsOf : List (Bor (List ℕ) × ℕ) → List (Bor (List ℕ)) → Type 0
-HasSumsOf rows items = (v : Bor (List ℕ)) → count_of v items ≡ named_sum v.now (map with_bytes rows)
+HasSumsOf rows items = (v : Bor (List ℕ)) → count_of v items ≡ named_sum v.now (byte_rows rows)
 
 -- the number of a row is the difference of what came and what went
 abbrev pub IsNetOf : (came went : List (Bor (List ℕ))) → Bor (List ℕ) × Change → Type 0

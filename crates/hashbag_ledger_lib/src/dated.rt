@@ -1,7 +1,7 @@
 //! The balance of a day, by the days of movements, and not by the order in which they were entered.
 ghost use Rattle.std.specs.Prelude.{◌≡◌, ◌++◌, All, IfOk, OnOk, map};
 ghost use Rattle.std.specs.Map.{keys_of};
-ghost use Rattle.hashbag_ledger_lib.specs.Dated.{amount, counting_by, counts_by, moved, moved_at, with_bytes, net, HasSumsOf, IsBalanceAt, IsNetOf};
+ghost use Rattle.hashbag_ledger_lib.specs.Dated.{amount, byte_rows, counting_by, counts_by, moved, moved_at, net, HasSumsOf, IsBalanceAt, IsNetOf};
 
 use crate::movements::{Change, Entry, Outcome};
 use hashbag::{BagError, HashBag};
@@ -70,7 +70,7 @@ fn push_moved<'a>(
     dated: &'a (Entry<String>, String),
     part: Part,
 ) -> Result<(), AllocError>
-    ensures { OnOk result (map with_bytes list.new.items ≡ map with_bytes list.old.items ++ moved_at part date.now dated.now) }
+    ensures { OnOk result (byte_rows list.new.items ≡ byte_rows list.old.items ++ moved_at part date.now dated.now) }
 {
     let (entry, day) = dated;
     if !counts(date, entry, day.as_str()) {
@@ -90,7 +90,7 @@ fn moved_by<'a>(
     entries: &'a [(Entry<String>, String)],
     part: Part,
 ) -> Result<Vec<(&'a str, usize)>, AllocError>
-    ensures { IfOk result (λ list. map with_bytes list.items ≡ map (moved part) (counting_by date.now entries.now)) }
+    ensures { IfOk result (λ list. byte_rows list.items ≡ map (moved part) (counting_by date.now entries.now)) }
 {
     let mut list = Vec::new(alloc);
     let mut left = entries;

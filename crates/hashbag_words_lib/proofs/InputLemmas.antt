@@ -6,7 +6,7 @@ use Rattle.hashbag_text.specs.Encodings.{after_bytes, text_in}
 use Rattle.hashbag_text.specs.declared.decoder.Decoder.{Decoder}
 use Rattle.hashbag_text.specs.declared.encoding.Encoding.{Encoding}
 use Rattle.hashbag_words_lib.specs.Feeding.{Ends, Feeds, How}
-use Rattle.hashbag_words_lib.specs.Inputs.{text_left, CountsInputs, FeedsNext, ReadsInput, ReadsBlock, CountsInput}
+use Rattle.hashbag_words_lib.specs.Inputs.{text_left, CountsInputs, FeedsNext, ReadsInput, ReadsBlock}
 use Rattle.hashbag_words_lib.proofs.FeedingLemmas.{counted_more, counted_none, counted_one, fed_more, fed_none}
 
 -- ---- texts after others
@@ -28,6 +28,11 @@ ended_of input before (b ∷ bs) begun after none reads = absurd (grind (arith, 
 begun_of : (input : List ℕ × List ℕ) (before : List (List ℕ × List ℕ)) (block : List ℕ) (begun : Option (List ℕ × List ℕ)) (after : List (List ℕ × List ℕ)) → false ≡ (length block == 0) → ReadsBlock (Some input) before block begun after → (begun ≡ Some (input.0, input.1 ++ block)) × (after ≡ before)
 begun_of input before [] begun after some reads = absurd (grind (arith, nat_tests))
 begun_of input before (b ∷ bs) begun after some reads = reads
+
+-- the block of the input that is open
+of_open : (input : List ℕ × List ℕ) (begun begun' : Option (List ℕ × List ℕ)) (before after : List (List ℕ × List ℕ)) (block last : List ℕ) → begun ≡ Some input → block ≡ last → ReadsBlock begun before last begun' after → ReadsBlock (Some input) before block begun' after
+of_open input begun begun' before after block last begins is reads =
+    subst (λ (b : Option (List ℕ × List ℕ)). ReadsBlock b before block begun' after) begins (subst (λ (b : List ℕ). ReadsBlock begun before b begun' after) (sym is) reads)
 
 -- ---- the text of an input so far
 
@@ -54,11 +59,11 @@ module _ {B C R : Type 0} (has : How → C → List (List (List ℕ × ℕ)) →
   }
 
   -- a block more
-  pub so_far_more : (name : List ℕ) (inputs first then : B) (begun begun' : Option (List ℕ × List ℕ)) (decoder decoder' : Option Decoder) (old mid new : C) (keeper keeper' last : Option R) (block : List ℕ)
-      → SoFar name inputs first begun decoder old mid keeper keeper' → ReadsBlock begun (ended first) block begun' (ended then) → false ≡ (length block == 0)
+  pub so_far_more : (name : List ℕ) (inputs first then : B) (begun begun' : Option (List ℕ × List ℕ)) (decoder decoder' : Option Decoder) (old mid new : C) (keeper keeper' last : Option R) (block read : List ℕ)
+      → SoFar name inputs first begun decoder old mid keeper keeper' → block ≡ read → ReadsBlock begun (ended first) read begun' (ended then) → false ≡ (length block == 0)
       → FeedsNext has kept mid new keeper' last decoder block decoder' → SoFar name inputs then begun' decoder' old new keeper last
-  so_far_more name inputs first then begun begun' decoder decoder' old mid new keeper keeper' last block s reads some fed =
-      let next = begun_of (name, s.bytes) (ended first) block begun' (ended then) some (subst (λ (b : Option (List ℕ × List ℕ)). ReadsBlock b (ended first) block begun' (ended then)) s.is reads) in
+  so_far_more name inputs first then begun begun' decoder decoder' old mid new keeper keeper' last block read s is reads some fed =
+      let next = begun_of (name, s.bytes) (ended first) block begun' (ended then) some (of_open (name, s.bytes) begun begun' (ended first) (ended then) block read s.is is reads) in
       record {
         bytes = s.bytes ++ block;
         text = s.text ++ fed.text;
@@ -70,12 +75,12 @@ module _ {B C R : Type 0} (has : How → C → List (List (List ℕ × ℕ)) →
       }
 
   -- the input has ended
-  pub so_far_ended : (name : List ℕ) (inputs first then : B) (begun begun' : Option (List ℕ × List ℕ)) (decoder : Option Decoder) (old new : C) (keeper keeper' : Option R) (block : List ℕ)
-      → SoFar name inputs first begun decoder old new keeper keeper' → ReadsBlock begun (ended first) block begun' (ended then) → true ≡ (length block == 0) → text_left decoder [] ≡ Some []
+  pub so_far_ended : (name : List ℕ) (inputs first then : B) (begun begun' : Option (List ℕ × List ℕ)) (decoder : Option Decoder) (old new : C) (keeper keeper' : Option R) (block read : List ℕ)
+      → SoFar name inputs first begun decoder old new keeper keeper' → block ≡ read → ReadsBlock begun (ended first) read begun' (ended then) → true ≡ (length block == 0) → text_left decoder [] ≡ Some []
       → ReadsInput has kept ended encoding name inputs then old new keeper keeper'
-  so_far_ended name inputs first then begun begun' decoder old new keeper keeper' block s reads none whole = record {
+  so_far_ended name inputs first then begun begun' decoder old new keeper keeper' block read s is reads none whole = record {
     bytes = s.bytes;
-    read = ended_of (name, s.bytes) (ended first) block begun' (ended then) none (subst (λ (b : Option (List ℕ × List ℕ)). ReadsBlock b (ended first) block begun' (ended then)) s.is reads)
+    read = ended_of (name, s.bytes) (ended first) block begun' (ended then) none (of_open (name, s.bytes) begun begun' (ended first) (ended then) block read s.is is reads)
         ∙ ap (λ (l : List (List ℕ × List ℕ)). l ++ (name, s.bytes) ∷ []) s.same;
     text = s.text;
     decoded = ap (λ (l : List ℕ). text_in encoding l) (sym (append-nil s.bytes)) ∙ s.decodes [] ∙ ap (λ (t : Option (List ℕ)). after_bytes s.text t) whole ∙ ap (λ (l : List ℕ). Some l) (append-nil s.text);
@@ -84,26 +89,16 @@ module _ {B C R : Type 0} (has : How → C → List (List (List ℕ × ℕ)) →
 
   -- ---- inputs
 
-  -- an input was read and its text ended
-  pub input_counted : (name : List ℕ) (inputs then last : B) (old mid new : C) (first middle keeper : Option R)
-      → ReadsInput has kept ended encoding name inputs then old mid first middle → Ends has kept mid new middle keeper → ended last ≡ ended then → CountsInput has kept ended encoding name inputs last old new first keeper
-  input_counted name inputs then last old mid new first middle keeper r e is = record {
-    bytes = r.bytes;
-    read = is ∙ r.read;
-    text = r.text;
-    decoded = r.decoded;
-    counts = counted_one has kept old mid new first middle keeper r.text r.feeds e;
-  }
-
   -- no input was counted
   pub no_inputs : (inputs : B) (c : C) (keeper : Option R) → CountsInputs has kept ended encoding [] inputs inputs c c keeper keeper
   no_inputs inputs c keeper = record { texts = []; read = record { inputs = []; named = refl; read = sym (append-nil (ended inputs)); decoded = refl }; counts = counted_none has kept c keeper }
 
-  -- an input more
-  pub inputs_more : (names : List (Bor (List ℕ))) (i : ℕ) (d : Bor (List ℕ)) (inputs then last : B) (old mid new : C) (first middle keeper : Option R) → i < length names
-      → CountsInputs has kept ended encoding (take i names) inputs then old mid first middle → CountsInput has kept ended encoding (get_or names i d).now then last mid new middle keeper
+  -- an input more was read, and its text ended
+  pub inputs_more : (names : List (Bor (List ℕ))) (i : ℕ) (d : Bor (List ℕ)) (inputs then read last : B) (old mid fed new : C) (first middle next keeper : Option R) → i < length names
+      → CountsInputs has kept ended encoding (take i names) inputs then old mid first middle → ReadsInput has kept ended encoding (get_or names i d).now then read mid fed middle next
+      → Ends has kept fed new next keeper → ended last ≡ ended read
       → CountsInputs has kept ended encoding (take (i + 1) names) inputs last old new first keeper
-  inputs_more names i d inputs then last old mid new first middle keeper within all one =
+  inputs_more names i d inputs then read last old mid fed new first middle next keeper within all one ends is =
       let input : List ℕ × List ℕ = ((get_or names i d).now, one.bytes) in
       let now_of : Bor (List ℕ) → List ℕ = λ name. name.now in
       let name_of : List ℕ × List ℕ → List ℕ = λ input. input.0 in
@@ -116,9 +111,9 @@ module _ {B C R : Type 0} (has : How → C → List (List (List ℕ × ℕ)) →
           inputs = was.inputs ++ input ∷ [];
           named = map-append name_of was.inputs (input ∷ []) ∙ ap (λ (l : List (List ℕ)). l ++ (get_or names i d).now ∷ []) was.named
               ∙ sym (map-append now_of (take i names) (get_or names i d ∷ [])) ∙ ap (λ (l : List (Bor (List ℕ))). map now_of l) (sym (take_more names i d within));
-          read = one.read ∙ ap (λ (l : List (List ℕ × List ℕ)). l ++ input ∷ []) was.read ∙ append_assoc (ended inputs) was.inputs (input ∷ []);
+          read = is ∙ one.read ∙ ap (λ (l : List (List ℕ × List ℕ)). l ++ input ∷ []) was.read ∙ append_assoc (ended inputs) was.inputs (input ∷ []);
           decoded = map-append decode was.inputs (input ∷ []) ∙ ap (λ (l : List (Option (List ℕ))). l ++ text_in encoding one.bytes ∷ []) was.decoded
               ∙ ap (λ (t : Option (List ℕ)). map some all.texts ++ t ∷ []) one.decoded ∙ sym (map-append some all.texts (one.text ∷ []));
         };
-        counts = counted_more has kept old mid new first middle keeper all.texts (one.text ∷ []) all.counts one.counts;
+        counts = counted_more has kept old mid new first middle keeper all.texts (one.text ∷ []) all.counts (counted_one has kept mid fed new middle next keeper one.text one.feeds ends);
       }

@@ -1,6 +1,7 @@
 -- From the bytes of inputs to the bytes that are written.
-use Rattle.std.proofs.Common.{◌≡◌, inl, inr, ℕ, ◌+◌, List, [], ◌∷◌, ◌++◌, map, sum_by, flat_map, String, string_bytes, Bor, Option, None, Some, refl, sym, ◌∙◌, ap, subst, arith}
+use Rattle.std.proofs.Common.{◌≡◌, inl, inr, ℕ, ◌+◌, List, [], ◌∷◌, ◌++◌, map, sum_by, flat_map, String, string_bytes, Bor, Option, None, Some, Result, IfOk, refl, sym, ◌∙◌, ap, subst, arith}
 use Rattle.std.proofs.lemmas.List.Sums.{sum_by_push}
+use Rattle.std.proofs.lemmas.Result.{IfOk-weaker}
 use Rattle.std.specs.Global.{Global}
 use Rattle.std.specs.Str.{bytes_eq}
 use Rattle.hashbag.specs.Bag.{Bag}
@@ -11,13 +12,14 @@ use Rattle.hashbag_words_lib.specs.Counted.{HasCounted, HaveTogether}
 use Rattle.hashbag_words_lib.specs.Counts.{texts_in}
 use Rattle.hashbag_words_lib.specs.Feeding.{AreKeptIn, HasAddedTexts, HasCountedTexts, HasNothing, KeepsRows}
 use Rattle.hashbag_words_lib.specs.Inputs.{AreRead, CountsInputs}
-use Rattle.hashbag_words_lib.specs.Jobs.{AddsFileRows, CountsTokens, KeepsBag, ShowsBoth, ShowsRuns, WritesRows, WritesTokens}
+use Rattle.hashbag_words_lib.specs.Jobs.{job_bytes, KeepsBag, RowsAdded, RowsWritten, ShowsBoth, ShowsRuns, TokensCounted, TokensWritten}
 use Rattle.hashbag_words_lib.specs.Runs.{rows_in, run_text, IsRunOf}
 use Rattle.hashbag_words_lib.specs.Shown.{ShowsCounted}
 use Rattle.hashbag_words_lib.specs.Sorted.{times_in}
 use Rattle.hashbag_words_lib.specs.Tokens.{tokens_of}
 use Rattle.hashbag_words_lib.specs.declared.choice.Choice.{Choice}
 use Rattle.hashbag_words_lib.specs.declared.counter.TextCounter.{TextCounter}
+use Rattle.hashbag_words_lib.specs.declared.jobs.JobText.{JobText}
 use Rattle.hashbag_words_lib.specs.declared.lines.BadLines.{BadLines}
 use Rattle.hashbag_words_lib.specs.declared.row_counter.RowCounter.{RowCounter}
 use Rattle.hashbag_words_lib.specs.declared.rows.RowForm.{RowForm}
@@ -25,21 +27,21 @@ use Rattle.hashbag_words_lib.specs.declared.rule.Rule.{Rule}
 use Rattle.hashbag_words_lib.specs.declared.shown_text.Look.{Look}
 
 module _ {R S : Type 0} (kept : R → List (List (List ℕ × ℕ)) → Type 0) (faithful : R → Type 0) where
-  module _ (choice : Choice) (look : Look) (bag : Bag (String Global) S) (bytes : List ℕ) where
+  module _ {F : Type 0} (choice : Choice) (look : Look) (bag : Bag (String Global) S) (made : JobText F) where
     -- nothing keeps runs
-    pub both_without : (keeper : Option R) → keeper ≡ None → ShowsCounted choice look bag bytes → ShowsBoth kept faithful choice look bag keeper keeper bytes
+    pub both_without : (keeper : Option R) → keeper ≡ None → ShowsCounted choice look bag (job_bytes made) → ShowsBoth kept faithful choice look bag keeper keeper made
     both_without keeper none shows fits are runs has tokens together =
         let no_runs : runs ≡ [] = subst (λ (k : Option R). AreKeptIn kept k runs) none has in
         shows tokens (subst (λ (r : List (List (List ℕ × ℕ))). HaveTogether r bag tokens) no_runs together)
 
     -- no run was kept
-    pub both_none : (keeper : Option R) (old : R) → keeper ≡ Some old → (faithful old → HasNothing kept old) → ShowsCounted choice look bag bytes → ShowsBoth kept faithful choice look bag keeper (Some old) bytes
+    pub both_none : (keeper : Option R) (old : R) → keeper ≡ Some old → (faithful old → HasNothing kept old) → ShowsCounted choice look bag (job_bytes made) → ShowsBoth kept faithful choice look bag keeper (Some old) made
     both_none keeper old is none shows fits are runs has tokens together =
         let nothing : HasNothing kept old = none are in
         shows tokens (λ text. ap (λ (n : ℕ). count bytes_eq text (texts_in bag) + n) (sym (nothing runs (subst (λ (k : Option R). AreKeptIn kept k runs) is has) text)) ∙ together text)
 
     -- a run of the bag was added, and all were merged
-    pub both_shown : (keeper : Option R) (old then new : R) → keeper ≡ Some old → KeepsBag kept faithful old bag then → ShowsRuns kept faithful choice look then new bytes → ShowsBoth kept faithful choice look bag keeper (Some new) bytes
+    pub both_shown : (keeper : Option R) (old then new : R) → keeper ≡ Some old → KeepsBag kept faithful old bag then → ShowsRuns kept faithful choice look then new (job_bytes made) → ShowsBoth kept faithful choice look bag keeper (Some new) made
     both_shown keeper old then new is keeps shows fits are runs has tokens together =
         let all = keeps runs (subst (λ (k : Option R). AreKeptIn kept k runs) is has) in
         shows fits are all.0 all.1 tokens (all.2 tokens together)
@@ -77,7 +79,7 @@ module _ {R S : Type 0} (kept : R → List (List (List ℕ × ℕ)) → Type 0) 
     -- tokens were counted
     pub tokens_counted : {H : Type 0} (rule : Rule) (first last : TextCounter S H) → first.rule ≡ rule → HasCounted (texts_in bag) [] first []
         → ((before : List (List ℕ)) → (runs : List (List (List ℕ × ℕ))) → HasCounted before runs last [] → HaveTogether runs bag' before)
-        → CountsInputs HasCountedTexts kept ended encoding names inputs inputs' first last keeper keeper' → CountsTokens kept faithful encoding names (ended inputs) (ended inputs') rule bag bag' keeper keeper'
+        → CountsInputs HasCountedTexts kept ended encoding names inputs inputs' first last keeper keeper' → TokensCounted kept faithful encoding names (ended inputs) (ended inputs') rule bag bag' keeper keeper'
     tokens_counted rule first last same begins together counts = record {
       texts = counts.texts;
       read_all = counts.read;
@@ -91,7 +93,7 @@ module _ {R S : Type 0} (kept : R → List (List (List ℕ × ℕ)) → Type 0) 
     pub rows_added : {H : Type 0} (form : RowForm) (bad_lines : BadLines) (first last : RowCounter S H) → first.form ≡ form → first.reading.bad_lines ≡ bad_lines
         → ((before : List (List ℕ × ℕ)) → HaveRows [] bag before → HasAdded before [] first [])
         → ((before : List (List ℕ × ℕ)) → (runs : List (List (List ℕ × ℕ))) → HasAdded before runs last [] → HaveRows runs bag' before)
-        → CountsInputs HasAddedTexts kept ended encoding names inputs inputs' first last keeper keeper' → AddsFileRows kept faithful encoding names (ended inputs) (ended inputs') form bad_lines bag bag' keeper keeper'
+        → CountsInputs HasAddedTexts kept ended encoding names inputs inputs' first last keeper keeper' → RowsAdded kept faithful encoding names (ended inputs) (ended inputs') form bad_lines bag bag' keeper keeper'
     rows_added form bad_lines first last same_form same_lines begins together counts = record {
       texts = counts.texts;
       read_all = counts.read;
@@ -108,29 +110,33 @@ module _ {R S : Type 0} (kept : R → List (List (List ℕ × ℕ)) → Type 0) 
 
   -- ---- what was counted was written
 
-  module _ (choice : Choice) (look : Look) (encoding : Option Encoding) (names : List (Bor (List ℕ))) (before after last : List (List ℕ × List ℕ)) (old mid new : Option R) (bag bag' : Bag (String Global) S) (bytes : List ℕ)
-      (shows : ShowsBoth kept faithful choice look bag' mid new bytes) (same : last ≡ after) where
-    still_read : (texts : List (List ℕ)) → AreRead encoding names before after texts → AreRead encoding names before last texts
-    still_read texts are = subst (λ (l : List (List ℕ × List ℕ)). AreRead encoding names before l texts) (sym same) are
+  module _ {B F E : Type 0} (ended : B → List (List ℕ × List ℕ)) (choice : Choice) (look : Look) (encoding : Option Encoding) (names : List (Bor (List ℕ))) (before after last : B) (old mid new : Option R) (bag bag' : Bag (String Global) S)
+      (result : Result (JobText F) E) (shows : IfOk result (ShowsBoth kept faithful choice look bag' mid new)) (same : ended last ≡ ended after) where
+    still_read : (texts : List (List ℕ)) → AreRead encoding names (ended before) (ended after) texts → AreRead encoding names (ended before) (ended last) texts
+    still_read texts are = subst (λ (l : List (List ℕ × List ℕ)). AreRead encoding names (ended before) l texts) (sym same) are
 
-    pub tokens_written : (rule : Rule) → CountsTokens kept faithful encoding names before after rule bag bag' old mid → WritesTokens kept faithful choice look encoding names before last rule bag old new bytes
-    tokens_written rule counts = record {
-      texts = counts.texts;
-      read_all = still_read counts.texts counts.read_all;
-      written = λ fresh fits are. let all = counts.counts fresh in shows fits are all.0 all.1 (flat_map (tokens_of rule) counts.texts) all.2;
-    }
+    pub tokens_written : (rule : Rule) → TokensCounted kept faithful encoding names (ended before) (ended after) rule bag bag' old mid
+        → IfOk result (TokensWritten kept faithful choice look encoding names (ended before) (ended last) rule bag old new)
+    tokens_written rule counts =
+        IfOk-weaker result (ShowsBoth kept faithful choice look bag' mid new) (TokensWritten kept faithful choice look encoding names (ended before) (ended last) rule bag old new) (λ made shown. record {
+          texts = counts.texts;
+          read_all = still_read counts.texts counts.read_all;
+          written = λ fresh fits are. let all = counts.counts fresh in shown fits are all.0 all.1 (flat_map (tokens_of rule) counts.texts) all.2;
+        }) shows
 
-    pub rows_written : (form : RowForm) (bad_lines : BadLines) → AddsFileRows kept faithful encoding names before after form bad_lines bag bag' old mid → WritesRows kept faithful choice look encoding names before last form bad_lines bag old new bytes
-    rows_written form bad_lines adds = record {
-      texts = adds.texts;
-      read_all = still_read adds.texts adds.read_all;
-      written = λ fresh fits are.
-          let all = adds.counts fresh in (
-            all.0,
-            all.1,
-            λ tokens counts. shows fits are all.2 all.3 tokens (λ text. all.4 text ∙ times_one text all.0 ∙ counts text),
-          );
-    }
-      where
-        times_one : (text : List ℕ) (lines : List (List ℕ × ℕ)) → times_in text lines ≡ sum_by (times_in text) (lines ∷ [])
-        times_one text lines = let z : times_in text lines ≡ 0 + times_in text lines = omega arith in z
+    times_one : (text : List ℕ) (lines : List (List ℕ × ℕ)) → times_in text lines ≡ sum_by (times_in text) (lines ∷ [])
+    times_one text lines = let z : times_in text lines ≡ 0 + times_in text lines = omega arith in z
+
+    pub rows_written : (form : RowForm) (bad_lines : BadLines) → RowsAdded kept faithful encoding names (ended before) (ended after) form bad_lines bag bag' old mid
+        → IfOk result (RowsWritten kept faithful choice look encoding names (ended before) (ended last) form bad_lines bag old new)
+    rows_written form bad_lines adds =
+        IfOk-weaker result (ShowsBoth kept faithful choice look bag' mid new) (RowsWritten kept faithful choice look encoding names (ended before) (ended last) form bad_lines bag old new) (λ made shown. record {
+          texts = adds.texts;
+          read_all = still_read adds.texts adds.read_all;
+          written = λ fresh fits are.
+              let all = adds.counts fresh in (
+                all.0,
+                all.1,
+                λ tokens counts. shown fits are all.2 all.3 tokens (λ text. all.4 text ∙ times_one text all.0 ∙ counts text),
+              );
+        }) shows

@@ -128,13 +128,13 @@ module _ (files runs : List ℕ) (made next : ℕ) (rows later : ℕ → List (L
       omega arith)
 
 module _ (made : ℕ) (rows : ℕ → List (List ℕ × ℕ)) (fed : List (List (List ℕ × ℕ))) where
+  both : (text : List ℕ) (xs ys : List ℕ) → times_of rows text (xs ++ ys) ≡ times_of rows text xs + times_of rows text ys
+  both text xs ys = sum_by-append (λ (n : ℕ). times_in text (rows n)) xs ys
+
   -- those at the end are taken
   pub kept_last : (front taken : List ℕ) → AreKept [] (front ++ taken) made rows fed → AreKept taken front made rows fed
   kept_last front taken kept = record {
-    counts = λ text.
-        let both : times_of rows text (front ++ taken) ≡ times_of rows text front + times_of rows text taken = sum_by-append (λ (n : ℕ). times_in text (rows n)) front taken in
-        let before = kept.counts text in
-        omega arith;
+    counts = λ text. let all = both text front taken in let before = kept.counts text in omega arith;
     left_below = All-left (λ n. n < made) front taken kept.left_below;
     taken_below = All-right (λ n. n < made) front taken kept.left_below;
   }
@@ -142,10 +142,7 @@ module _ (made : ℕ) (rows : ℕ → List (List ℕ × ℕ)) (fed : List (List 
   -- those at the beginning are
   pub kept_first : (taken rest : List ℕ) → AreKept [] (taken ++ rest) made rows fed → AreKept taken rest made rows fed
   kept_first taken rest kept = record {
-    counts = λ text.
-        let both : times_of rows text (taken ++ rest) ≡ times_of rows text taken + times_of rows text rest = sum_by-append (λ (n : ℕ). times_in text (rows n)) taken rest in
-        let before = kept.counts text in
-        omega arith;
+    counts = λ text. let all = both text taken rest in let before = kept.counts text in omega arith;
     left_below = All-right (λ n. n < made) taken rest kept.left_below;
     taken_below = All-left (λ n. n < made) taken rest kept.left_below;
   }

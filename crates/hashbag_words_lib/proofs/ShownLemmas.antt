@@ -11,15 +11,12 @@ use Rattle.hashbag_core.proofs.OccurrenceLemmas.{count_rearranged}
 use Rattle.hashbag.proofs.JsonWriteLemmas.{once_in_walk}
 use Rattle.hashbag_ops.proofs.Sums.{count_written}
 use Rattle.hashbag_ops.specs.Order.{rank}
-use Rattle.hashbag_words_lib.specs.Bars.{bars_text}
 use Rattle.hashbag_words_lib.specs.Choice.{KeepsShown, AreChosen}
-use Rattle.hashbag_words_lib.specs.Shown.{HasShown, AreShown, IsShownBars, IsShownText}
+use Rattle.hashbag_words_lib.specs.Shown.{HasShown, AreShown, IsShownAs}
 use Rattle.hashbag_words_lib.specs.Sorted.{row_of, text_cmp}
-use Rattle.hashbag_words_lib.specs.Writing.{text_of}
 use Rattle.hashbag_words_lib.specs.declared.choice.Choice.{Choice}
 use Rattle.hashbag_words_lib.specs.declared.choice.Order.{Order}
 use Rattle.hashbag_words_lib.specs.declared.choice.Order.TheVariants.{Ascending, Unordered, MostCommon}
-use Rattle.hashbag_words_lib.specs.declared.writing.Format.{Format}
 use Rattle.hashbag_words_lib.proofs.RunTextLemmas.{rows_rise, sum_of_rows}
 use Rattle.hashbag_words_lib.proofs.TextLemmas.{same_by}
 
@@ -59,15 +56,8 @@ module _ {S : Type 0} (choice : Choice) (bag : Bag (String Global) S) (texts : L
   are_shown (MostCommon k) pairs shown =
       (map row_of shown.0, has_shown shown.0 shown.1, ranked_rows shown.0 shown.2, ap (map row_of) shown.3 ∙ take_rows k shown.0)
 
-  pub is_shown_text : (format : Format) (pairs : List (String Global × ℕ)) (bytes : List ℕ) → AreChosen choice.order bag pairs → bytes ≡ text_of format (map row_of pairs) → IsShownText choice format texts bytes
-  is_shown_text format pairs bytes shown is = record {
-    rows = map row_of pairs;
-    shown = are_shown choice.order pairs shown;
-    is = is;
-  }
-
-  pub is_shown_bars : (width : ℕ) (pairs : List (String Global × ℕ)) (bytes : List ℕ) → AreChosen choice.order bag pairs → bytes ≡ bars_text width (map row_of pairs) → IsShownBars choice width texts bytes
-  is_shown_bars width pairs bytes shown is = record {
+  pub is_shown_as : (written : List (List ℕ × ℕ) → List ℕ) (pairs : List (String Global × ℕ)) (bytes : List ℕ) → AreChosen choice.order bag pairs → bytes ≡ written (map row_of pairs) → IsShownAs choice written texts bytes
+  is_shown_as written pairs bytes shown is = record {
     rows = map row_of pairs;
     shown = are_shown choice.order pairs shown;
     is = is;

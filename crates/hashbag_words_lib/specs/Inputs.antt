@@ -1,5 +1,7 @@
 -- Inputs that are read block by block, decoded and counted.
 use Rattle.std.specs.Prelude.{◌≡◌, ℕ, List, [], ◌∷◌, ◌++◌, map, Option, None, Some, ⊤}
+use denote.MutBor.{MutBor}
+use denote.Triple.Both.{Both}
 use Rattle.std.specs.Borrow.{Bor}
 use Rattle.hashbag_text.specs.Decoders.{text_from_decoder}
 use Rattle.hashbag_text.specs.Encodings.{after_bytes, text_in}
@@ -7,6 +9,14 @@ use Rattle.hashbag_text.specs.declared.decoder.Decoder.{Decoder}
 use Rattle.hashbag_text.specs.declared.encoding.Encoding.{Encoding}
 use Rattle.hashbag_words_lib.specs.Feeding.{CountsTexts, Feeds, How}
 use Rattle.hashbag_words_lib.specs.declared.inputs.Decoding.{Decoding}
+
+-- a `&mut` parameter: what it was before the call, and what it is after it. A clause that names the parameter alone means both
+abbrev pub Changed : Type 0 → Type 0
+Changed T = Both (MutBor T) (MutBor T)
+
+-- three such parameters are related so: each by what it was and what it is
+abbrev pub Across : {A B C : Type 0} → (A → A → B → B → C → C → Type 0) → Changed A → Changed B → Changed C → Type 0
+Across relation a b c = relation a.entry.now a.exit.now b.entry.now b.exit.now c.entry.now c.exit.now
 
 -- ---- reading. An input is its name and its bytes
 
@@ -59,14 +69,6 @@ module _ {C R : Type 0} (has : How → C → List (List (List ℕ × ℕ)) → L
       pub text : List ℕ
       pub decoded : text_in encoding bytes ≡ Some text
       pub feeds : Feeds has kept old new keeper keeper' text
-
-    -- an input was read to its end, and its text was counted as one more text, from its beginning to its end
-    pub record CountsInput (name : List ℕ) (inputs inputs' : B) (old new : C) (keeper keeper' : Option R) : Type 0 where
-      pub bytes : List ℕ
-      pub read : ended inputs' ≡ ended inputs ++ (name, bytes) ∷ []
-      pub text : List ℕ
-      pub decoded : text_in encoding bytes ≡ Some text
-      pub counts : CountsTexts has kept old new keeper keeper' (text ∷ [])
 
     -- the inputs of these names were read to their ends, in order, and their texts were counted
     pub record CountsInputs (names : List (Bor (List ℕ))) (inputs inputs' : B) (old new : C) (keeper keeper' : Option R) : Type 0 where

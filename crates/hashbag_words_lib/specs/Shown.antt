@@ -21,7 +21,6 @@ use Rattle.hashbag_words_lib.specs.declared.shown_text.Look.{Look}
 use Rattle.hashbag_words_lib.specs.declared.shown_text.Look.TheVariants.{Rows as InRows, Shares as WithShares, Bars as WithBars}
 use Rattle.hashbag_words_lib.specs.declared.shown_text.Shown.{Shown}
 use Rattle.hashbag_words_lib.specs.declared.shown_text.Shown.TheVariants.{Rows, Bars}
-use Rattle.hashbag_words_lib.specs.declared.writing.Format.{Format}
 use Rattle.hashbag_words_lib.specs.declared.writing.Format.TheVariants.{Shares}
 
 -- the rows have each text of the list that `choice` shows, once, with its count in the list, and no other text
@@ -37,31 +36,21 @@ AreShown Unordered choice texts rows = HasShown choice texts rows
 AreShown (MostCommon k) choice texts rows =
     (all : List (List ℕ × ℕ)) × HasShown choice texts all × IsStrictlySortedBy (rank text_cmp) all × (rows ≡ take k all)
 
--- the bytes show these tokens, as `choice` and `format` say
-pub record IsShownText (choice : Choice) (format : Format) (texts : List (List ℕ)) (bytes : List ℕ) : Type 0 where
+-- the bytes show these tokens, as `choice` says, and `written` is the text of rows
+pub record IsShownAs (choice : Choice) (written : List (List ℕ × ℕ) → List ℕ) (texts : List (List ℕ)) (bytes : List ℕ) : Type 0 where
   pub rows : List (List ℕ × ℕ)
   pub shown : AreShown choice.order choice texts rows
-  pub is : bytes ≡ text_of format rows
+  pub is : bytes ≡ written rows
 
 -- for any list of tokens: if the bag has exactly the tokens of the list that are shown, with their counts, the bytes show the list
-abbrev pub IsTextOfKept : {S : Type 0} → Choice → Format → Bag (String Global) S → List ℕ → Type 0
-IsTextOfKept choice format bag bytes = (texts : List (List ℕ)) → KeepsShown choice texts bag → IsShownText choice format texts bytes
-
--- the bytes show these tokens with bars, on a terminal of that width
-pub record IsShownBars (choice : Choice) (width : ℕ) (texts : List (List ℕ)) (bytes : List ℕ) : Type 0 where
-  pub rows : List (List ℕ × ℕ)
-  pub shown : AreShown choice.order choice texts rows
-  pub is : bytes ≡ bars_text width rows
-
--- for any list of tokens: if the bag has exactly the tokens of the list that are shown, the bytes show the list with bars
-abbrev pub AreBarsOfKept : {S : Type 0} → Choice → ℕ → Bag (String Global) S → List ℕ → Type 0
-AreBarsOfKept choice width bag bytes = (texts : List (List ℕ)) → KeepsShown choice texts bag → IsShownBars choice width texts bytes
+abbrev pub ShowsKept : {S : Type 0} → Choice → (List (List ℕ × ℕ) → List ℕ) → Bag (String Global) S → List ℕ → Type 0
+ShowsKept choice written bag bytes = (texts : List (List ℕ)) → KeepsShown choice texts bag → IsShownAs choice written texts bytes
 
 -- the bytes show these tokens, as `choice` and `look` say. A share is of the number of all tokens, shown or not
 abbrev pub ShowsTexts : Choice → Look → List (List ℕ) → List ℕ → Type 0
-ShowsTexts choice (InRows format) texts bytes = IsShownText choice format texts bytes
-ShowsTexts choice WithShares texts bytes = IsShownText choice (Shares (length texts)) texts bytes
-ShowsTexts choice (WithBars width) texts bytes = IsShownBars choice width texts bytes
+ShowsTexts choice (InRows format) texts bytes = IsShownAs choice (text_of format) texts bytes
+ShowsTexts choice WithShares texts bytes = IsShownAs choice (text_of (Shares (length texts))) texts bytes
+ShowsTexts choice (WithBars width) texts bytes = IsShownAs choice (bars_text width) texts bytes
 
 -- the bytes show the tokens that the bag has
 abbrev pub ShowsCounted : {S : Type 0} → Choice → Look → Bag (String Global) S → List ℕ → Type 0

@@ -1,7 +1,9 @@
 //! Counting all inputs of a call, which are read block by block. They come from any [`Blocks`], so the clauses hold for any bytes.
+//!
+//! Where a clause names a `&mut` parameter alone, it means both what the parameter was before the call and what it is after it.
 ghost use Rattle.std.specs.Prelude.{◌≡◌, ℕ, List, [], Option, Some, OnOk};
 ghost use Rattle.hashbag_text.specs.Encodings.{text_in};
-ghost use Rattle.hashbag_words_lib.specs.Inputs.{text_left, CountsInputs, FeedsBlock, ReadsInput, ReadsNextBlock, CountsInput};
+ghost use Rattle.hashbag_words_lib.specs.Inputs.{text_left, Across, CountsInputs, FeedsBlock, ReadsInput, ReadsNextBlock};
 
 use crate::feeding::{Counter, KeepsRuns, end, feed};
 use crate::lines::LinesRead;
@@ -138,7 +140,7 @@ fn read_input<'a, B: Blocks<'a>, C: Counter, R: KeepsRuns<'a>>(
     name: &'a str,
     encoding: Option<Encoding>,
 ) -> Result<bool, Trouble<'a>>
-    ensures { OnOk result (ReadsInput C.has R.kept B.ended encoding name.now inputs.old inputs.new counter.old counter.new runs.old runs.new) }
+    ensures { OnOk result (Across (ReadsInput C.has R.kept B.ended encoding name.now) inputs counter runs) }
 {
     inputs.open(name)?;
     let mut decoding = Decoding::new(alloc, shown_name(name), encoding);
@@ -151,26 +153,6 @@ fn read_input<'a, B: Blocks<'a>, C: Counter, R: KeepsRuns<'a>>(
         decoding.feed(counter, runs, block)?;
     }
     Err(Trouble::Memory)
-}
-
-// Counts the input of that name.
-fn count_named<'a, B: Blocks<'a>, C: Counter, R: KeepsRuns<'a>>(
-    alloc: Global,
-    inputs: &mut B,
-    counter: &mut C,
-    runs: &mut Option<R>,
-    name: &'a str,
-    encoding: Option<Encoding>,
-) -> Result<(), Trouble<'a>>
-    ensures { OnOk result (CountsInput C.has R.kept B.ended encoding name.now inputs.old inputs.new counter.old counter.new runs.old runs.new) }
-{
-    let has_nul = read_input(alloc, inputs, counter, runs, name, encoding)?;
-    if has_nul {
-        inputs.report_nul(shown_name(name));
-    }
-    let reading = end(alloc, counter, runs, shown_name(name))?;
-    inputs.report(shown_name(name), &reading);
-    Ok(())
 }
 
 /// Counts the inputs of these names, in order. Their bytes are in this encoding; `None` is UTF-8.
@@ -188,10 +170,16 @@ pub fn count_all<'a, B: Blocks<'a>, C: Counter, R: KeepsRuns<'a>>(
 ) -> Result<(), Trouble<'a>>
     // Exactly these inputs were read to their ends, and each is text in the encoding. Together, the counter and all runs have the counts of all
     // texts.
-    ensures { OnOk result (CountsInputs C.has R.kept B.ended encoding names.now inputs.old inputs.new counter.old counter.new runs.old runs.new) }
+    ensures { OnOk result (Across (CountsInputs C.has R.kept B.ended encoding names.now) inputs counter runs) }
 {
     for name in names {
-        count_named(alloc, inputs, counter, runs, *name, encoding)?;
+        let shown = shown_name(*name);
+        let has_nul = read_input(alloc, inputs, counter, runs, *name, encoding)?;
+        if has_nul {
+            inputs.report_nul(shown);
+        }
+        let reading = end(alloc, counter, runs, shown)?;
+        inputs.report(shown, &reading);
     }
     Ok(())
 }

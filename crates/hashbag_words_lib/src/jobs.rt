@@ -1,6 +1,8 @@
 //! Whole jobs: from the inputs of a call to the text that shows their tokens.
 //!
 //! The clauses about the text have a premise, `AreFaithful`: reading a temporary file gives what was written to it.
+//!
+//! Where a clause names a parameter alone, it means both what the parameter was before the call and what it is after it.
 ghost use Rattle.std.specs.Prelude.{IfOk, OnOk};
 ghost use Rattle.hashbag_words_lib.specs.Jobs.{job_bytes, AddsFileRows, CountsTokens, KeepsBag, ShowsBoth, WritesRows, WritesTokens};
 ghost use Rattle.hashbag_words_lib.specs.Shown.{ShowsCounted};
@@ -89,7 +91,7 @@ pub fn show_both<'a, 'b, R: KeepsRuns<'a> + Drop, S: BuildHasher + Drop>(
     choice: Choice<'_>,
     look: Look,
 ) -> Result<JobText<'b, R::File>, Trouble<'a>>
-    ensures { IfOk result (λ text. ShowsBoth R.kept R.faithful choice.entry look bag.old runs.old runs.new (job_bytes text)) }
+    ensures { IfOk result (ShowsBoth R.kept R.faithful choice.entry look bag.old runs.old runs.new) }
 {
     let Some(kept) = runs else {
         return show_bag(alloc, bag, choice, look);
@@ -112,7 +114,7 @@ fn count_tokens<'a, B: Blocks<'a>, R: KeepsRuns<'a> + Drop, S: BuildHasher + Cop
     reading: Reading,
     names: &[&'a str],
 ) -> Result<(), Trouble<'a>>
-    ensures { OnOk result (CountsTokens R.kept R.faithful reading.encoding names.now (B.ended inputs.old) (B.ended inputs.new) rule.entry bag.old bag.new runs.old runs.new) }
+    ensures { OnOk result (CountsTokens R.kept R.faithful B.ended reading names inputs rule bag runs) }
 {
     let none = HashBag::with_hasher(alloc, *bag.hasher());
     let given = mem::replace(bag, none);
@@ -132,7 +134,7 @@ fn add_rows<'a, B: Blocks<'a>, R: KeepsRuns<'a> + Drop, S: BuildHasher + Copy + 
     reading: Reading,
     names: &[&'a str],
 ) -> Result<(), Trouble<'a>>
-    ensures { OnOk result (AddsFileRows R.kept R.faithful reading.encoding names.now (B.ended inputs.old) (B.ended inputs.new) form reading.bad_lines bag.old bag.new runs.old runs.new) }
+    ensures { OnOk result (AddsFileRows R.kept R.faithful B.ended reading names inputs form bag runs) }
 {
     let none = HashBag::with_hasher(alloc, *bag.hasher());
     let given = mem::replace(bag, none);
@@ -159,7 +161,7 @@ pub fn show_tokens<'a, 'b, B: Blocks<'a>, R: KeepsRuns<'a> + Drop, S: BuildHashe
     look: Look,
 ) -> Result<JobText<'b, R::File>, Trouble<'a>>
     // If nothing was counted before, the text shows the tokens of all bytes of all inputs.
-    ensures { IfOk result (λ text. WritesTokens R.kept R.faithful choice.entry look reading.encoding names.now (B.ended inputs.old) (B.ended inputs.new) rule.entry bag.old runs.old runs.new (job_bytes text)) }
+    ensures { IfOk result (WritesTokens R.kept R.faithful B.ended choice look reading names inputs rule bag runs) }
 {
     count_tokens(alloc, inputs, runs, bag, rule, reading, names)?;
     inputs.end_report();
@@ -183,7 +185,7 @@ pub fn show_rows<'a, 'b, B: Blocks<'a>, R: KeepsRuns<'a> + Drop, S: BuildHasher 
     look: Look,
 ) -> Result<JobText<'b, R::File>, Trouble<'a>>
     // If nothing was counted before, the text shows the tokens that the rows of all files count.
-    ensures { IfOk result (λ text. WritesRows R.kept R.faithful choice.entry look reading.encoding names.now (B.ended inputs.old) (B.ended inputs.new) form reading.bad_lines bag.old runs.old runs.new (job_bytes text)) }
+    ensures { IfOk result (WritesRows R.kept R.faithful B.ended choice look reading names inputs form bag runs) }
 {
     add_rows(alloc, inputs, runs, bag, form, reading, names)?;
     inputs.end_report();

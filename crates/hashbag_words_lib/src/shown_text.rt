@@ -1,7 +1,9 @@
 //! The text that shows the tokens of a bag.
 ghost use Rattle.std.specs.Prelude.{IfOk};
+ghost use Rattle.hashbag_words_lib.specs.Bars.{bars_text};
 ghost use Rattle.hashbag_words_lib.specs.RowText.{bytes_left};
-ghost use Rattle.hashbag_words_lib.specs.Shown.{shown_bytes, AreBarsOfKept, IsTextOfKept, ShowsCounted};
+ghost use Rattle.hashbag_words_lib.specs.Shown.{shown_bytes, ShowsCounted, ShowsKept};
+ghost use Rattle.hashbag_words_lib.specs.Writing.{text_of};
 
 use crate::bars::bars_of;
 use crate::choice::{Choice, chosen, keep_shown};
@@ -39,7 +41,7 @@ fn shown_text<'b, S: BuildHasher + Drop>(
     format: Format,
 ) -> Result<RowText<'b>, BagError>
     // For any list of tokens: if the bag has exactly the tokens of the list that are shown, the text shows the list.
-    ensures { IfOk result (λ text. IsTextOfKept choice.entry format bag.now (bytes_left text)) }
+    ensures { IfOk result (λ text. ShowsKept choice.entry (text_of format) bag.now (bytes_left text)) }
 {
     let rows = chosen(alloc, bag, choice.order)?;
     let text = RowText::new(alloc, format, rows)?;
@@ -54,7 +56,7 @@ fn shown_bars<S: BuildHasher + Drop>(
     width: usize,
 ) -> Result<Vec<u8>, BagError>
     // For any list of tokens: if the bag has exactly the tokens of the list that are shown, the text shows the list.
-    ensures { IfOk result (λ text. AreBarsOfKept choice.entry width bag.now text.items) }
+    ensures { IfOk result (λ text. ShowsKept choice.entry (bars_text width) bag.now text.items) }
 {
     let order = choice.order;
     let rows = chosen(alloc, bag, order)?;

@@ -1,11 +1,12 @@
-use Rattle.std.proofs.Common.{◌≡◌, ◌∷◌, ◌+◌, [], List, String, Global, length, sym, ◌∙◌, ap, arith, rules}
+use Rattle.std.proofs.Common.{◌≡◌, ◌∷◌, [], List, String, Global, sym, ◌∙◌, ap, rules}
 use Rattle.std.proofs.lemmas.List.{nil_from_length}
 use Rattle.std.specs.String.{string_eq}
-use Rattle.std.specs.Vec.Iter.{into_iter_items, into_iter_len}
+use Rattle.std.specs.Vec.Iter.{into_iter_items}
 use Rattle.hashbag_ledger_lib.specs.declared.movements.Entry.{Entry}
 use Rattle.hashbag_ledger_lib.specs.Counts.{differences_after, movements_of}
 use Rattle.hashbag_ledger_lib.specs.Ledger.{stock_of}
 use Rattle.hashbag_ledger_lib.proofs.CountLemmas.{compared_none, compared_one, compared_all}
+use Rattle.hashbag_ledger_lib.proofs.ListLemmas.{one_less}
 use Rattle.hashbag_ledger_lib.proofs.counting.differences_of.Goals as goal
 
 -- none has come
@@ -22,11 +23,8 @@ loop-record-preserved g c =
     let r = c.in-Some.record in
     let rest = into_iter_items c.next.new.self in
     let steps : into_iter_items at.record-iterator ≡ r ∷ rest = c.in-Some.ensures.steps.0 in
-    let shorter : into_iter_len c.next.new.self + 1 ≡ into_iter_len at.record-iterator = c.in-Some.ensures.steps.1 in
-    let fewer : length (into_iter_items at.record-iterator) ≡ length (r ∷ rest) = ap (λ (l : List _). length l) steps in
-    let was = at.invariant.long in
     record {
-      long = omega arith;
+      long = one_less _ _ _ _ _ steps c.in-Some.ensures.steps.1 at.invariant.long;
       compared = λ empty.
           compared_one string_eq (stock_of string_eq c.args.there.now.items) (stock_of string_eq c.args.counted.now.items) r.movement (ap movements_of steps) (at.invariant.compared empty) _ (stock_of string_eq c.compare.new.named.items)
           c.in_ok-compare.ensures.pushed c.in_ok-compare.ensures.noted;

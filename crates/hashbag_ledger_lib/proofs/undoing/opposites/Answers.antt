@@ -1,9 +1,10 @@
-use Rattle.std.proofs.Common.{◌≡◌, ◌∷◌, ◌+◌, [], List, length, sym, ◌∙◌, ap, subst, arith}
-use Rattle.std.specs.Vec.Iter.{into_iter_items, into_iter_len}
+use Rattle.std.proofs.Common.{◌≡◌, ◌∷◌, [], List, sym, ◌∙◌, ap, subst}
+use Rattle.std.specs.Vec.Iter.{into_iter_items}
 use Rattle.std.proofs.lemmas.List.{nil_from_length}
 use Rattle.hashbag_ledger_lib.specs.declared.movements.Movement.{Movement}
 use Rattle.hashbag_ledger_lib.specs.Undos.{opposites_of}
 use Rattle.hashbag_ledger_lib.proofs.UndoLemmas.{IsTurnedSoFar, one_turned, all_turned}
+use Rattle.hashbag_ledger_lib.proofs.ListLemmas.{one_less}
 use Rattle.hashbag_ledger_lib.proofs.undoing.opposites.Goals as goal
 
 -- one more movement
@@ -11,11 +12,8 @@ pub loop-movement-preserved : goal.loop-movement-preserved
 loop-movement-preserved g c =
     let at = c.loop-movement in
     let steps : into_iter_items at.movement-iterator ≡ c.in-Some.movement ∷ into_iter_items c.next.new.self = c.in-Some.ensures.steps.0 in
-    let shorter : into_iter_len c.next.new.self + 1 ≡ into_iter_len at.movement-iterator = c.in-Some.ensures.steps.1 in
-    let fewer : length (into_iter_items at.movement-iterator) ≡ length (c.in-Some.movement ∷ into_iter_items c.next.new.self) = ap (λ (l : List _). length l) steps in
-    let was = at.invariant.long in
     record {
-      long = omega arith;
+      long = one_less _ _ _ _ _ steps c.in-Some.ensures.steps.1 at.invariant.long;
       turned = one_turned c.turn.new.coming_in.items c.turn.new.going_out.items steps at.invariant.turned c.in_ok-turn.ensures.coming c.in_ok-turn.ensures.going;
     }
 

@@ -1,6 +1,4 @@
-use Rattle.std.proofs.Common.{List, ℕ, sym, subst}
 use Rattle.std.proofs.lemmas.Result.{on_ok_weaker}
-use Rattle.hashbag_words_lib.specs.Inputs.{ReadsBlock}
 use Rattle.hashbag_words_lib.proofs.InputLemmas.{so_far_ended, so_far_more, so_far_none}
 use Rattle.hashbag_words_lib.proofs.inputs.read_input.Goals as goal
 
@@ -11,23 +9,17 @@ steps-init g c =
 
 pub steps-preserved : goal.steps-preserved
 steps-preserved g c =
-    let ended = g.B.Blocks.ended in
     let begun = g.B.Blocks.begun in
-    let block = c.block-block.result.now in
-    let from = c.steps.inputs in
     let to = c.read.new.self in
-    let reads : ReadsBlock (begun from) (ended from) block (begun to) (ended to) = subst (λ (b : List ℕ). ReadsBlock (begun from) (ended from) b (begun to) (ended to)) (sym c.block-block.ensures) c.in_ok-read.ensures in
-    so_far_more g.C.Counter.has g.R.KeepsRuns.kept ended c.args.encoding c.args.name.now c.args.inputs.now from to (begun from) (begun to) c.steps.decoding.decoder c.feed.new.self.decoder c.args.counter.now c.steps.counter c.feed.new.counter
-    c.args.runs.now c.steps.runs c.feed.new.runs block c.steps.invariant reads c.if-is_empty.ensures c.in_ok-feed.ensures
+    so_far_more g.C.Counter.has g.R.KeepsRuns.kept g.B.Blocks.ended c.args.encoding c.args.name.now c.args.inputs.now c.steps.inputs to (begun c.steps.inputs) (begun to) c.steps.decoding.decoder c.feed.new.self.decoder
+    c.args.counter.now c.steps.counter c.feed.new.counter c.args.runs.now c.steps.runs c.feed.new.runs c.block-block.result.now (g.B.Blocks.last to) c.steps.invariant c.block-block.ensures c.in_ok-read.ensures
+    c.if-is_empty.ensures c.in_ok-feed.ensures
 
 pub returns-then-is_empty : goal.returns-then-is_empty
 returns-then-is_empty g c =
-    let ended = g.B.Blocks.ended in
     let begun = g.B.Blocks.begun in
-    let block = c.block-block.result.now in
-    let from = c.steps.inputs in
     let to = c.read.new.self in
-    let reads : ReadsBlock (begun from) (ended from) block (begun to) (ended to) = subst (λ (b : List ℕ). ReadsBlock (begun from) (ended from) b (begun to) (ended to)) (sym c.block-block.ensures) c.in_ok-read.ensures in
     on_ok_weaker c.end.result
-    (so_far_ended g.C.Counter.has g.R.KeepsRuns.kept ended c.args.encoding c.args.name.now c.args.inputs.now from to (begun from) (begun to) c.steps.decoding.decoder c.args.counter.now c.steps.counter c.args.runs.now c.steps.runs block c.steps.invariant reads c.if-is_empty.ensures)
+    (so_far_ended g.C.Counter.has g.R.KeepsRuns.kept g.B.Blocks.ended c.args.encoding c.args.name.now c.args.inputs.now c.steps.inputs to (begun c.steps.inputs) (begun to) c.steps.decoding.decoder c.args.counter.now
+    c.steps.counter c.args.runs.now c.steps.runs c.block-block.result.now (g.B.Blocks.last to) c.steps.invariant c.block-block.ensures c.in_ok-read.ensures c.if-is_empty.ensures)
     c.end.ensures

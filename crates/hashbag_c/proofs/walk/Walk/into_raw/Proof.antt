@@ -20,7 +20,7 @@ use denote.Exit.{yes}
 use denote.RattleType.{RattleType}
 use denote.RawPtr.{Ptr, block_ptr, null_ptr, ptr_val, tests_null, Testable}
 use denote.Param.{layout}
-use denote.Signature.{type_at}
+use denote.Signature.{type_at, plain}
 use denote.Steps.{nothing}
 use denote.Triple.Spec.{triple_of}
 use denote.Triple.Table.{entered}
@@ -40,7 +40,7 @@ use Rattle.std_heap.specs.contracts.GlobalAllocator.TheImpl.{ghosts}
 use Rattle.hashbag_c.specs.Own.{owned_left}
 use Rattle.hashbag_c.specs.contracts.held.Left as Left
 use Rattle.hashbag_c.specs.contracts.raw_box.RawBox as RawBox
-use Rattle.hashbag_c.proofs.AsBox.{LeftE as E, FromWalk as From}
+use Rattle.hashbag_c.proofs.AsBox.{LeftE as E}
 use Rattle.hashbag_c.proofs.HandleSteps.{Z, both, tested}
 use Rattle.hashbag_c.proofs.WalkSteps.{Row, walk_out}
 use Rattle.hashbag_c.specs.contracts.walk.Walk.into_raw as F
@@ -49,7 +49,7 @@ use Rattle.hashbag_c.proofs.walk.Walk.into_raw.Statement as stated
 use Rattle.hashbag_c.proofs.walk.Walk.into_raw.Code as code
 
 abbrev stayed : Stays (F.ended).signature.params (F.ended).kept
-stayed = (stay_dropped From yes, tt)
+stayed = (stay_dropped (plain (λ _. Row)) yes, tt)
 
 abbrev Lr : RattleType
 Lr = RawBox.the_row Left.the_row Heap.the_row ghosts
@@ -122,5 +122,5 @@ unfolding tables_of
 into_raw_spec 𝓤 𝓛 𝓜 𝓡 wired =
     let 𝓣 : Tables 𝓤 𝓛.H = tables_of 𝓤 𝓛.H 𝓜 (tables 𝓤 𝓛.H 𝓜 𝓡 𝓡.env) in
     entered 𝓤 𝓛.H (triple_of 𝓛 F.signature (F.spec 𝓛 𝓜.mem 𝓡.returns)) 𝓣.C 𝓣.Λ #self code.function (code.unfolded 𝓤 𝓛.H 𝓜 𝓡 wired)
-    (walk_Meets 𝓛 F.ended stayed (Goes-dropped 𝓛 0 From yes (λ κs x f. refl), tt) (F.clauses 𝓛 𝓜.mem 𝓡.returns) (WpFn 𝓤 𝓛.H 𝓣.C 𝓣.Λ code.function) (WpFn-mono 𝓤 𝓛.H 𝓛.laws 𝓣 code.function)
+    (walk_Meets 𝓛 F.ended stayed (Goes-dropped 𝓛 0 (plain (λ _. Row)) yes (λ κs x f. refl), tt) (F.clauses 𝓛 𝓜.mem 𝓡.returns) (WpFn 𝓤 𝓛.H 𝓣.C 𝓣.Λ code.function) (WpFn-mono 𝓤 𝓛.H 𝓛.laws 𝓣 code.function)
     (walk 𝓛 𝓜.mem 𝓡.returns 𝓣))

@@ -1,11 +1,12 @@
-use Rattle.std.proofs.Common.{◌≡◌, ◌∷◌, ◌+◌, [], List, String, Global, true, is_ok, length, refl, sym, ◌∙◌, ap, subst, arith, rules}
+use Rattle.std.proofs.Common.{◌≡◌, ◌∷◌, [], List, String, Global, true, is_ok, refl, sym, ◌∙◌, subst, rules}
 use Rattle.std.proofs.lemmas.List.{nil_from_length}
 use Rattle.std.proofs.lemmas.Result.{err_from_is_err_and}
 use Rattle.std.specs.String.{string_eq, string_cmp}
-use Rattle.std.specs.Vec.Iter.{into_iter_items, into_iter_len}
+use Rattle.std.specs.Vec.Iter.{into_iter_items}
 use Rattle.hashbag_ledger_lib.specs.declared.movements.Movement.{Movement}
 use Rattle.hashbag_ledger_lib.specs.Settled.{IsPastWithin}
 use Rattle.hashbag_ledger_lib.proofs.BookLemmas.{BookedSoFar, booked_none, booked_one, booked_past, booked_all}
+use Rattle.hashbag_ledger_lib.proofs.ListLemmas.{one_less}
 use Rattle.hashbag_ledger_lib.proofs.ledger.booking.book_all.Goals as goal
 
 -- none has come
@@ -21,13 +22,10 @@ pub loop-movement-preserved : goal.loop-movement-preserved
 loop-movement-preserved g c =
     let at = c.loop-movement in
     let steps : into_iter_items at.movement-iterator ≡ c.in-Some.movement ∷ into_iter_items c.next.new.self = c.in-Some.ensures.steps.0 in
-    let shorter : into_iter_len c.next.new.self + 1 ≡ into_iter_len at.movement-iterator = c.in-Some.ensures.steps.1 in
-    let fewer : length (into_iter_items at.movement-iterator) ≡ length (c.in-Some.movement ∷ into_iter_items c.next.new.self) = ap (λ (l : List _). length l) steps in
-    let was = at.invariant.long in
     let pushed : is_ok c.push.result ≡ true = sym (rw c.in_ok-map_err.was at c.map_err.ensures.variant) in
     let noted = rw pushed at c.push.ensures.items in
     record {
-      long = omega arith;
+      long = one_less _ _ _ _ _ steps c.in-Some.ensures.steps.1 at.invariant.long;
       booked = λ L h.
           subst (λ es. BookedSoFar string_eq L (into_iter_items c.into_iter-movement-iterator.result) (into_iter_items c.next.new.self) es c.outcome_of.new.stock) (sym noted)
           (booked_one string_eq L at.entries.items at.stock c.outcome_of.new.stock c.in-Some.movement c.in_ok-outcome.outcome steps (at.invariant.booked L h) (λ ms was. c.in_ok-outcome.ensures.next L ms was));

@@ -1,13 +1,17 @@
-use Rattle.std.proofs.Common.{◌≡◌, ◌⊎◌, List, vec_len, vec_capacity, ◌+◌, ◌<◌, inl, inr, refl, arith, rules}
+use Rattle.std.proofs.Common.{◌≡◌, ◌⊎◌, List, Vec, vec_len, vec_capacity, ◌+◌, ◌<◌, inl, inr, refl, arith, rules}
 use Rattle.std.proofs.lemmas.Result.{on_err_weaker}
 use Rattle.hashbag_table.proofs.EntryLemmas.{OnErr-from}
 use Rattle.hashbag_core.specs.Bag.{Bag}
 use Rattle.hashbag_script.specs.declared.script.Step.{Step}
 use Rattle.hashbag_script.specs.declared.script.Reply.{Reply}
-use Rattle.hashbag_script.specs.Pairs.{ran, HasNoRoom, IsPairNotBegun, IsPairNotBegunOrStopped}
+use Rattle.hashbag_script.specs.Pairs.{ran, HasNoRoom, IsPairNotBegun, IsPairNotBegunOrStopped, Stays}
 use Rattle.hashbag_script.proofs.BoundLemmas.{smaller_by}
 use Rattle.hashbag_script.proofs.TurnLemmas.{on_ok_from, on_ok_all, untouched_tables, untouched_bounded}
 use Rattle.hashbag_script.proofs.script.pair.run_pair.Goals as goal
+
+-- a bag that no call gets stays, with its replies
+stays : {T S B : Type 0} (bag : Bag T S) (old new : Vec (Reply T) B) → new.items ≡ old.items → Stays bag bag old new
+stays bag old new same = (refl, same)
 
 pub returns-clause-roomy : goal.returns-clause-roomy
 returns-clause-roomy g c X means_a roomy_a Y means_b roomy_b =
@@ -58,10 +62,10 @@ returns-in_err-reserve-clause-roomy g c X means_a roomy_a Y means_b roomy_b =
     OnErr-from _ (inl short)
 
 pub returns-in_err-reserve-clause-first_roomy : goal.returns-in_err-reserve-clause-first_roomy
-returns-in_err-reserve-clause-first_roomy g c X means_a roomy_a Y means_b roomy_b = OnErr-from _ (refl, c.in_err-reserve.ensures.items)
+returns-in_err-reserve-clause-first_roomy g c X means_a roomy_a Y means_b roomy_b = OnErr-from _ (stays c.args.a.now c.args.replies_a.now c.reserve.new.self c.in_err-reserve.ensures.items)
 
 pub returns-in_err-reserve-clause-second_roomy : goal.returns-in_err-reserve-clause-second_roomy
-returns-in_err-reserve-clause-second_roomy g c X means_a roomy_a Y means_b roomy_b = OnErr-from _ (refl, refl)
+returns-in_err-reserve-clause-second_roomy g c X means_a roomy_a Y means_b roomy_b = OnErr-from _ (stays c.args.b.now c.args.replies_b.now c.args.replies_b.now refl)
 
 pub returns-in_err-reserve-2-clause-roomy : goal.returns-in_err-reserve-2-clause-roomy
 returns-in_err-reserve-2-clause-roomy g c X means_a roomy_a Y means_b roomy_b =
@@ -70,10 +74,10 @@ returns-in_err-reserve-2-clause-roomy g c X means_a roomy_a Y means_b roomy_b =
     OnErr-from _ (inr short)
 
 pub returns-in_err-reserve-2-clause-first_roomy : goal.returns-in_err-reserve-2-clause-first_roomy
-returns-in_err-reserve-2-clause-first_roomy g c X means_a roomy_a Y means_b roomy_b = OnErr-from _ (refl, c.in_ok-reserve.ensures.items)
+returns-in_err-reserve-2-clause-first_roomy g c X means_a roomy_a Y means_b roomy_b = OnErr-from _ (stays c.args.a.now c.args.replies_a.now c.reserve.new.self c.in_ok-reserve.ensures.items)
 
 pub returns-in_err-reserve-2-clause-second_roomy : goal.returns-in_err-reserve-2-clause-second_roomy
-returns-in_err-reserve-2-clause-second_roomy g c X means_a roomy_a Y means_b roomy_b = OnErr-from _ (refl, c.in_err-reserve-2.ensures.items)
+returns-in_err-reserve-2-clause-second_roomy g c X means_a roomy_a Y means_b roomy_b = OnErr-from _ (stays c.args.b.now c.args.replies_b.now c.reserve-2.new.self c.in_err-reserve-2.ensures.items)
 
 -- no run was begun, since there was no room for the replies
 not_begun : {T S S2 : Type 0} (a : Bag T S) (b : Bag T S2) (steps_a steps_b : List (Step T)) (before_a after_a before_b after_b : List (Reply T)) (NoRoom : Type 0)
