@@ -1,8 +1,8 @@
 #!/usr/bin/env bash
 # bash tests/pages/words_of_pages.sh [PAGE]..: looks for house words, and for sentences above 40 words, in the prose of the pages: README.md, those of docs/,
-# CHANGELOG.md, engines/README.md and the doc comments (`///` and `//!`) of all crates, also those of beside/, if no page is named. API.md and
-# REFUSED.md are made from sources, so they aren't read. Fenced and indented code, code spans and the targets of links are no prose; a code span
-# counts as one word. The cells of a table, the items of a list and headings are apart from one another.
+# CHANGELOG.md, engines/README.md and the doc comments (`///` and `//!`) of all crates, also those of beside/, if no page is named. API.md is
+# made from sources, so it isn't read. Fenced and indented code, code spans and the targets of links are no prose; a code span counts as one
+# word. The cells of a table, the items of a list and headings are apart from one another.
 # It prints a line for each, with the page and the line. The last line is 'words_of_pages: N house words, M long sentences', and the status is 1
 # unless both are 0.
 set -u
@@ -26,7 +26,7 @@ crates/hashbag_stock/src/writing.rt: are refused
 if [ $# = 0 ]; then
   set -- README.md CHANGELOG.md engines/README.md
   while IFS= read -r page; do
-    case $page in docs/use/API.md | docs/prove/REFUSED.md) ;; *) set -- "$@" "$page" ;; esac
+    case $page in docs/use/API.md) ;; *) set -- "$@" "$page" ;; esac
   done < <({ find docs -name '*.md'; find crates/*/src beside/crates/*/src -name '*.rt' -o -name '*.rs'; } | LC_ALL=C sort)
 fi
 EXCEPTIONS=$exceptions LC_ALL=C exec awk '
