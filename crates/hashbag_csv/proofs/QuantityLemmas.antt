@@ -10,22 +10,22 @@ use Rattle.std.proofs.lemmas.List.{map-id, take_more}
 use Rattle.std.proofs.lemmas.List.Elements.{All-contains}
 use Rattle.std.proofs.lemmas.List.Sums.{sum_by-cons, sum_by_push, sum_by-take-le}
 use Rattle.std.proofs.lemmas.List.Sorted.{ranks_by, IsPermutation-refl, sum_by-IsPermutation}
-use Rattle.hashbag.specs.declared.BagError.{BagError}
-use Rattle.hashbag.specs.declared.BagError.TheVariants.{Memory, TooMany, BelowTotal}
-use Rattle.hashbag.specs.Bag.{Bag, occurrences}
-use Rattle.hashbag.specs.EqualityLaws.{count_append}
-use Rattle.hashbag.specs.Extends.{AsItIs, MayFailWith}
-use Rattle.hashbag.specs.Inserts.{InsertsAll, InsertsUpTo, MayFailPair, empty_bag}
-use Rattle.hashbag.specs.Occurrences.{greatest_total, count}
-use Rattle.hashbag.specs.Walks.{IsSetWalk, IsSetWalkOf}
-use Rattle.hashbag.proofs.ContainsLemmas.{All-from_Contains, Contains-map, Contains-same}
-use Rattle.hashbag.proofs.CallerLemmas.{count_extended, items_that_came, pairs_as_they_are}
-use Rattle.hashbag.proofs.ExcessLemmas.{an_instance}
-use Rattle.hashbag.proofs.InsertLemmas.{all_added, length_in_turn, longer_by_numbers, some_added}
-use Rattle.hashbag.proofs.JoinLemmas.{in_walk, count_of_item}
-use Rattle.hashbag.proofs.JsonWriteLemmas.{set_walk_reordered, once_in_walk}
-use Rattle.hashbag.proofs.Laws.{count_added}
-use Rattle.hashbag.proofs.OccurrenceLemmas.{count_rearranged}
+use Rattle.hashbag_core.specs.declared.bag.BagError.{BagError}
+use Rattle.hashbag_core.specs.declared.bag.BagError.TheVariants.{Memory, TooMany, BelowTotal}
+use Rattle.hashbag_core.specs.Bag.{Bag, occurrences}
+use Rattle.hashbag_core.specs.EqualityLaws.{count_append}
+use Rattle.hashbag_core.specs.Extends.{AsItIs, MayFailWith}
+use Rattle.hashbag_core.specs.Inserts.{InsertsAll, InsertsUpTo, MayFailPair, empty_bag}
+use Rattle.hashbag_core.specs.Occurrences.{greatest_total, count}
+use Rattle.hashbag_core.specs.Walks.{IsSetWalk, IsSetWalkOf}
+use Rattle.hashbag_core.proofs.ContainsLemmas.{All-from_Contains, Contains-map, Contains-same}
+use Rattle.hashbag_core.proofs.CallerLemmas.{count_extended, items_that_came, pairs_as_they_are}
+use Rattle.hashbag_core.proofs.ExcessLemmas.{an_instance}
+use Rattle.hashbag_core.proofs.InsertLemmas.{all_added, length_in_turn, longer_by_numbers, some_added}
+use Rattle.hashbag_core.proofs.JoinLemmas.{in_walk, count_of_item}
+use Rattle.hashbag_core.proofs.JsonWriteLemmas.{set_walk_reordered, once_in_walk}
+use Rattle.hashbag_core.proofs.Laws.{count_added}
+use Rattle.hashbag_core.proofs.OccurrenceLemmas.{count_rearranged}
 use Rattle.hashbag_csv.specs.Quantities.{number_sum, quantity, IsBalance}
 use Rattle.hashbag_csv.proofs.SortedLemmas.{keys_rise}
 

@@ -4,7 +4,7 @@ use Rattle.std.specs.List.{Contains}
 use Rattle.std.specs.List.Sorted.{IsStrictlySortedBy}
 use Rattle.std.specs.Map.{keys_of}
 use Rattle.std.specs.declared.cmp.Ordering.{Ordering}
-use Rattle.hashbag.specs.Occurrences.{count}
+use Rattle.hashbag_core.specs.Occurrences.{count}
 
 -- the sum of all numbers of a list
 abbrev pub number_sum : {T : Type 0} → List (T × ℕ) → ℕ

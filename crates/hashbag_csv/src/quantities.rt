@@ -1,9 +1,9 @@
 //! Conversions between a list of articles with quantities and a bag.
 ghost use Rattle.std.specs.Prelude.{◌≡◌, ◌≤◌, [], length, IfOk, IfErr, OnOk};
-ghost use Rattle.hashbag.specs.Occurrences.{count};
+ghost use Rattle.hashbag_core.specs.Occurrences.{count};
 ghost use Rattle.hashbag_csv.specs.Quantities.{number_sum, quantity, IsBalance};
 
-use hashbag::{BagError, HashBag};
+use hashbag_core::{BagError, HashBag};
 use std::alloc::{AllocError, Global};
 use std::hash::{BuildHasher, Hash};
 

@@ -4,8 +4,8 @@ use Rattle.std.specs.Cmp.{IsEquivalence}
 use Rattle.std.specs.String.{string_eq, string_eq_equiv}
 use Rattle.std.proofs.lemmas.Bool.{lt-ltb}
 use Rattle.std.proofs.lemmas.List.{append_assoc, append-nil}
-use Rattle.hashbag.specs.Bag.{Bag}
-use Rattle.hashbag.specs.EqualityLaws.{count_congr}
+use Rattle.hashbag_core.specs.Bag.{Bag}
+use Rattle.hashbag_core.specs.EqualityLaws.{count_congr}
 use Rattle.hashbag_csv.specs.Quantities.{IsBalance}
 use Rattle.hashbag_ledger_lib.specs.declared.movements.Entry.{Entry}
 use Rattle.hashbag_ledger_lib.specs.declared.movements.Movement.{Movement}

@@ -1,10 +1,10 @@
 -- One movement that is entered into a bag.
 use Rattle.std.proofs.Common.{◌≡◌, ℕ, ◌+◌, ◌-◌, ◌≤◌, Bool, true, false, cond, sym, ◌∙◌, subst, refl, arith}
 use Rattle.std.specs.Cmp.{IsEquivalence}
-use Rattle.hashbag.specs.Bag.{Bag, IsBagOf}
-use Rattle.hashbag.specs.EqualityLaws.{count_congr}
-use Rattle.hashbag.specs.Occurrences.{count, add, less}
-use Rattle.hashbag.proofs.CallerLemmas.{count_means, count_inserted_any, count_less}
+use Rattle.hashbag_core.specs.Bag.{Bag, IsBagOf}
+use Rattle.hashbag_core.specs.EqualityLaws.{count_congr}
+use Rattle.hashbag_core.specs.Occurrences.{count, add, less}
+use Rattle.hashbag_core.proofs.CallerLemmas.{count_means, count_inserted_any, count_less}
 use Rattle.hashbag_ledger_lib.specs.declared.movements.Change.{Change}
 use Rattle.hashbag_ledger_lib.specs.declared.movements.Change.TheVariants.{In, Out}
 use Rattle.hashbag_ledger_lib.specs.declared.movements.Movement.{Movement}

@@ -3,7 +3,7 @@ use Rattle.std.proofs.Common.{◌≡◌, ℕ, Bor, List, [], ◌∷◌, ◌++◌
 use Rattle.std.proofs.lemmas.List.{append-nil, map-append}
 use Rattle.std.proofs.lemmas.List.Elements.{All-push}
 use Rattle.std.specs.String.{string_eq}
-use Rattle.hashbag.specs.Bag.{Bag}
+use Rattle.hashbag_core.specs.Bag.{Bag}
 use Rattle.hashbag_csv.specs.Lines.{place_of}
 use Rattle.hashbag_csv.specs.Readers.{Record}
 use Rattle.hashbag_csv.specs.declared.scale.Scale.{Scale}

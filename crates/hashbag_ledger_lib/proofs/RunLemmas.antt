@@ -1,7 +1,7 @@
 -- A ledger after one more movement, and after all of a list.
 use Rattle.std.proofs.Common.{◌≡◌, ◌≢◌, ◌⊎◌, ℕ, ◌+◌, ◌<◌, ◌≤◌, Bool, List, [], ◌∷◌, ◌++◌, length, inl, inr, refl, sym, ◌∙◌, ap, subst}
 use Rattle.std.proofs.lemmas.List.{append_assoc, append-nil}
-use Rattle.hashbag.specs.Bag.{Bag}
+use Rattle.hashbag_core.specs.Bag.{Bag}
 use Rattle.hashbag_ledger_lib.specs.declared.entering.LedgerError.{LedgerError}
 use Rattle.hashbag_ledger_lib.specs.declared.entering.LedgerError.TheVariants.{Memory, TooMany}
 use Rattle.hashbag_ledger_lib.specs.declared.movements.Movement.{Movement}

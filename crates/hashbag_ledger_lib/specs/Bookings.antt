@@ -2,7 +2,7 @@
 use Rattle.std.specs.Prelude.{ℕ, ◌++◌, List, [], ◌∷◌, String, string_cmp}
 use Rattle.std.specs.Global.{Global}
 use Rattle.std.specs.String.{string_eq}
-use Rattle.hashbag.specs.Bag.{Bag}
+use Rattle.hashbag_core.specs.Bag.{Bag}
 use Rattle.hashbag_ledger_lib.specs.declared.ledger.booking.Booked.{Booked}
 use Rattle.hashbag_ledger_lib.specs.declared.movements.Movement.{Movement}
 use Rattle.hashbag_ledger_lib.specs.declared.movements.Outcome.{Outcome}

@@ -10,7 +10,7 @@ use Rattle.std.specs.Ordering.{nat_cmp}
 use Rattle.std.specs.String.{string_bytes}
 use Rattle.std.specs.declared.cmp.Ordering.{Ordering}
 use Rattle.std.specs.declared.cmp.Ordering.TheVariants.{Less, Equal, Greater}
-use Rattle.hashbag.specs.Occurrences.{count}
+use Rattle.hashbag_core.specs.Occurrences.{count}
 use Rattle.hashbag_ledger_lib.specs.Ledger.{coming, going}
 use Rattle.hashbag_ledger_lib.specs.Numbers.{size}
 use Rattle.hashbag_ledger_lib.specs.declared.dated.Part.{Part}

@@ -10,7 +10,7 @@ use crate::ledger::booking::book_batch;
 use crate::ledger::stock_at_start;
 use crate::movements::{Change, Entry, Movement, Place};
 use crate::numbers::MOST;
-use hashbag::{BagError, HashBag};
+use hashbag_core::{BagError, HashBag};
 use std::alloc::{AllocError, Global};
 use std::hash::BuildHasher;
 

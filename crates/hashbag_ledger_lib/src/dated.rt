@@ -4,7 +4,7 @@ ghost use Rattle.std.specs.Map.{keys_of};
 ghost use Rattle.hashbag_ledger_lib.specs.Dated.{amount, byte_rows, counting_by, counts_by, moved, moved_at, net, HasSumsOf, IsBalanceAt, IsNetOf};
 
 use crate::movements::{Change, Entry, Outcome};
-use hashbag::{BagError, HashBag};
+use hashbag_core::{BagError, HashBag};
 use hashbag_csv::quantities::{bag_of, balance_of};
 use std::alloc::{AllocError, Global};
 use std::cmp::Ordering;

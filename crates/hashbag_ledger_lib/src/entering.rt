@@ -3,7 +3,7 @@ ghost use Rattle.std.specs.Prelude.{◌≡◌, ◌⊎◌, ◌+◌, ◌≤◌, �
 ghost use Rattle.hashbag_ledger_lib.specs.Ledger.{coming, stock_of, ChangesItems, ChangesTotal, PassesLimitWith, RefusesMovement};
 
 use crate::movements::{Change, Movement, Place, Refusal};
-use hashbag::{BagError, HashBag};
+use hashbag_core::{BagError, HashBag};
 use std::alloc::{AllocError, Global};
 use std::hash::{BuildHasher, Hash};
 

@@ -1,7 +1,7 @@
 //! A stock into which movements are entered one by one. The clauses hold whatever list the stock had at the beginning, and whatever movements
 //! have come since.
 ghost use Rattle.std.specs.Prelude.{◌≡◌, ◌⊎◌, ◌<◌, ◌↔◌, ◌≤◌, [], length, IsTrue, IfOk, IfErr, OnOk};
-ghost use Rattle.hashbag.specs.Occurrences.{count};
+ghost use Rattle.hashbag_core.specs.Occurrences.{count};
 ghost use Rattle.hashbag_csv.specs.Quantities.{number_sum, quantity};
 ghost use Rattle.hashbag_ledger_lib.specs.Ledgers.{AreRefusalsOf, EntersMovement, IsBalanceOf, IsLeftBy, LedgerPassesLimitWith};
 ghost use Rattle.hashbag_ledger_lib.specs.Errors.{IfTooMany};
@@ -13,7 +13,7 @@ pub mod booking;
 
 use crate::entering::{LedgerError, enter};
 use crate::movements::{Movement, Refusal};
-use hashbag::HashBag;
+use hashbag_core::HashBag;
 use hashbag_csv::quantities::balance_of;
 use std::alloc::{AllocError, Global};
 use std::hash::{BuildHasher, Hash};

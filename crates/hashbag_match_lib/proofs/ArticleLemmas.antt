@@ -6,13 +6,13 @@ use Rattle.std.specs.List.{IsDistinct, AllByRecursion, Contains}
 use Rattle.std.proofs.lemmas.Bool.{and_from, and_parts, cases_lt}
 use Rattle.std.proofs.lemmas.List.Elements.{All-append, All-contains, All-weaker, Contains-append_left, Contains-append_right}
 use Rattle.std.proofs.lemmas.Map.Keys.{IsDistinct-cons, IsDistinct-head, IsDistinct-tail}
-use Rattle.hashbag.specs.EqualityLaws.{count_congr}
-use Rattle.hashbag.specs.Joins.{IsOuterJoin}
-use Rattle.hashbag.specs.Occurrences.{count}
-use Rattle.hashbag.proofs.ContainsLemmas.{All-from_Contains, Contains-filter, Contains-filter_back, Contains-tail}
-use Rattle.hashbag.proofs.ExcessLemmas.{an_instance}
-use Rattle.hashbag.proofs.JoinLemmas.{count_of_item}
-use Rattle.hashbag.proofs.MemberLemmas.{Contains-head, map-map}
+use Rattle.hashbag_core.specs.EqualityLaws.{count_congr}
+use Rattle.hashbag_core.specs.Joins.{IsOuterJoin}
+use Rattle.hashbag_core.specs.Occurrences.{count}
+use Rattle.hashbag_core.proofs.ContainsLemmas.{All-from_Contains, Contains-filter, Contains-filter_back, Contains-tail}
+use Rattle.hashbag_core.proofs.ExcessLemmas.{an_instance}
+use Rattle.hashbag_core.proofs.JoinLemmas.{count_of_item}
+use Rattle.hashbag_core.proofs.MemberLemmas.{Contains-head, map-map}
 use Rattle.hashbag_match_lib.specs.declared.matching.Row.{Row}
 use Rattle.hashbag_match_lib.specs.Tallies.{in_neither, row_of_join, zero_row}
 

@@ -8,8 +8,8 @@ use Rattle.hashbag_csv.specs.Readers.{Record}
 use Rattle.hashbag_csv.specs.declared.line_form.LineForm.{LineForm}
 use Rattle.hashbag_csv.specs.declared.scale.Scale.{Scale}
 use Rattle.hashbag_csv.proofs.BadLineLemmas.{map_copied}
-use Rattle.hashbag.specs.Bag.{Bag}
-use Rattle.hashbag.proofs.MemberLemmas.{map-map}
+use Rattle.hashbag_core.specs.Bag.{Bag}
+use Rattle.hashbag_core.proofs.MemberLemmas.{map-map}
 use Rattle.hashbag_match_lib.specs.Fields.{IsTallyOfLines}
 use Rattle.hashbag_match_lib.specs.Tallies.{IsTallyOf}
 

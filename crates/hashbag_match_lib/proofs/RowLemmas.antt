@@ -10,13 +10,13 @@ use Rattle.std.proofs.lemmas.List.Elements.{All-contains}
 use Rattle.std.proofs.lemmas.List.Sorted.{Contains-permutation, IsPermutation-map, IsPermutation-sym, sum_by-IsPermutation}
 use Rattle.std.proofs.lemmas.List.Sums.{sum_by-cons}
 use Rattle.std.proofs.lemmas.Map.Keys.{IsDistinct-IsPermutation}
-use Rattle.hashbag.specs.Bag.{Bag}
-use Rattle.hashbag.specs.Equality.{bag_eq}
-use Rattle.hashbag.specs.EqualityLaws.{same_counts-Decides}
-use Rattle.hashbag.specs.Joins.{IsOuterJoin}
-use Rattle.hashbag.specs.Occurrences.{count}
-use Rattle.hashbag.proofs.ContainsLemmas.{All-from_Contains, Contains-map, Contains-map_back}
-use Rattle.hashbag.proofs.MemberLemmas.{map-map}
+use Rattle.hashbag_core.specs.Bag.{Bag}
+use Rattle.hashbag_core.specs.Equality.{bag_eq}
+use Rattle.hashbag_core.specs.EqualityLaws.{same_counts-Decides}
+use Rattle.hashbag_core.specs.Joins.{IsOuterJoin}
+use Rattle.hashbag_core.specs.Occurrences.{count}
+use Rattle.hashbag_core.proofs.ContainsLemmas.{All-from_Contains, Contains-map, Contains-map_back}
+use Rattle.hashbag_core.proofs.MemberLemmas.{map-map}
 use Rattle.hashbag_csv.specs.Quantities.{quantity, times}
 use Rattle.hashbag_csv.proofs.SortedLemmas.{keys_rise}
 use Rattle.hashbag_match_lib.specs.declared.matching.Row.{Row}

@@ -4,8 +4,8 @@ use borrow.Author.Tests.{eqb-true, eq-eqb}
 use Rattle.std.specs.Map.{keys_of}
 use Rattle.std.proofs.lemmas.Bool.{false≢true}
 use Rattle.std.proofs.lemmas.List.Sums.{sum_by-cons, sum_by_push}
-use Rattle.hashbag.specs.Bag.{Bag}
-use Rattle.hashbag.specs.Occurrences.{count, greatest_total}
+use Rattle.hashbag_core.specs.Bag.{Bag}
+use Rattle.hashbag_core.specs.Occurrences.{count, greatest_total}
 use Rattle.hashbag_csv.specs.Quantities.{number_sum, quantity, times}
 use Rattle.hashbag_match_lib.specs.Tallies.{zeros_of, IsTallyOf}
 

@@ -11,7 +11,7 @@ use Rattle.std.specs.declared.cmp.Ordering.TheVariants.{Less, Equal, Greater}
 use Rattle.std.proofs.lemmas.List.{length-map}
 use Rattle.std.proofs.lemmas.List.Sums.{sum_by-cons}
 use Rattle.std.proofs.lemmas.List.Elements.{All-contains, All-map}
-use Rattle.hashbag.proofs.ContainsLemmas.{All-from_Contains, Contains-map, Contains-map_back}
+use Rattle.hashbag_core.proofs.ContainsLemmas.{All-from_Contains, Contains-map, Contains-map_back}
 use Rattle.hashbag_csv.specs.Articles.{same_article}
 use Rattle.hashbag_csv.specs.FirstLines.{Carried}
 use Rattle.hashbag_csv.specs.LineColumns.{line_bytes}

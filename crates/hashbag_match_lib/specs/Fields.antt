@@ -1,6 +1,6 @@
 -- Tallies of lines whose articles are given as the bytes of their fields.
 use Rattle.std.specs.Prelude.{◌≡◌, ℕ, Bool, List, ◌++◌, map}
-use Rattle.hashbag.specs.Bag.{Bag}
+use Rattle.hashbag_core.specs.Bag.{Bag}
 use Rattle.hashbag_csv.specs.LineColumns.{line_by, line_bytes}
 use Rattle.hashbag_csv.specs.Readers.{Record}
 use Rattle.hashbag_csv.specs.Sheets.{left}

@@ -3,9 +3,9 @@ use Rattle.std.specs.Prelude.{◌≡◌, ℕ, ◌+◌, ◌≤◌, ◌==◌, ◌&
 use Rattle.std.specs.Borrow.{Bor}
 use Rattle.std.specs.Global.{Vec}
 use Rattle.std.specs.declared.cmp.Ordering.{Ordering}
-use Rattle.hashbag.specs.Bag.{Bag}
-use Rattle.hashbag.specs.Joins.{IsOuterJoin}
-use Rattle.hashbag.specs.Occurrences.{count, greatest_total}
+use Rattle.hashbag_core.specs.Bag.{Bag}
+use Rattle.hashbag_core.specs.Joins.{IsOuterJoin}
+use Rattle.hashbag_core.specs.Occurrences.{count, greatest_total}
 use Rattle.hashbag_csv.specs.Quantities.{number_sum, quantity, times}
 use Rattle.hashbag_match_lib.specs.Matching.{AreRows, lent_rows}
 use Rattle.hashbag_match_lib.specs.declared.matching.Row.{Row}

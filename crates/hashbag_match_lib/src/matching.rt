@@ -5,7 +5,7 @@ ghost use Rattle.hashbag_match_lib.specs.Tallies.{in_neither, AppendsZeroRows, A
 
 use crate::tally::Tally;
 use crate::totals::{Totals, totals_of};
-use hashbag::HashBag;
+use hashbag_core::HashBag;
 use std::alloc::{AllocError, Global};
 use std::hash::{BuildHasher, Hash};
 

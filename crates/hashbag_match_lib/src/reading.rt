@@ -7,7 +7,7 @@ ghost use Rattle.hashbag_match_lib.specs.Fields.{TalliesLines, TalliesMore, line
 ghost use Rattle.hashbag_match_lib.specs.Tallies.{TalliesOneMore};
 
 use crate::tally::{Tally, empty_tally};
-use hashbag::BagError;
+use hashbag_core::BagError;
 use hashbag_csv::article::Article;
 use hashbag_csv::counts::Reading;
 use hashbag_csv::fault::SheetError;

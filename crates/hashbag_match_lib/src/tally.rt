@@ -2,7 +2,7 @@
 ghost use Rattle.std.specs.Prelude.{◌≡◌, ℕ, ◌+◌, ◌<◌, ◌≤◌, ◌↔◌, [], List, length, IfErr, OnOk, OnErr};
 ghost use Rattle.hashbag_match_lib.specs.Tallies.{IsTallyOf, TalliesOneMore, TalliesSame, total_with};
 
-use hashbag::{BagError, HashBag};
+use hashbag_core::{BagError, HashBag};
 use std::alloc::Global;
 use std::hash::{BuildHasher, Hash};
 

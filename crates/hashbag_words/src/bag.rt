@@ -4,7 +4,7 @@ ghost use Rattle.hashbag_words_lib.specs.MergingRuns.{HasRuns, IsFaithful};
 ghost use Rattle.hashbag_words_lib.specs.Reads.{bytes_of_text};
 
 use crate::runs::Runs;
-use hashbag::HashBag;
+use hashbag_core::HashBag;
 use hashbag_shell::trouble::Trouble;
 use hashbag_words_lib::choice::Choice;
 use hashbag_words_lib::feeding::KeepsRuns;

@@ -3,11 +3,11 @@ use Rattle.std.proofs.Common.{◌≡◌, ℕ, ◌+◌, cond, List, [], ◌∷◌
 use Rattle.std.specs.Cmp.Lexicographic.{bytes_decides, nat_list_eq_equiv}
 use Rattle.std.specs.String.{string_eq_equiv}
 use Rattle.std.proofs.lemmas.List.Sums.{sum_by-cons}
-use Rattle.hashbag.specs.Bag.{Bag, IsBagOf}
-use Rattle.hashbag.specs.EqualityLaws.{count_append}
-use Rattle.hashbag.specs.Keys.{InsertsNamed}
-use Rattle.hashbag.specs.Occurrences.{count, add}
-use Rattle.hashbag.proofs.CallerLemmas.{count_inserted_any, count_inserted_key, text_names_one}
+use Rattle.hashbag_core.specs.Bag.{Bag, IsBagOf}
+use Rattle.hashbag_core.specs.EqualityLaws.{count_append}
+use Rattle.hashbag_core.specs.Keys.{InsertsNamed}
+use Rattle.hashbag_core.specs.Occurrences.{count, add}
+use Rattle.hashbag_core.proofs.CallerLemmas.{count_inserted_any, count_inserted_key, text_names_one}
 use Rattle.hashbag_words_lib.specs.Counts.{texts_in, AddsTexts, AddsTimes}
 use Rattle.hashbag_words_lib.specs.Sorted.{of_row, row_of, times_in}
 use Rattle.hashbag_words_lib.proofs.TextLemmas.{adds}

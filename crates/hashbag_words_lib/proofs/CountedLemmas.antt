@@ -7,9 +7,9 @@ use Rattle.std.proofs.lemmas.List.{append-nil, get_or_at, get_or_default, get_or
 use Rattle.std.proofs.lemmas.List.Elements.{All-nil, All-cons, All-append, filter-append}
 use Rattle.std.proofs.lemmas.List.Splits.{slice_split_none}
 use Rattle.std.proofs.lemmas.List.Sums.{sum_by_push}
-use Rattle.hashbag.specs.Bag.{Bag}
-use Rattle.hashbag.specs.EqualityLaws.{count_append}
-use Rattle.hashbag.specs.Occurrences.{count}
+use Rattle.hashbag_core.specs.Bag.{Bag}
+use Rattle.hashbag_core.specs.EqualityLaws.{count_append}
+use Rattle.hashbag_core.specs.Occurrences.{count}
 use Rattle.hashbag_words_lib.specs.Counts.{texts_in, AddsTexts}
 use Rattle.hashbag_words_lib.specs.Counted.{how_many, Counted, HaveTogether, IsFirstBad, IsReadingOf, NoLineFeed, NoneIsBad}
 use Rattle.hashbag_words_lib.specs.LineEnds.{EndsLine}

@@ -3,7 +3,7 @@ use Rattle.std.proofs.Common.{◌≡◌, inl, inr, ℕ, List, [], ◌∷◌, ◌
 use Rattle.std.proofs.lemmas.Grind.{flat_map-append}
 use Rattle.std.proofs.lemmas.List.{append-nil}
 use Rattle.std.specs.Global.{Global}
-use Rattle.hashbag.specs.Bag.{Bag}
+use Rattle.hashbag_core.specs.Bag.{Bag}
 use Rattle.hashbag_words_lib.specs.Added.{Added, AddsBytes, AreRowsOf, EndsFile, KeepsAddedInRun}
 use Rattle.hashbag_words_lib.specs.Counted.{Counted, CountsBytes, EndsWholeText, HasCounted, KeepsCountedInRun}
 use Rattle.hashbag_words_lib.specs.Feeding.{AreRowsOfAll, EndsText, HasAddedTexts, AddsFed, HasCountedTexts, KeepsCounts, KeepsRun}

@@ -4,8 +4,8 @@ use Rattle.std.proofs.lemmas.List.Sums.{sum_by_push}
 use Rattle.std.proofs.lemmas.Result.{IfOk-weaker}
 use Rattle.std.specs.Global.{Global}
 use Rattle.std.specs.Str.{bytes_eq}
-use Rattle.hashbag.specs.Bag.{Bag}
-use Rattle.hashbag.specs.Occurrences.{count}
+use Rattle.hashbag_core.specs.Bag.{Bag}
+use Rattle.hashbag_core.specs.Occurrences.{count}
 use Rattle.hashbag_text.specs.declared.encoding.Encoding.{Encoding}
 use Rattle.hashbag_words_lib.specs.Added.{HasAdded, HaveRows}
 use Rattle.hashbag_words_lib.specs.Counted.{HasCounted, HaveTogether}

@@ -4,12 +4,12 @@ use Rattle.std.specs.String.{string_eq_equiv}
 use Rattle.serde_json.specs.Data.{Data}
 use Rattle.serde_json.specs.Find.{as_str}
 use Rattle.serde_json.specs.Read.{read as read_text}
-use Rattle.hashbag.specs.Bag.{Bag}
-use Rattle.hashbag.specs.Inserts.{IsMadeOf}
-use Rattle.hashbag.specs.JsonTrees.{IsReading}
-use Rattle.hashbag.specs.Occurrences.{count}
-use Rattle.hashbag.proofs.CallerLemmas.{count_extended}
-use Rattle.hashbag.proofs.InsertLemmas.{made_means}
+use Rattle.hashbag_core.specs.Bag.{Bag}
+use Rattle.hashbag_core.specs.Inserts.{IsMadeOf}
+use Rattle.hashbag_core.specs.JsonTrees.{IsReading}
+use Rattle.hashbag_core.specs.Occurrences.{count}
+use Rattle.hashbag_core.proofs.CallerLemmas.{count_extended}
+use Rattle.hashbag_core.proofs.InsertLemmas.{made_means}
 use Rattle.hashbag_words_lib.specs.Merging.{AddsTree}
 
 none_before : (n : ℕ) → 0 + n ≡ n

@@ -12,9 +12,9 @@ use Rattle.std.proofs.lemmas.Str.Parse.{without_leading_plus_none}
 use Rattle.std.proofs.lemmas.List.{append-nil}
 use Rattle.std.proofs.lemmas.List.Elements.{All-nil, All-cons, All-append, All-get_or, All-head, All-tail}
 use Rattle.std.proofs.lemmas.List.Sums.{sum_by-cons}
-use Rattle.hashbag.specs.Bag.{Bag, occurrences}
-use Rattle.hashbag.specs.Occurrences.{greatest_total}
-use Rattle.hashbag.specs.Walks.{IsSetWalkOf}
+use Rattle.hashbag_core.specs.Bag.{Bag, occurrences}
+use Rattle.hashbag_core.specs.Occurrences.{greatest_total}
+use Rattle.hashbag_core.specs.Walks.{IsSetWalkOf}
 use Rattle.hashbag_core.proofs.OccurrenceLemmas.{count_rearranged}
 use Rattle.hashbag_ops.proofs.Sums.{count_written}
 use Rattle.hashbag_words_lib.specs.Rows.{byte_of, escaped, letter_of, row, shown_as}

@@ -5,10 +5,10 @@ use Rattle.std.specs.List.Sorted.{IsStrictlySortedBy}
 use Rattle.std.specs.Map.{keys_of}
 use Rattle.std.specs.String.{string_eq_equiv}
 use Rattle.std.proofs.lemmas.List.{take-map}
-use Rattle.hashbag.specs.Bag.{Bag, occurrences}
-use Rattle.hashbag.specs.Walks.{IsSetWalkOf}
+use Rattle.hashbag_core.specs.Bag.{Bag, occurrences}
+use Rattle.hashbag_core.specs.Walks.{IsSetWalkOf}
 use Rattle.hashbag_core.proofs.OccurrenceLemmas.{count_rearranged}
-use Rattle.hashbag.proofs.JsonWriteLemmas.{once_in_walk}
+use Rattle.hashbag_core.proofs.JsonWriteLemmas.{once_in_walk}
 use Rattle.hashbag_ops.proofs.Sums.{count_written}
 use Rattle.hashbag_ops.specs.Order.{rank}
 use Rattle.hashbag_words_lib.specs.Choice.{KeepsShown, AreChosen}

@@ -7,7 +7,7 @@ use Rattle.std.specs.Map.{keys_of}
 use Rattle.std.proofs.lemmas.List.Sorted.{IsPermutation-map, sum_by-IsPermutation}
 use Rattle.std.proofs.lemmas.List.Sums.{sum_by-append, sum_by-cons}
 use Rattle.std.proofs.lemmas.Map.Keys.{IsDistinct-IsPermutation}
-use Rattle.hashbag.specs.Bag.{occurrences}
+use Rattle.hashbag_core.specs.Bag.{occurrences}
 use Rattle.hashbag_core.proofs.WalkLemmas.{length_occurrences}
 use Rattle.hashbag_ops.proofs.Lengths.{same_length}
 use Rattle.hashbag_ops.proofs.Ranked.{ranked_from_rising}

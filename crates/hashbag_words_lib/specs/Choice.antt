@@ -6,9 +6,9 @@ use Rattle.std.specs.Map.{keys_of}
 use Rattle.std.specs.String.{string_cmp, string_eq}
 use Rattle.std.specs.Str.{bytes_eq, chars}
 use Rattle.std.specs.Global.{Global}
-use Rattle.hashbag.specs.Bag.{Bag}
-use Rattle.hashbag.specs.Occurrences.{count}
-use Rattle.hashbag.specs.Walks.{IsSetWalkOf}
+use Rattle.hashbag_core.specs.Bag.{Bag}
+use Rattle.hashbag_core.specs.Occurrences.{count}
+use Rattle.hashbag_core.specs.Walks.{IsSetWalkOf}
 use Rattle.hashbag_ops.specs.Order.{rank}
 use Rattle.hashbag_words_lib.specs.Counts.{texts_in}
 use Rattle.hashbag_words_lib.specs.Shards.{is_in_shard}

@@ -5,8 +5,8 @@ use Rattle.std.specs.Global.{Global}
 use Rattle.std.specs.Str.{bytes_eq, chars}
 use Rattle.std.proofs.Common.{ap, sym, ◌∙◌}
 use Rattle.std.proofs.lemmas.Bool.{false≢true}
-use Rattle.hashbag.specs.Bag.{Bag}
-use Rattle.hashbag.specs.Occurrences.{count}
+use Rattle.hashbag_core.specs.Bag.{Bag}
+use Rattle.hashbag_core.specs.Occurrences.{count}
 use Rattle.hashbag_words_lib.specs.Bars.{marks_of, right_in}
 use Rattle.hashbag_words_lib.specs.Choice.{is_excepted, shows}
 use Rattle.hashbag_words_lib.specs.Columns.{column_under}

@@ -4,7 +4,7 @@ use denote.Triple.Both.{Both}
 use Rattle.std.specs.Borrow.{Bor}
 use Rattle.std.specs.Global.{Global}
 use Rattle.std.specs.Prelude.{◌≡◌, ℕ, List, [], ◌∷◌, flat_map, Option, None, Some, String, ⊤}
-use Rattle.hashbag.specs.Bag.{Bag}
+use Rattle.hashbag_core.specs.Bag.{Bag}
 use Rattle.hashbag_text.specs.declared.encoding.Encoding.{Encoding}
 use Rattle.hashbag_words_lib.specs.Added.{HaveRows}
 use Rattle.hashbag_words_lib.specs.Counted.{HaveTogether}

@@ -5,9 +5,9 @@ use Rattle.std.specs.String.{string_eq}
 use Rattle.serde_json.specs.Data.{Data}
 use Rattle.serde_json.specs.Find.{as_str}
 use Rattle.serde_json.specs.Read.{read as read_text}
-use Rattle.hashbag.specs.Bag.{Bag}
-use Rattle.hashbag.specs.JsonTrees.{IsReading}
-use Rattle.hashbag.specs.Occurrences.{count}
+use Rattle.hashbag_core.specs.Bag.{Bag}
+use Rattle.hashbag_core.specs.JsonTrees.{IsReading}
+use Rattle.hashbag_core.specs.Occurrences.{count}
 use Rattle.hashbag_words_lib.specs.Counts.{AddsTimes}
 use Rattle.hashbag_words_lib.specs.Rows.{IsRowOf}
 use Rattle.hashbag_words_lib.specs.declared.rows.RowForm.{RowForm}

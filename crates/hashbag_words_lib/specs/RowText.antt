@@ -1,6 +1,6 @@
 -- The text of rows that is read in parts.
 use Rattle.std.specs.Prelude.{◌≡◌, ℕ, List, [], ◌++◌, drop, map, nat_eq, if◌then◌else◌}
-use Rattle.hashbag.specs.Walks.{seen}
+use Rattle.hashbag_core.specs.Walks.{seen}
 use Rattle.hashbag_words_lib.specs.Sorted.{row_of}
 use Rattle.hashbag_words_lib.specs.Writing.{end_text, rows_text}
 use Rattle.hashbag_words_lib.specs.declared.row_text.RowText.{RowText}

@@ -5,8 +5,8 @@ use Rattle.std.specs.List.{before_first, after_first}
 use Rattle.std.specs.Str.{bytes_eq}
 use Rattle.std.specs.Str.Lines.{lines}
 use Rattle.std.specs.Str.Parse.{digits_value, without_leading_plus}
-use Rattle.hashbag.specs.Bag.{Bag}
-use Rattle.hashbag.specs.Occurrences.{count}
+use Rattle.hashbag_core.specs.Bag.{Bag}
+use Rattle.hashbag_core.specs.Occurrences.{count}
 use Rattle.hashbag_words_lib.specs.Counts.{texts_in}
 use Rattle.hashbag_words_lib.specs.Rows.{row, unescaped}
 use Rattle.hashbag_words_lib.specs.Sorted.{times_in, Rises}

@@ -5,8 +5,8 @@ use Rattle.std.specs.List.{IsDistinct}
 use Rattle.std.specs.List.Sorted.{IsStrictlySortedBy}
 use Rattle.std.specs.Map.{keys_of}
 use Rattle.std.specs.Str.{bytes_eq}
-use Rattle.hashbag.specs.Bag.{Bag}
-use Rattle.hashbag.specs.Occurrences.{count}
+use Rattle.hashbag_core.specs.Bag.{Bag}
+use Rattle.hashbag_core.specs.Occurrences.{count}
 use Rattle.hashbag_ops.specs.Order.{rank}
 use Rattle.hashbag_words_lib.specs.Bars.{bars_text}
 use Rattle.hashbag_words_lib.specs.Choice.{shown_count, KeepsShown}

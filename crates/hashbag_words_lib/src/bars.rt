@@ -1,6 +1,6 @@
 //! Rows with bars, for people at a terminal.
 ghost use Rattle.std.specs.Prelude.{◌≡◌, ◌++◌, map, min, replicate, string_bytes, encode_utf8_all, IfOk, OnOk};
-ghost use Rattle.hashbag.specs.Walks.{seen};
+ghost use Rattle.hashbag_core.specs.Walks.{seen};
 ghost use Rattle.hashbag_words_lib.specs.Bars.{bars_text, columns, char_columns, shortened, fitting, greatest_of, layout_of, bar_line, marks_of, name_of, name_text, right_in, shown_char, widest};
 ghost use Rattle.hashbag_words_lib.specs.Sorted.{row_of};
 

@@ -4,13 +4,13 @@ ghost use Rattle.std.specs.List.Sorted.{IsStrictlySortedBy};
 ghost use Rattle.std.specs.Map.{keys_of};
 ghost use Rattle.std.specs.Str.{chars};
 ghost use Rattle.std.specs.String.{string_cmp, string_eq};
-ghost use Rattle.hashbag.specs.Walks.{IsSetWalkOf, seen};
+ghost use Rattle.hashbag_core.specs.Walks.{IsSetWalkOf, seen};
 ghost use Rattle.hashbag_words_lib.specs.Choice.{is_excepted, shows, KeepsShown, AreChosen};
 ghost use Rattle.hashbag_words_lib.specs.Counted.{HaveTogether};
 
 use crate::shards::{Shard, is_in_shard};
 use crate::sorting::sort_rows;
-use hashbag::{BagError, HashBag};
+use hashbag_core::{BagError, HashBag};
 use hashbag_ops::{counts, most_common};
 use std::alloc::Global;
 use std::hash::{BuildHasher, RandomState};

@@ -6,7 +6,7 @@ ghost use Rattle.hashbag_words_lib.specs.Columns.{HasColumn, column_at, column_i
 ghost use Rattle.hashbag_words_lib.specs.Counts.{AddsTokens};
 
 use crate::counting::add_piece;
-use hashbag::{BagError, HashBag};
+use hashbag_core::{BagError, HashBag};
 use hashbag_csv::delimiter::Delimiter;
 use hashbag_csv::fault::{Fault, SheetError};
 use hashbag_csv::sheet::{Column, Sheet};

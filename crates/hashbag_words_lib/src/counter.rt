@@ -23,7 +23,7 @@ use crate::lines::{BadLines, LinesRead};
 use crate::row_text::RowText;
 use crate::rule::Rule;
 use crate::runs::{clear_after_run, run_of};
-use hashbag::{BagError, HashBag};
+use hashbag_core::{BagError, HashBag};
 use memchr::memchr;
 use std::alloc::Global;
 use std::hash::BuildHasher;

@@ -14,7 +14,7 @@ use crate::fields::field_at;
 use crate::lines::{BadLines, LinesRead};
 use crate::rule::{Pieces, Rule, Separator};
 use caseless::default_case_fold_str;
-use hashbag::{BagError, HashBag};
+use hashbag_core::{BagError, HashBag};
 use regex::Regex;
 use std::alloc::Global;
 use std::hash::BuildHasher;

@@ -1,7 +1,7 @@
 //! Errors of an input.
 ghost use Rattle.std.specs.Prelude.{◌≡◌};
 
-use hashbag::{BagError, JsonError};
+use hashbag_core::{BagError, JsonError};
 use std::alloc::AllocError;
 use std::io;
 use thiserror::Error;

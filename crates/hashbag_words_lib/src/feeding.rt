@@ -19,7 +19,7 @@ use crate::row_counter::RowCounter;
 use crate::row_text::RowText;
 use crate::shown_text::Look;
 use crate::troubles::of_input;
-use hashbag::BagError;
+use hashbag_core::BagError;
 use hashbag_shell::trouble::Trouble;
 use std::alloc::Global;
 use std::hash::BuildHasher;

@@ -1,5 +1,5 @@
 //! How much memory a bag of texts takes.
-use hashbag::HashBag;
+use hashbag_core::HashBag;
 use std::hash::BuildHasher;
 
 // The bytes of a slot: the address, the length and the capacity of a text, its count, and a tag.

@@ -19,7 +19,7 @@ use crate::rows::RowForm;
 use crate::rule::Rule;
 use crate::runs::run_of;
 use crate::shown_text::{Look, Shown, shown_of};
-use hashbag::HashBag;
+use hashbag_core::HashBag;
 use hashbag_shell::trouble::Trouble;
 use hashbag_text::encoding::Encoding;
 use std::alloc::Global;

@@ -3,7 +3,7 @@
 //! A [`MergedText`] reads and writes nothing: it says what it wants, and the caller reads and writes. So the clauses hold wherever the texts are. In
 //! the clauses `given` has the bytes that were given of each text so far, in the order of the numbers, and `taken` are the parts that were taken.
 ghost use Rattle.std.specs.Prelude.{◌≡◌, ◌⊎◌, ℕ, [], List, true, map, string_bytes, IfOk, OnOk};
-ghost use Rattle.hashbag.specs.Walks.{seen};
+ghost use Rattle.hashbag_core.specs.Walks.{seen};
 ghost use Rattle.hashbag_words_lib.specs.Bars.{bars_text};
 ghost use Rattle.hashbag_words_lib.specs.NumberedMerges.{EndsOpening, EndsWanted, IsWanted};
 ghost use Rattle.hashbag_words_lib.specs.Choice.{shows};

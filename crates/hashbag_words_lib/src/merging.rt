@@ -9,7 +9,7 @@ ghost use Rattle.hashbag_words_lib.specs.Tokens.{without_mark};
 
 use crate::errors::{BadLine, InputFault};
 use crate::rows::{RowForm, read_row, read_uniq_row};
-use hashbag::{HashBag, JsonError};
+use hashbag_core::{HashBag, JsonError};
 use hashbag_ops::merge;
 use serde_json::Value;
 use std::alloc::{AllocError, Global};

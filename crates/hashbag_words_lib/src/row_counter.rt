@@ -23,7 +23,7 @@ use crate::merging::{add_row, add_tree, past_mark};
 use crate::row_text::RowText;
 use crate::rows::RowForm;
 use crate::runs::{clear_after_run, run_of};
-use hashbag::{BagError, HashBag};
+use hashbag_core::{BagError, HashBag};
 use memchr::memchr;
 use std::alloc::Global;
 use std::hash::BuildHasher;

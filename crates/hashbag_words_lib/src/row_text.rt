@@ -1,6 +1,6 @@
 //! The text of rows, in parts.
 ghost use Rattle.std.specs.Prelude.{◌≡◌, ◌++◌, map, IfOk, OnOk};
-ghost use Rattle.hashbag.specs.Walks.{seen};
+ghost use Rattle.hashbag_core.specs.Walks.{seen};
 ghost use Rattle.hashbag_words_lib.specs.RowText.{bytes_left, rows_left_in, IsOverIfNone};
 ghost use Rattle.hashbag_words_lib.specs.Sorted.{row_of};
 ghost use Rattle.hashbag_words_lib.specs.Writing.{text_of};

@@ -1,13 +1,13 @@
 //! Runs: the counts of a bag, as rows of `tsv` in ascending order of tokens.
 ghost use Rattle.std.specs.Prelude.{◌≡◌, ◌+◌, [], length, IfOk};
-ghost use Rattle.hashbag.specs.Held.{cleared};
+ghost use Rattle.hashbag_core.specs.Held.{cleared};
 ghost use Rattle.hashbag_words_lib.specs.RowText.{bytes_left};
 ghost use Rattle.hashbag_words_lib.specs.Runs.{IsRunTextOf};
 
 use crate::choice::{Order, chosen};
 use crate::row_text::RowText;
 use crate::writing::Format;
-use hashbag::{BagError, HashBag};
+use hashbag_core::{BagError, HashBag};
 use std::alloc::Global;
 use std::hash::BuildHasher;
 

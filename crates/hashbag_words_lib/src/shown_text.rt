@@ -9,7 +9,7 @@ use crate::bars::bars_of;
 use crate::choice::{Choice, chosen, keep_shown};
 use crate::row_text::RowText;
 use crate::writing::Format;
-use hashbag::{BagError, HashBag};
+use hashbag_core::{BagError, HashBag};
 use std::alloc::Global;
 use std::hash::BuildHasher;
 

@@ -11,7 +11,7 @@ use crate::errors::InputFault;
 use crate::head::Head;
 use crate::row_source::Next;
 use crate::sources::Source;
-use hashbag::BagError;
+use hashbag_core::BagError;
 use std::alloc::AllocError;
 
 /// Receives rows, one after the other.

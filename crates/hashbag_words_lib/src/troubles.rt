@@ -1,6 +1,6 @@
 //! What is wrong with an input, as the trouble of a program.
 use crate::errors::InputFault;
-use hashbag::{BagError, JsonError};
+use hashbag_core::{BagError, JsonError};
 use hashbag_shell::status::{BAD_INPUT, TOTAL_TOO_LARGE};
 use hashbag_shell::trouble::Trouble;
 use std::alloc::Global;

@@ -14,7 +14,7 @@ use crate::entering::{LedgerError, enter};
 use crate::ledger::stock_at_start;
 use crate::movements::{Change, Entry, Movement, Outcome, Refusal};
 use crate::numbers::MOST;
-use hashbag::HashBag;
+use hashbag_core::HashBag;
 use hashbag_csv::quantities::balance_of;
 use std::alloc::{AllocError, Global};
 use std::hash::BuildHasher;

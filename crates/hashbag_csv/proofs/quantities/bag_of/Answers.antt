@@ -1,8 +1,8 @@
 use Rattle.std.proofs.Common.{sym, ◌∙◌, rules}
 use Rattle.std.proofs.lemmas.Iterator.Adapters.{YieldsList-from_vec}
-use Rattle.hashbag.proofs.ExtendLemmas.{handed_on}
-use Rattle.hashbag.proofs.InsertLemmas.{all_made, some_made}
-use Rattle.hashbag.proofs.OccurrenceLemmas.{count_rearranged}
+use Rattle.hashbag_core.proofs.ExtendLemmas.{handed_on}
+use Rattle.hashbag_core.proofs.InsertLemmas.{all_made, some_made}
+use Rattle.hashbag_core.proofs.OccurrenceLemmas.{count_rearranged}
 use Rattle.hashbag_csv.proofs.QuantityLemmas.{counts_made, length_made, numbers_fit, only_memory}
 use Rattle.hashbag_csv.proofs.quantities.bag_of.Goals as goal
 

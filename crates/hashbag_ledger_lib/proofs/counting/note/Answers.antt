@@ -1,6 +1,6 @@
 use Rattle.std.proofs.Common.{Bool, ◌+◌, cond, ◌∙◌, ap}
 use Rattle.std.specs.String.{string_eq, string_eq_equiv}
-use Rattle.hashbag.proofs.CallerLemmas.{count_inserted_any}
+use Rattle.hashbag_core.proofs.CallerLemmas.{count_inserted_any}
 use Rattle.hashbag_ledger_lib.specs.Ledger.{stock_of}
 use Rattle.hashbag_ledger_lib.proofs.BookLemmas.{text_same}
 use Rattle.hashbag_ledger_lib.proofs.CountLemmas.{named_by_copy}

@@ -1,5 +1,5 @@
 use Rattle.std.proofs.Common.{◌≤◌, arith}
-use Rattle.hashbag.specs.Occurrences.{count}
+use Rattle.hashbag_core.specs.Occurrences.{count}
 use Rattle.hashbag_ledger_lib.proofs.EnterLemmas.{brought_in, taken_out}
 use Rattle.hashbag_ledger_lib.proofs.entering.enter.Goals as goal
 

@@ -1,6 +1,6 @@
 use Rattle.std.proofs.Common.{rules}
 use Rattle.std.proofs.lemmas.Iterator.Adapters.{YieldsList-from_vec}
-use Rattle.hashbag.proofs.InsertLemmas.{all_made}
+use Rattle.hashbag_core.proofs.InsertLemmas.{all_made}
 use Rattle.hashbag_csv.proofs.QuantityLemmas.{counts_made, length_made}
 use Rattle.hashbag_ledger_lib.proofs.ledger.stock_of_list.Goals as goal
 

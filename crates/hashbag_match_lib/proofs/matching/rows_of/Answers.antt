@@ -1,6 +1,6 @@
 use Rattle.std.proofs.Common.{List, map, subst}
 use Rattle.std.proofs.lemmas.List.Sorted.{IsPermutation-refl}
-use Rattle.hashbag.specs.Joins.{IsOuterJoin}
+use Rattle.hashbag_core.specs.Joins.{IsOuterJoin}
 use Rattle.hashbag_match_lib.proofs.RowLemmas.{lent_join, whole_join, rows_so_far}
 use Rattle.hashbag_match_lib.proofs.matching.rows_of.Goals as goal
 

@@ -1,5 +1,5 @@
 use Rattle.std.proofs.Common.{◌≡◌, drop, map}
-use Rattle.hashbag.specs.Walks.{seen}
+use Rattle.hashbag_core.specs.Walks.{seen}
 use Rattle.hashbag_words_lib.specs.Sorted.{row_of}
 use Rattle.hashbag_words_lib.specs.Bars.{widest}
 use Rattle.hashbag_words_lib.proofs.bars.widest.Given as goal

@@ -1,8 +1,8 @@
 use Rattle.std.proofs.Common.{◌≡◌, ℕ, String, Global, Result, Ok, Err, IfOk, map, sym, subst}
 use Rattle.std.specs.Borrow.{Bor}
 use Rattle.std.specs.Global.{Vec}
-use Rattle.hashbag.specs.Bag.{Bag}
-use Rattle.hashbag.specs.Walks.{seen}
+use Rattle.hashbag_core.specs.Bag.{Bag}
+use Rattle.hashbag_core.specs.Walks.{seen}
 use Rattle.hashbag_words_lib.specs.Choice.{AreChosen}
 use Rattle.hashbag_words_lib.specs.declared.choice.Order.{Order}
 use Rattle.hashbag_words_lib.specs.declared.choice.Order.TheVariants.{Ascending, Unordered, MostCommon}

@@ -2,7 +2,7 @@ use Rattle.std.proofs.Common.{◌≡◌, ℕ, ◌+◌, min, Bool, true, false, c
 use Rattle.std.specs.Cmp.Lexicographic.{bytes_decides, nat_list_eq_equiv}
 use Rattle.std.proofs.lemmas.List.{length-map}
 use Rattle.std.specs.String.{string_eq_equiv}
-use Rattle.hashbag.specs.Occurrences.{count}
+use Rattle.hashbag_core.specs.Occurrences.{count}
 use Rattle.hashbag_ops.proofs.Lengths.{same_length}
 use Rattle.hashbag_ops.proofs.ByCount.{answers_by_count, count_retained_by}
 use Rattle.hashbag_words_lib.specs.Choice.{shows, shown_count}

@@ -2,8 +2,8 @@ use Rattle.std.proofs.Common.{◌≡◌, map, String, Global, is_eq, string_byte
 use Rattle.std.specs.String.{string_cmp, string_cmp_total, string_eq, string_eq_equiv}
 use Rattle.std.proofs.lemmas.List.Sorted.{IsPermutation-map}
 use Rattle.std.proofs.lemmas.Map.Text.{is_eq-slice_cmp}
-use Rattle.hashbag.proofs.JsonWriteLemmas.{set_walk_reordered, rising_from_sorted, once_in_walk}
-use Rattle.hashbag.specs.Walks.{seen}
+use Rattle.hashbag_core.proofs.JsonWriteLemmas.{set_walk_reordered, rising_from_sorted, once_in_walk}
+use Rattle.hashbag_core.specs.Walks.{seen}
 use Rattle.hashbag_words_lib.proofs.choice.rising.Goals as goal
 
 ties : (x y : String Global) → string_eq x y ≡ is_eq (string_cmp x y)

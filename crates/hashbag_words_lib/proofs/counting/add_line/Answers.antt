@@ -1,5 +1,5 @@
 use Rattle.std.proofs.Common.{◌≡◌, ℕ, List, String, Global, Result, OnOk, map, sym, subst}
-use Rattle.hashbag.specs.Bag.{Bag}
+use Rattle.hashbag_core.specs.Bag.{Bag}
 use Rattle.hashbag_words_lib.specs.Counts.{AddsTexts}
 use Rattle.hashbag_words_lib.specs.Tokens.{pieces_of, token_of, tokens_of_line, without_mark}
 use Rattle.hashbag_words_lib.specs.declared.rule.Pieces.{Pieces}

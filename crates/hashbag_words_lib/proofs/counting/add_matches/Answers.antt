@@ -7,7 +7,7 @@ use Rattle.hashbag_words_lib.specs.Counts.{AddsTexts}
 use Rattle.hashbag_words_lib.specs.Tokens.{nonempty, token_of}
 use Rattle.hashbag_words_lib.proofs.CountLemmas.{AddsTexts-nil, AddsTexts-append}
 use Rattle.hashbag_words_lib.proofs.MatchLemmas.{next_match, all_matched}
-use Rattle.hashbag.proofs.CallerLemmas.{items_that_came}
+use Rattle.hashbag_core.proofs.CallerLemmas.{items_that_came}
 use Rattle.hashbag_words_lib.proofs.counting.add_matches.Goals as goal
 
 pub loop-found-init : goal.loop-found-init

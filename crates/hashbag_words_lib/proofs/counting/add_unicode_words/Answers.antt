@@ -3,7 +3,7 @@ use Rattle.std.proofs.lemmas.Result.{on_ok_weaker}
 use Rattle.std.specs.Borrow.{Bor}
 use Rattle.unicode_segmentation.specs.Word.{words}
 use Rattle.unicode_segmentation.proofs.SegmentsLemmas.{YieldsList-from_gives}
-use Rattle.hashbag.proofs.CallerLemmas.{items_that_came}
+use Rattle.hashbag_core.proofs.CallerLemmas.{items_that_came}
 use Rattle.hashbag_words_lib.specs.Counts.{AddsTexts}
 use Rattle.hashbag_words_lib.specs.Tokens.{token_of}
 use Rattle.hashbag_words_lib.proofs.CountLemmas.{map-map}

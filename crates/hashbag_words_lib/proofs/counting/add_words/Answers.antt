@@ -1,7 +1,7 @@
 use Rattle.std.proofs.Common.{◌≡◌, ℕ, List, map, ◌∙◌, ap, subst}
 use Rattle.std.proofs.lemmas.Result.{on_ok_weaker}
 use Rattle.std.specs.Borrow.{Bor}
-use Rattle.hashbag.proofs.CallerLemmas.{items_that_came}
+use Rattle.hashbag_core.proofs.CallerLemmas.{items_that_came}
 use Rattle.hashbag_words_lib.specs.Counts.{AddsTexts}
 use Rattle.hashbag_words_lib.specs.Tokens.{spaced_words, token_of}
 use Rattle.hashbag_words_lib.proofs.CountLemmas.{map-map}

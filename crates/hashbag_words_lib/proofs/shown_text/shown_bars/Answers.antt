@@ -1,5 +1,5 @@
 use Rattle.std.proofs.Common.{map}
-use Rattle.hashbag.specs.Walks.{seen}
+use Rattle.hashbag_core.specs.Walks.{seen}
 use Rattle.hashbag_words_lib.specs.Bars.{bars_text}
 use Rattle.hashbag_words_lib.proofs.ShownLemmas.{is_shown_as}
 use Rattle.hashbag_words_lib.proofs.shown_text.shown_bars.Goals as goal

@@ -1,5 +1,5 @@
 use Rattle.std.proofs.Common.{arith}
-use Rattle.hashbag.proofs.CallerLemmas.{count_inserted_any}
+use Rattle.hashbag_core.proofs.CallerLemmas.{count_inserted_any}
 use Rattle.hashbag_match_lib.proofs.TallyLemmas.{one_with_none, one_with_number}
 use Rattle.hashbag_match_lib.proofs.tally.Tally.add.Goals as goal
 

@@ -1,4 +1,4 @@
-use Rattle.hashbag.proofs.CallerLemmas.{count_kept}
+use Rattle.hashbag_core.proofs.CallerLemmas.{count_kept}
 use Rattle.hashbag_match_lib.proofs.TallyLemmas.{same_tally}
 use Rattle.hashbag_match_lib.proofs.tally.Tally.finish_carry.Goals as goal
 
