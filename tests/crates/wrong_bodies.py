@@ -136,8 +136,9 @@ def try_all(repository, crates, controlled=(), jobs=None, is_quick=False, ready=
     """Tries wrong bodies, given by crate, several crates at a time, and prints what becomes of each. `controlled` are pairs of a crate and a function that is
     tried without an edit too.
     `ready` waits for a crate, and returns whether it is proved: the bodies of one that isn't are not tried."""
-    # The crates with the most to prove go first.
-    longest = sorted(crates, key=lambda it: -sum(map(len, map(read, glob.glob(f"{repository.folder(it)}/src/**/*.rt", recursive=True)))))
+    # The crates with the most to prove go first, or the lowest, if they are proved one after the other now.
+    size = {it: sum(map(len, map(read, glob.glob(f"{repository.folder(it)}/src/**/*.rt", recursive=True)))) for it in crates}
+    in_turn = sorted(crates, key=lambda it: (len(repository.below(it)) if ready else 0, -size[it]))
     printing = threading.Lock()
 
     def try_crate(name):
@@ -154,7 +155,7 @@ def try_all(repository, crates, controlled=(), jobs=None, is_quick=False, ready=
         return tries
 
     with ThreadPoolExecutor(jobs or jobs_for(len(crates))) as lanes:
-        all_tries = list(lanes.map(try_crate, longest))
+        all_tries = list(lanes.map(try_crate, in_turn))
     print(f"wrong_bodies: {sum(it.seconds for it in all_tries) / 60:.1f} processor minutes", flush=True)
     return {it: tries.said[it] for tries in all_tries for it in tries.bodies}
 
