@@ -1,5 +1,4 @@
-# Read by tests/programs/words.sh, tests/programs/match.sh, tests/programs/ledger.sh and tests/programs/stock.sh, which run a program as a process: how its name and a folder are found,
-# and what a run is compared with.
+# Read by the scripts of tests/programs that run a program as a process: how its name and a folder are found, and what a run is compared with.
 set -u
 export LC_ALL=C
 scratch=$(mktemp -d) || exit 1
