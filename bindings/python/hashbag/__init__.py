@@ -15,6 +15,7 @@ stays where it is during its call; the interpreter's lock is held during a call,
 from __future__ import annotations
 
 import ctypes
+import operator
 import secrets
 import threading
 from array import array
@@ -22,7 +23,9 @@ from collections.abc import Callable, Iterable, Iterator, Mapping
 from itertools import accumulate, repeat
 from typing import Any, Generic, TypeVar, Union
 
+from ._library import bytes_of as _bytes
 from ._library import count as _count_of
+from ._library import exactly as _exactly
 from ._library import insert as _insert
 from ._library import is_fast as _is_fast
 from ._library import library as _library
@@ -74,17 +77,16 @@ def _done(number: int) -> None:
         raise BagError(number)
 
 
-def _bytes(key: Key) -> bytes:
-    if isinstance(key, str):
-        return key.encode()
-    if isinstance(key, bytes):
-        return key
-    raise TypeError(f"a key is a str or bytes, not {type(key)!r}")
+def _whole(n: int) -> int:
+    """n as an object of `int` itself: a subclass may compare and multiply as it likes."""
+    # Before Python 3.10 `index` may return one of a subclass.
+    return int.__index__(operator.index(n))
 
 
 def _count(n: int) -> int:
     if not isinstance(n, int):
         raise TypeError(f"a count is an int, not {type(n).__name__}")
+    n = _whole(n)
     if not 0 <= n <= NO_LIMIT:
         raise ValueError("a count is from 0 to 2**64 - 1")
     return n
@@ -114,13 +116,13 @@ class HashBag(Generic[K]):
     `items` is an iterable of keys, each inserted once, or a mapping from keys to counts. The total of all counts is at most `limit`.
     """
 
-    __slots__ = ("_word", "_handle", "_size", "_out", "_decode", "_thread", "__weakref__")
+    __slots__ = ("_word", "_handle", "_decode", "_thread", "__weakref__")
     __hash__ = None  # type: ignore[assignment]
 
     def __init__(self, items: Iterable[Any] | Mapping[Any, int] = (), *, limit: int = NO_LIMIT, decode: Callable[[bytes], Any] | None = bytes.decode) -> None:
-        self._word = ctypes.c_void_p(0)
-        self._size = ctypes.c_size_t(0)
-        self._out = ctypes.addressof(self._size)
+        # Once: a call that has begun may still use it.
+        if not hasattr(self, "_word"):
+            self._word = ctypes.c_void_p(0)
         self._decode = decode
         self._thread = threading.get_ident()
         self._handle = ctypes.addressof(self._word)
@@ -251,11 +253,12 @@ class HashBag(Generic[K]):
         Keys are compared by their bytes.
         """
         distinct, size = self._sizes()
-        most = distinct if n is None else min(max(n, 0), distinct)
+        most = distinct if n is None else min(max(_whole(n), 0), distinct)
+        written = ctypes.c_size_t(0)
 
         def call(*places: int) -> int:
-            _done(_library.hashbag_texts_most_common(self._at(), *places, self._out))
-            return self._size.value
+            _done(_library.hashbag_texts_most_common(self._at(), *places, ctypes.addressof(written)))
+            return written.value
 
         keys, counts = _read(most, size, 1, call)
         return self._decoded(keys, counts)
@@ -277,21 +280,23 @@ class HashBag(Generic[K]):
             self._insert_all([_bytes(key) for key in items])
 
     def _insert_all(self, texts: list[bytes]) -> None:
-        joined, ends = b"".join(texts), array("Q", accumulate(map(len, texts)))
+        joined, ends, inserted = b"".join(texts), array("Q", accumulate(map(len, texts))), ctypes.c_size_t(0)
         if texts:
-            _done(_library.hashbag_texts_insert_all(self._at(), joined, len(joined), ends.buffer_info()[0], len(ends), self._out))
+            at = ends.buffer_info()[0]
+            _done(_library.hashbag_texts_insert_all(self._at(), joined, len(joined), at, len(ends), ctypes.addressof(inserted)))
 
     def update_split(self, data: bytes, separator: bytes = b"\n") -> int:
         """Inserts each piece of `data` between separators once, in one call, and returns how many there were. As of `bytes.split`, some may be empty.
 
         Raises BagError at the first that fails. Those before it stay.
         """
-        if isinstance(data, str):
-            raise TypeError("the data are bytes, not str")
-        if len(separator) != 1:
+        if isinstance(data, (str, int)):
+            raise TypeError(f"the data are bytes, not {type(data).__name__}")
+        raw, by, inserted = _exactly(data), _exactly(separator), ctypes.c_size_t(0)
+        if len(by) != 1:
             raise ValueError("a separator is one byte")
-        _done(_library.hashbag_texts_insert_split(self._at(), bytes(data), len(data), separator[0], self._out))
-        return self._size.value
+        _done(_library.hashbag_texts_insert_split(self._at(), raw, len(raw), by[0], ctypes.addressof(inserted)))
+        return inserted.value
 
     def subtract(self, items: Iterable[Any] | Mapping[Any, int] = ()) -> None:
         """Removes each key of an iterable once, or each of a mapping as often as it says. No count gets below 0."""
@@ -391,11 +396,12 @@ class HashBag(Generic[K]):
         A bag with a limit is an object with the members `limit` and `pairs`. A key that isn't UTF-8 is a list of its bytes.
         """
         n, size = self._sizes()
-        places, code = size + 32 * n + 64, 23
+        places, code, needed = size + 32 * n + 64, 23, ctypes.c_size_t(0)
         while code == 23:
             text = bytearray(places)
-            code = _library.hashbag_texts_to_json(self._at(), ctypes.addressof(ctypes.c_char.from_buffer(text)), places, self._out)
-            places = self._size.value
+            at = ctypes.addressof(ctypes.c_char.from_buffer(text))
+            code = _library.hashbag_texts_to_json(self._at(), at, places, ctypes.addressof(needed))
+            places = needed.value
         _done(code)
         return bytes(memoryview(text)[:places]).decode()
 
@@ -407,12 +413,13 @@ class HashBag(Generic[K]):
         Raises JsonError if the text isn't that of a bag. A key that is a list of bytes that aren't UTF-8 can be read only with `decode=None`.
         """
         made: HashBag[Any] = cls(decode=decode)
-        raw = text.encode() if isinstance(text, str) else bytes(text)
-        code = _library.hashbag_texts_from_json_keyed(made._at(), _count(limit), secrets.randbits(64), secrets.randbits(64), raw, len(raw), made._out)
+        raw, place = str.encode(text) if isinstance(text, str) else _exactly(text), ctypes.c_size_t(0)
+        keys = secrets.randbits(64), secrets.randbits(64)
+        code = _library.hashbag_texts_from_json_keyed(made._at(), _count(limit), *keys, raw, len(raw), ctypes.addressof(place))
         if code == 1:
             raise MemoryError
         if code:
-            raise JsonError(code, made._size.value)
+            raise JsonError(code, place.value)
         return made
 
     def __repr__(self) -> str:

@@ -89,6 +89,23 @@ for _name, _arguments, _result in (
     _function = getattr(library, _name)
     _function.argtypes, _function.restype = _arguments, _result
 
+
+def exactly(data: "bytes | bytearray | memoryview") -> bytes:
+    """These bytes as an object of `bytes` itself: the `len` of anything else may be untrue, or no longer true when a call reads it."""
+    made = data if isinstance(data, bytes) else bytes(data)
+    # The copy asks no method of a subclass.
+    return made if type(made) is bytes else bytes.__getitem__(made, slice(None))
+
+
+def bytes_of(key: "str | bytes") -> bytes:
+    """The bytes of a key, which none of its own methods decides."""
+    if isinstance(key, str):
+        return str.encode(key)
+    if isinstance(key, bytes):
+        return exactly(key)
+    raise TypeError(f"a key is a str or bytes, not {type(key)!r}")
+
+
 # The calls on one key: `insert(handle, key, n)` and `set_count(handle, key, n)`, which return the count before or the negative of an error's number,
 # `remove(handle, key, n)`, `take_all(handle, key)` and `count(handle, key)`. By `_fast.c`, if it was built; otherwise by ctypes.
 try:
@@ -99,32 +116,23 @@ try:
     is_fast = True
 except ImportError:
     is_fast = False
-    _before = SIZE(0)
-    _at_before = ctypes.addressof(_before)
-
-    def _bytes(key: "str | bytes") -> bytes:
-        if isinstance(key, str):
-            return key.encode()
-        if isinstance(key, bytes):
-            return key
-        raise TypeError(f"a key is a str or bytes, not {type(key)!r}")
 
     def insert(handle: int, key: "str | bytes", n: int) -> int:
-        text = _bytes(key)
-        return -library.hashbag_texts_insert(handle, text, len(text), n, _at_before) or _before.value
+        text, before = bytes_of(key), SIZE(0)
+        return -library.hashbag_texts_insert(handle, text, len(text), n, ctypes.addressof(before)) or before.value
 
     def set_count(handle: int, key: "str | bytes", n: int) -> int:
-        text = _bytes(key)
-        return -library.hashbag_texts_set_count(handle, text, len(text), n, _at_before) or _before.value
+        text, before = bytes_of(key), SIZE(0)
+        return -library.hashbag_texts_set_count(handle, text, len(text), n, ctypes.addressof(before)) or before.value
 
     def take_all(handle: int, key: "str | bytes") -> int:
-        text = _bytes(key)
+        text = bytes_of(key)
         return library.hashbag_texts_take_all(handle, text, len(text))
 
     def remove(handle: int, key: "str | bytes", n: int) -> int:
-        text = _bytes(key)
+        text = bytes_of(key)
         return library.hashbag_texts_remove(handle, text, len(text), n)
 
     def count(handle: int, key: "str | bytes") -> int:
-        text = _bytes(key)
+        text = bytes_of(key)
         return library.hashbag_texts_contains(handle, text, len(text))

@@ -5,11 +5,66 @@ import json
 import operator
 import pickle
 import random
+import sys
 import threading
 import unittest
+from array import array
 from collections import Counter
 
 from hashbag import NO_LIMIT, BagError, HashBag, JsonError
+
+
+class Longer(bytes):
+    """Bytes that say they are 8 more, and others."""
+
+    def __len__(self):
+        return super().__len__() + 8
+
+    def __bytes__(self):
+        return Longer(b"other")
+
+
+class LongerArray(bytearray):
+    """Bytes that may change, and say they are 8 more."""
+
+    def __len__(self):
+        return super().__len__() + 8
+
+
+class Long:
+    """What says it is long, and has a few bytes."""
+
+    def __len__(self):
+        return 50_000_000
+
+    def __bytes__(self):
+        return Longer(b"a\nb")
+
+
+class Encoded(str):
+    """A text that doesn't encode as the text that it is."""
+
+    def encode(self, *_):
+        return Longer(b"other")
+
+
+class Untrue(int):
+    """A number that says it is greater than all others, and nothing if it is multiplied."""
+
+    def __lt__(self, other):
+        return False
+
+    def __le__(self, other):
+        return True
+
+    def __gt__(self, other):
+        return False
+
+    def __ge__(self, other):
+        return True
+
+    def __rmul__(self, other):
+        return 0
 
 
 class OneBag(unittest.TestCase):
@@ -262,6 +317,77 @@ class Json(unittest.TestCase):
             with self.assertRaises(JsonError) as raised:
                 HashBag.from_json(text, limit=9)
             self.assertEqual((raised.exception.number, raised.exception.place, str(raised.exception)), (number, place, said))
+
+
+class Lies(unittest.TestCase):
+    """What a class says of itself decides neither which memory is read or written nor what is answered."""
+
+    def test_the_length_of_data(self):
+        for data in (Longer(b"a\nb"), LongerArray(b"a\nb"), memoryview(b"a\nb"), Long()):
+            bag = HashBag()
+            self.assertEqual((bag.update_split(data), dict(bag.items())), (2, {"a": 1, "b": 1}))
+        bag, numbers = HashBag(decode=None), array("I", range(300))
+        pieces = numbers.tobytes().split(b"\n")
+        self.assertEqual(bag.update_split(numbers), len(pieces))
+        self.assertEqual(dict(bag.items()), Counter(pieces))
+        for data in (5, "a"):
+            self.assertRaises(TypeError, bag.update_split, data)
+        self.assertRaises(ValueError, bag.update_split, b"a,b", array("H", [ord(",")]))
+
+    def test_the_length_of_a_key(self):
+        bag = HashBag([Longer(b"a")])
+        self.assertEqual((bag.insert(Longer(b"a"), 3), bag[Longer(b"a")], bag["a"]), (1, 4, 4))
+        bag[Longer(b"a")] = 9
+        self.assertEqual((bag.remove(Longer(b"a"), 2), bag.items()), (7, [("a", 7)]))
+        self.assertEqual((bag.pop(Longer(b"a")), bag.items()), (7, []))
+        for key in (Encoded("own"), "own"):
+            bag.insert(key)
+        bag.update([Encoded("own")])
+        self.assertEqual(bag.items(), [("own", 3)])
+
+    def test_the_length_of_json(self):
+        for text in (Longer(b'[["a",2]]'), LongerArray(b'[["a",2]]'), Encoded('[["a",2]]')):
+            self.assertEqual(HashBag.from_json(text).items(), [("a", 2)])
+
+    def test_numbers(self):
+        bag = HashBag("aab")
+        self.assertEqual(bag.most_common(Untrue(10**6)), [("a", 2), ("b", 1)])
+        self.assertEqual(bag.most_common(Untrue(1)), [("a", 2)])
+        for n in (Untrue(-1), Untrue(2**64)):
+            for call in (bag.insert, bag.remove, bag.__setitem__):
+                self.assertRaises(ValueError, call, "a", n)
+            self.assertRaises(ValueError, bag.reserve, n)
+        self.assertEqual((bag.insert("a", Untrue(3)), dict(bag.items())), (2, {"a": 5, "b": 1}))
+
+    def test_calls_in_between(self):
+        """At each step of a call other calls run, on this bag and on another one: as by a thread, a signal, or what Python collects."""
+        bag, other = HashBag("aab"), HashBag({"a": 70})
+
+        def step(frame, *_):
+            frame.f_trace_opcodes = True
+            other.insert("a", 0)
+            bag.most_common(1)
+            return step
+
+        for call, wanted in (
+            (lambda: bag.insert("a", 0), 2),
+            (lambda: bag.most_common(2), [("a", 2), ("b", 1)]),
+            (lambda: bag.to_json(), '[["a",2],["b",1]]'),
+            (lambda: bag.update_split(b"b,b,b", b","), 3),
+        ):
+            sys.settrace(step)
+            try:
+                answer = call()
+            finally:
+                sys.settrace(None)
+            self.assertEqual(answer, wanted)
+
+    def test_a_bag_that_begins_again(self):
+        """A call that has begun has the handle, which stays where it is."""
+        bag = HashBag("aab")
+        handle = bag._at()
+        bag.__init__("c")
+        self.assertEqual((bag._at(), bag.items()), (handle, [("c", 1)]))
 
 
 class RandomCalls(unittest.TestCase):
