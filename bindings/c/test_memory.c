@@ -1,5 +1,5 @@
-/* Refuses each allocation in turn: the call returns HASHBAG_MEMORY, the bag is as it was, and nothing leaks. It has a heap of its own, so it is linked
- * without heap.o. The status is 0 if all is right. */
+/* Refuses each allocation in turn: the call returns HASHBAG_MEMORY, the bag is as it was, and nothing leaks or is freed twice. What it refuses are the
+ * calls of `malloc` and `realloc` in heap.c: it is linked with `--wrap=malloc --wrap=realloc --wrap=free`. The status is 0 if all is right. */
 #include "hashbag.h"
 #include <stdio.h>
 #include <stdlib.h>
@@ -13,13 +13,7 @@
         }                                                   \
     } while (0)
 
-struct block {
-    unsigned long ok;
-    void *p;
-};
-
-static char none[16] __attribute__((aligned(16)));
-static long left = -1, live = 0, asked = 0, hits = 0;
+static long left = -1, live = 0, asked = 0, moved = 0, hits = 0;
 
 static int is_refused(void) {
     asked++;
@@ -28,28 +22,27 @@ static int is_refused(void) {
     return is;
 }
 
-static struct block given(void *p) {
-    return (struct block){p != NULL, p != NULL ? p : none};
-}
+void *__real_malloc(size_t size);
+void *__real_realloc(void *p, size_t size);
+void __real_free(void *p);
+void *__wrap_malloc(size_t size);
+void *__wrap_realloc(void *p, size_t size);
+void __wrap_free(void *p);
 
-struct block rattle_alloc(size_t size, size_t align);
-struct block rattle_realloc(void *p, size_t before, size_t size, size_t align);
-void rattle_dealloc(void *p);
-
-struct block rattle_alloc(size_t size, size_t align) {
-    void *p = is_refused() ? NULL : malloc(size ? size : align);
+void *__wrap_malloc(size_t size) {
+    void *p = is_refused() ? NULL : __real_malloc(size);
     live += p != NULL;
-    return given(p);
+    return p;
 }
 
-struct block rattle_realloc(void *p, size_t before, size_t size, size_t align) {
-    (void)before;
-    return given(is_refused() ? NULL : realloc(p, size ? size : align));
+void *__wrap_realloc(void *p, size_t size) {
+    moved++;
+    return is_refused() ? NULL : __real_realloc(p, size);
 }
 
-void rattle_dealloc(void *p) {
+void __wrap_free(void *p) {
     live--;
-    free(p);
+    __real_free(p);
 }
 
 static int refused;
@@ -229,7 +222,7 @@ static int runs(long n) {
 int main(void) {
     CHECK(runs(-1) == 0);
     long all = asked;
-    CHECK(all > 100);
+    CHECK(all > 100 && moved > 0);
     for (long n = 0; n < all; n++) CHECK(runs(n) > 0);
     printf("test_memory: each of %ld allocations refused: ok\n", all);
     return 0;
