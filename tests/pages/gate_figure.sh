@@ -1,9 +1,9 @@
 #!/usr/bin/env bash
 # bash tests/pages/gate_figure.sh [said]: README.md and docs/build/CONTRIBUTING.md have the gate's price, and the one that `bash tests/all whole` measured: the
-# processor minutes of its steps pages, tests, proofs and programs in tests/whole.txt. The wrong bodies that a gate tries come to that. said: prints it.
+# processor minutes of its steps tests, proofs and programs in tests/whole.txt. The wrong bodies that a gate tries come to that. said: prints it.
 set -u
 cd "$(dirname "$0")/../.." || exit 1
-minutes=$(awk '/^(pages|tests|proofs|programs) / { s += $2; n++ } END { if (n == 4) printf "%d", s + 0.5 }' tests/whole.txt)
+minutes=$(awk '/^(tests|proofs|programs) / { s += $2; n++ } END { if (n == 3) printf "%d", s + 0.5 }' tests/whole.txt)
 if [ "${1-}" = said ]; then
   echo "From nothing it takes ${minutes:-?} processor minutes, and the wrong bodies that are tried"
   exit 0

@@ -58,7 +58,7 @@ END
 # reads_in_zsh PREFIX: zsh, if it is there, finds no fault in the syntax of the completions
 reads_in_zsh() {
   local file
-  [ -n "$(type -P zsh)" ] || return 0
+  [ -n "$(type -P zsh)" ] || { echo "not tried: there is no zsh, which reads its completions"; return 0; }
   for file in "$1"/share/zsh/site-functions/_*; do zsh -n "$file" || fail "the syntax of $file"; done
 }
 

@@ -635,6 +635,8 @@ elif command -v setpriv > /dev/null; then
   setpriv --reuid 65534 --regid 65534 --clear-groups ../ledger balance --db read.db > ../out 2> ../err
   [ $? = 4 ] || fail "a file that may only be read"
   has ../err "$p: read.db: unable to open database file$opened\n" "the message on a file that may only be read"
+else
+  echo "not tried: there is no setpriv, so no file that may only be read"
 fi
 
 # Two processes at once: both files are entered
