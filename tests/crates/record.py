@@ -71,12 +71,19 @@ class Proofs:
             time.sleep(2)
 
 
-def written(file, now, was, tried, refused):
-    """Writes the record: what was rejected just now, and what stands of the bodies that weren't tried."""
-    kept = {it: was[it] for it in now if it in was and it not in tried}
-    kept |= {it: (now[it], goal) for it, goal in refused.items()}
-    with open(file, "w", encoding="utf-8") as out:
-        out.write("".join(f"{crate} {body} {sum} {goal}\n" for (crate, body), (sum, goal) in sorted(kept.items())))
+class Record:
+    """The record, as it is written crate by crate, so that a run that is cut off keeps what it has seen."""
+
+    def __init__(self, file, now):
+        self.file, self.now, self.was = file, now, lines_of(file)
+
+    def write(self, said):
+        """Writes what was tried just now: a line for each body that was rejected, and none for another. Bodies that are gone have none."""
+        tried = {(it.crate, it.name): told for it, told in said.items()}
+        self.was = {it: line for it, line in self.was.items() if it in self.now and it not in tried}
+        self.was |= {it: (self.now[it], goal) for it, (word, goal) in tried.items() if word == "refused"}
+        with open(self.file, "w", encoding="utf-8") as out:
+            out.write("".join(f"{crate} {body} {sum} {goal}\n" for (crate, body), (sum, goal) in sorted(self.was.items())))
 
 
 def parsed():
@@ -100,8 +107,8 @@ def main():
     if not bodies:
         fail("there is no wrong body")
     now = {key: sums.of(it) for key, it in bodies.items()}
-    file = f"{given.root}/tests/crates/refused.txt"
-    was = lines_of(file)
+    record = Record(f"{given.root}/tests/crates/refused.txt", now)
+    was = record.was
     asked = {it for it in now if not given.names or it[0] in given.names}
     gone = [f"{crate} {body}" for crate, body in was if (crate, body) not in now]
     if gone and not given.write:
@@ -120,14 +127,13 @@ def main():
         repository.build_below(chosen)
     controlled = {(it[0], function) for it in changed for function in bodies[it].functions}
     ready = Proofs(given.after, repository).are_ready if given.after else None
-    found = try_all(repository, chosen, controlled, given.jobs, ready=ready) if tried else {}
-    refused = {(it.crate, it.name): text for it, (word, text) in found.items() if word == "refused"}
     if given.write:
-        written(file, now, was, tried, refused)
-    lost = len(tried) - len(refused) + (0 if given.write else len(gone))
-    stand = len(asked - tried)
+        record.write({})
+    said_of = try_all(repository, chosen, controlled, given.jobs, ready=ready, tell=record.write if given.write else None) if tried else {}
+    refused = sum(word == "refused" for word, _ in said_of.values())
+    lost, stand = len(tried) - refused + (0 if given.write else len(gone)), len(asked - tried)
     print(f"record: {len(tried)} tried now ({len(changed)} changed, {len(tried - changed)} drawn), {stand} stand by the record")
-    print(f"wrong_bodies: {len(refused) + stand} refused, {lost} not refused")
+    print(f"wrong_bodies: {refused + stand} refused, {lost} not refused")
     return 1 if lost else 0
 
 

@@ -152,6 +152,8 @@ def try_all(repository, crates, controlled=(), jobs=None, is_quick=False, ready=
             tries.run(kept)
         with printing:
             print("\n".join(tries.lines()), flush=True)
+            if tell:
+                tell(tries.said)
         return tries
 
     with ThreadPoolExecutor(jobs or jobs_for(len(crates))) as lanes:
