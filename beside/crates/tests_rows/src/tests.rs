@@ -1,5 +1,5 @@
 //! Rows of calls on bags of numbers, each under the four hash states; and rows of joins, of trees and of runs. `tests_kit` reads and makes them.
-//! The memory that a bag and its lists take is tested here too: these tests are built with optimization, and only then are the numbers right.
+//! The memory that a bag and its lists take is tested here too.
 mod bounds;
 mod calls;
 mod collections;
