@@ -2,7 +2,8 @@
 """python3 tests/crates/examples.py [FOLDER]: runs the examples of doc comments, and compares the code of pages with the files that it is of.
 
 Each fenced block of a doc comment of `hashbag_core`, `hashbag_script` and `hashbag_ops` becomes a test of a crate `examples_1`, `examples_2`, ..,
-in a repository beside this one (`tests/crates/beside.py`), and `rt try --test` runs it: nothing is proved. In a block, a line
+in a repository beside this one (`tests/crates/beside.py`), and `rt try --test` runs it: nothing is proved. (`tests/crates/try_alone.py` leaves out
+what `rt` starts besides.) In a block, a line
 
     EXPR; // VALUE
 
@@ -158,7 +159,7 @@ def crate_of(examples):
 def try_crate(examples, crate, places):
     """Runs the tests of a crate. What goes wrong is printed with the places of the doc comments."""
     how = {"stdin": subprocess.DEVNULL, "stdout": subprocess.PIPE, "stderr": subprocess.STDOUT, "text": True}
-    ran = subprocess.run(["rt", "try", "--test"], cwd=crate, **how)
+    ran = subprocess.run([TOP / "tests/crates/try_alone.py", "--test"], cwd=crate, **how)
     passed = len(re.findall(r"^test \S+ \.\.\. ok$", ran.stdout, re.M))
     if ran.returncode or passed != len(examples):
         said = re.sub(r"src/lib\.rt:(\d+)(?::\d+)?", lambda place: places[min(int(place[1]), len(places)) - 1], ran.stdout)

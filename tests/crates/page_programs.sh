@@ -1,8 +1,8 @@
 #!/usr/bin/env bash
-# bash tests/crates/page_programs.sh: the whole programs of README.md, docs/use/INSTALL.md and docs/use/COOKBOOK.md, run by `rt try` as these pages print them.
-# INSTALL's program is in another repository, which the page's own commands make of the last commit; the others are in one that `tests/crates/beside.py`
-# makes of the files as they are. What they print is what the pages say. A fault prints the page's program and what differs. The last line is
-# 'page_programs: N run'.
+# bash tests/crates/page_programs.sh: the whole programs of README.md, docs/use/INSTALL.md and docs/use/COOKBOOK.md, run by `rt try` as these
+# pages print them; `tests/crates/try_alone.py` leaves out what `rt` starts besides. INSTALL's program is in another repository, which the
+# page's own commands make of the last commit; the others are in one that `tests/crates/beside.py` makes of the files as they are. What they print
+# is what the pages say. A fault prints the page's program and what differs. The last line is 'page_programs: N run'.
 set -u
 cd "$(dirname "$0")/../.." || exit 1
 top=$PWD
@@ -38,7 +38,7 @@ line() {
 run() {
   local crate=$scratch/$1/crates/$2 name=$2 status=$3
   shift 3
-  (cd "$crate" && rt try "$@") > "$scratch/got" 2> "$scratch/said"
+  (cd "$crate" && "$top/tests/crates/try_alone.py" "$@") > "$scratch/got" 2> "$scratch/said"
   local ended=$?
   count=$((count + 1))
   [ $ended = "$status" ] && return

@@ -21,7 +21,7 @@ trap 'rm -rf "$scratch"' EXIT
 # try_cases REPOSITORY CRATE REQUEST: runs the crate's program on each file of its folder of cases, with that request of each run refused.
 # It is run as it is built with checks, and not on the interpreter too, which would take most of the time.
 try_cases() {
-  (cd "$1/crates/$2" && rt try --fail-alloc "$3" --steps 1 --cases "$scratch/$2" > "$scratch/$2.said" 2>&1)
+  (cd "$1/crates/$2" && "$top/tests/crates/try_alone.py" --fail-alloc "$3" --steps 1 --cases "$scratch/$2" > "$scratch/$2.said" 2>&1)
 }
 
 # fail WHAT [FILE]: says what is wrong, after what is in the file

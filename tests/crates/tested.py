@@ -1,11 +1,12 @@
 #!/usr/bin/env python3
-"""tests/crates/tested.py [--jobs N] [NAME..]: runs the tests of each crate of beside/, or of those that are named, by `rt try --test`, and each
-program there by `rt try`, in a repository that `tests/crates/beside.py` makes. N crates are run at a time: as many as there are processors, if
-not given.
+"""tests/crates/tested.py [--jobs N] [NAME..]: runs the tests of each crate of beside/, or of those that are named, by `rt try --test`, and
+each program there by `rt try`, in a repository that `tests/crates/beside.py` makes. `tests/crates/try_alone.py` leaves out what `rt` starts besides.
+N crates are run at a time: as many as there are processors, if not given.
 
-A program gets its file `stdin`, and has to print its file `stdout`, or nothing if it has none. Each `#[test]` of a crate's files has to be run and to pass. A library
-without one has to be used by another crate of beside/. Of what fails, all that was printed is shown. The last line is
-'tests: K passed, F failed'; a program is one test, and so is a crate that doesn't compile. Nothing is proved: `tests/crates/proved_tests.sh` does that.
+A program gets its file `stdin`, and has to print its file `stdout`, or nothing if it has none. Each `#[test]` of a crate's files has to be run
+and to pass. A library without one has to be used by another crate of beside/. Of what fails, all that was printed is shown. The last line is
+'tests: K passed, F failed'; a program is one test, and so is a crate that doesn't compile. Nothing is proved:
+`tests/crates/proved_tests.sh` does that.
 """
 import argparse
 import os
@@ -43,7 +44,7 @@ class Crate:
 
     def ends(self, *words, **streams):
         """Runs `rt try` on these words, and returns its status and what it printed."""
-        ran = subprocess.run(["rt", "try", *words], cwd=self.folder, **streams)
+        ran = subprocess.run([f"{TOP}/tests/crates/try_alone.py", *words], cwd=self.folder, **streams)
         return ran.returncode, ran.stdout.decode(errors="replace")
 
     def run_program(self):
