@@ -1,53 +1,5 @@
-# awk -v name=NAME -v page=COMMAND -v version=V -v date=D -v others=NAMES -f share/records.awk -f share/man.awk: writes the manual page of a
-# program (COMMAND is empty) or of one of its commands, in roff, from the records of help.awk. OTHERS are the programs that it names at the end.
-
-# A text as it is, in roff.
-function escaped(text) {
-  gsub(/\\/, "\\e", text)
-  gsub(/-/, "\\-", text)
-  gsub(/'/, "\\(aq", text)
-  gsub(/`/, "\\(ga", text)
-  gsub(/\^/, "\\(ha", text)
-  gsub(/~/, "\\(ti", text)
-  return text
-}
-
-# A text in bold.
-function bold(text) {
-  return text == "" ? "" : "\\fB" escaped(text) "\\fR"
-}
-
-# A text in roff: what is in backticks is bold, without them.
-function prose(text, done) {
-  while (match(text, /`[^`]+`/)) {
-    done = done escaped(substr(text, 1, RSTART - 1)) bold(substr(text, RSTART + 1, RLENGTH - 2))
-    text = substr(text, RSTART + RLENGTH)
-  }
-  return done escaped(text)
-}
-
-# A text with a point at its end.
-function sentence(text) {
-  return text == "" || text ~ /[.:!?]$/ ? text : text "."
-}
-
-# Prints a line of text. A point at its beginning is none of a request.
-function print_line(line) {
-  print (line ~ /^\./ ? "\\&" : "") line
-}
-
-# Prints roff in lines of at most 78 bytes. A sentence begins a line.
-function fill(text, many, words, i, line) {
-  many = split(text, words, " ")
-  for (i = 1; i <= many; i++) {
-    if (line != "" && (length(line words[i]) > 77 || (line ~ /[.!?]$/ && words[i] ~ /^(\\fB)?[A-Z]/))) {
-      print_line(line)
-      line = ""
-    }
-    line = line (line == "" ? "" : " ") words[i]
-  }
-  if (line != "") print_line(line)
-}
+# awk -v name=NAME -v page=COMMAND -v version=V -v date=D -v others=NAMES -f share/records.awk -f share/roff.awk -f share/man.awk: writes the manual page
+# of a program (COMMAND is empty) or of one of its commands, in roff, from the records of help.awk. OTHERS are the programs that it names at the end.
 
 # A word of a usage: a name that is to be replaced is italic, any other bold; brackets and dots are neither.
 function styled(word, before, after) {

@@ -10,10 +10,13 @@
  * The library is proved for callers that keep to this:
  *  1. Handles. A handle was HASHBAG_NONE first, and since then only this library wrote it. It is never copied: no two handles have one bag. A
  *     call with two handles gets two different ones.
- *  2. Memory. A pointer isn't null, not even with the length 0. It is aligned, and there is memory of the length that is given. What a call
- *     writes overlaps no other argument. Who replaces `malloc` replaces `realloc` and `free` too, and aligns to 16.
+ *  2. Memory. A pointer isn't null, not even with the length 0, but for `hashbag_free(NULL)` and `hashbag_walk_free(NULL)`, which do nothing. It is
+ *     aligned, and there is memory of the length that is given. What a call writes overlaps no other argument. Who replaces `malloc` replaces
+ *     `realloc` and `free` too, and aligns to 16.
  *  3. Threads. A handle stays on the thread that put a bag or a walk into it, and has one call at a time, also of calls that only read. There is no call
  *     from a signal handler, or in the child of a `fork` of a program with threads.
+ *
+ * Lines of C aren't proved: those that leave a null pointer alone, `hashbag_error_text`, and the calls of `malloc`, `realloc` and `free`.
  */
 #ifndef HASHBAG_H
 #define HASHBAG_H
@@ -35,6 +38,9 @@ typedef struct hashbag_walk {
 } hashbag_walk;
 
 #define HASHBAG_NONE { NULL }
+
+/* The version: that of the Rust crate that is ported, a hyphen, and the number of the release. */
+#define HASHBAG_VERSION "0.1.13-3"
 
 /* What the calls that can fail return. */
 enum hashbag_error {
@@ -546,6 +552,12 @@ size_t hashbag_texts_next(hashbag_walk *walk, uint8_t *bytes, size_t bytes_len, 
 /* Returns how many bytes the next byte string of a walk has, which `hashbag_texts_next` needs places for to write it.
  * It is 0 at the end, or if the walk isn't one over byte strings. */
 size_t hashbag_texts_next_len(hashbag_walk *walk);
+
+/* ---- errors */
+
+/* Returns what a number means that a call returned, as a text: of the enum above, or `unknown error`. It isn't to be freed. This function isn't
+ * proved. */
+const char *hashbag_error_text(uint8_t code);
 
 #ifdef __cplusplus
 }

@@ -89,6 +89,21 @@ static void wrong_handles(void) {
     CHECK(hashbag_len(&texts) == 0 && texts.at == NULL);
 }
 
+/* What isn't proved: null pointers, and a text of its own for each error. */
+static void lines_of_c(void) {
+    static const uint8_t codes[15] = {HASHBAG_OK, HASHBAG_MEMORY, HASHBAG_TOO_MANY, HASHBAG_JSON_NOT_AN_ARRAY, HASHBAG_JSON_NOT_A_PAIR, HASHBAG_JSON_BAD_COUNT,
+                                      HASHBAG_JSON_BAD_ITEM, HASHBAG_JSON_TOO_MANY, HASHBAG_BELOW_TOTAL, HASHBAG_JSON_BAD_LIMIT, HASHBAG_EMPTY, HASHBAG_KIND,
+                                      HASHBAG_ENDS, HASHBAG_SHORT, HASHBAG_NOT_JSON};
+    int known = 0;
+    hashbag_free(NULL);
+    hashbag_walk_free(NULL);
+    for (int code = 0; code < 256; code++) known += strcmp(hashbag_error_text((uint8_t)code), "unknown error") != 0;
+    CHECK(known == 15);
+    for (int i = 0; i < 15; i++)
+        for (int k = 0; k < i; k++) CHECK(strcmp(hashbag_error_text(codes[i]), hashbag_error_text(codes[k])) != 0);
+    CHECK(!strcmp(hashbag_error_text(HASHBAG_BELOW_TOTAL), "the limit would be below the total"));
+}
+
 /* Random calls beside an array of counts. */
 static void against_counts(hashbag *bag, size_t *model, uint64_t values, size_t most) {
     size_t total = 0, distinct = 0, before;
@@ -575,6 +590,7 @@ static void json_texts(void) {
 }
 
 int main(void) {
+    lines_of_c();
     wrong_handles();
     numbers();
     texts();

@@ -1,7 +1,7 @@
 #!/usr/bin/env bash
 # bash tests/pages/header.sh [--write]: makes bindings/c/hashbag.h from the functions that crates/hashbag_c exports, and compares it with the file. `--write`
-# writes the file. It also compares the names in the Rust and the Python bindings with the exports: each names all of them, with as many arguments.
-# The last line is 'header: N functions' or says what is wrong.
+# writes the file. It also compares the names in the Rust and the Python bindings with the exports: each names all of them, with as many arguments. Each
+# error has a text in bindings/c/unproved.c. The last line is 'header: N functions' or says what is wrong.
 #
 # The comment of a function is its doc comment. A parameter `alloc` takes no bytes, so C passes nothing for it; a slice is a pointer and a length.
 set -u
@@ -49,10 +49,13 @@ HEAD = """\
  * The library is proved for callers that keep to this:
  *  1. Handles. A handle was HASHBAG_NONE first, and since then only this library wrote it. It is never copied: no two handles have one bag. A
  *     call with two handles gets two different ones.
- *  2. Memory. A pointer isn't null, not even with the length 0. It is aligned, and there is memory of the length that is given. What a call
- *     writes overlaps no other argument. Who replaces `malloc` replaces `realloc` and `free` too, and aligns to 16.
+ *  2. Memory. A pointer isn't null, not even with the length 0, but for `hashbag_free(NULL)` and `hashbag_walk_free(NULL)`, which do nothing. It is
+ *     aligned, and there is memory of the length that is given. What a call writes overlaps no other argument. Who replaces `malloc` replaces
+ *     `realloc` and `free` too, and aligns to 16.
  *  3. Threads. A handle stays on the thread that put a bag or a walk into it, and has one call at a time, also of calls that only read. There is no call
  *     from a signal handler, or in the child of a `fork` of a program with threads.
+ *
+ * Lines of C aren't proved: those that leave a null pointer alone, `hashbag_error_text`, and the calls of `malloc`, `realloc` and `free`.
  */
 #ifndef HASHBAG_H
 #define HASHBAG_H
@@ -75,11 +78,20 @@ typedef struct hashbag_walk {
 
 #define HASHBAG_NONE { NULL }
 
+/* The version: that of the Rust crate that is ported, a hyphen, and the number of the release. */
+#define HASHBAG_VERSION "@VERSION@"
+
 /* What the calls that can fail return. */
 enum hashbag_error {
     HASHBAG_OK = 0,
 """
 FOOT = """
+/* ---- errors */
+
+/* Returns what a number means that a call returned, as a text: of the enum above, or `unknown error`. It isn't to be freed. This function isn't
+ * proved. */
+const char *hashbag_error_text(uint8_t code);
+
 #ifdef __cplusplus
 }
 #endif
@@ -158,8 +170,11 @@ def errors():
         yield name, number, " ".join(it[4:] for it in doc.rstrip().split("\n"))
 
 
-made, functions = HEAD, {}
+version = re.search(r'^pub const VERSION: &str = "(.*)";$', read("crates/hashbag_shell/src/lib.rt"), re.M)
+made, functions, texts = HEAD.replace("@VERSION@", version[1]), {}, read("bindings/c/unproved.c")
 for word, number, text in errors():
+    if f"case HASHBAG_{word}: return " not in texts:
+        fail(f"bindings/c/unproved.c has no text for HASHBAG_{word}")
     made += textwrap.indent(comment([text]), "    ") + f"    HASHBAG_{word} = {number},\n"
 made += "};\n"
 for file in FILES:
