@@ -5,7 +5,7 @@ set -u
 cd "$(dirname "$0")/../.." || exit 1
 minutes=$(awk '/^(tests|proofs|programs) / { s += $2; n++ } END { if (n == 3) printf "%d", s + 0.5 }' tests/whole.txt)
 if [ "${1-}" = said ]; then
-  echo "From nothing it takes ${minutes:-?} processor minutes, and the wrong bodies that are tried"
+  [ -z "$minutes" ] || echo "From nothing it takes $minutes processor minutes, and what the wrong bodies take that are tried."
   exit 0
 fi
 [ -n "$minutes" ] || { echo "gate_figure: tests/whole.txt lacks one of the steps: bash tests/all whole"; exit 1; }
