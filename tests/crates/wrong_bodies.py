@@ -132,10 +132,10 @@ def jobs_for(count):
     return max(1, min(len(os.sched_getaffinity(0)), free, count))
 
 
-def try_all(repository, crates, controlled=(), jobs=None, is_quick=False, ready=None):
+def try_all(repository, crates, controlled=(), jobs=None, is_quick=False, ready=None, tell=None):
     """Tries wrong bodies, given by crate, several crates at a time, and prints what becomes of each. `controlled` are pairs of a crate and a function that is
-    tried without an edit too.
-    `ready` waits for a crate, and returns whether it is proved: the bodies of one that isn't are not tried."""
+    tried without an edit too. `ready` waits for a crate, and returns whether it is proved: the bodies of one that isn't are not tried. `tell` is given what
+    became of the bodies of a crate, as soon as it is known."""
     # The crates with the most to prove go first, or the lowest, if they are proved one after the other now.
     size = {it: sum(map(len, map(read, glob.glob(f"{repository.folder(it)}/src/**/*.rt", recursive=True)))) for it in crates}
     in_turn = sorted(crates, key=lambda it: (len(repository.below(it)) if ready else 0, -size[it]))
