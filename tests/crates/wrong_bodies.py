@@ -12,8 +12,8 @@ A wrong body is a file crates/NAME/refused/BODY.edit, in lines:
     names-only: REASON   only if a proof file names what the body removes, and no other goal of the function fails
 
 The wrong bodies of a crate are put beside the right functions, as twins (`body_twins.py`), and one `rattle check` of that copy tries them all. What can't have
-a twin, as a trait's method or a text in a macro, is put into the place of the right function: as many into a copy as change different functions, or one
-alone if it changes a text in no function. A check doesn't stop at the first function that isn't proved, and says of each why. A wrong body is rejected by
+a twin, as a trait's method or a text in a macro, and what isn't rejected as a twin, is put into the place of the right function: as many into a copy as
+change different functions, or one alone if it changes a text in no function. A check doesn't stop at the first function that isn't proved, and says of each why. A wrong body is rejected by
 itself if a goal of its own function fails; if its function only calls others that aren't proved, it is tried again in another copy, at last alone.
 
 The crates below are the ones that `rt ci` has built, if these are newer than their sources; otherwise `rt lib` builds what has changed. --built:
@@ -89,7 +89,7 @@ class Tries:
         again = []
         for it in twins:
             word, text = verdict(it.body, lines, [it.path])
-            if it.function in unproved or word == "again":
+            if it.function in unproved or word != "refused":
                 again += [] if it.is_control else [it.body]
             elif not it.is_control:
                 self.said[it.body] = word, text.replace(it.path, it.function)
