@@ -11,9 +11,8 @@ use std::path::Path;
 
 /// Returns the text of a constant of a file of `tests_rows`.
 fn text(file: &str, name: &str) -> String {
-    let top = Path::new(env!("CARGO_MANIFEST_DIR")).join("../../..");
-    let files = [format!("beside/crates/tests_rows/src/tests/{file}.rs"), format!("crates/tests_rows/src/tests/{file}.rt")];
-    let all = files.iter().find_map(|it| std::fs::read_to_string(top.join(it)).ok()).unwrap_or_else(|| panic!("no {}", files.join(" or ")));
+    let path = Path::new(env!("CARGO_MANIFEST_DIR")).join(format!("../../../beside/crates/tests_rows/src/tests/{file}.rs"));
+    let all = std::fs::read_to_string(&path).unwrap_or_else(|_| panic!("no {}", path.display()));
     let (_, rest) = all.split_once(&format!("const {name}: &str = \"")).unwrap_or_else(|| panic!("no {name} in {file}"));
     rest.split_once("\";").expect("an end").0.to_string()
 }
