@@ -1,3 +1,7 @@
+//! The public type. By hand, since it is in Rust's own forms: bounds, panics, traits, documentation.
+//!
+//! A method is one call of the proved bag. Those in which a value's code may run between the change of a count and that of the total are `guarded`:
+//! by_hand/hashbag_slots/cells.rs names them.
 use crate::error::ok;
 use crate::join::{Difference, NotIn, OuterJoin, SignedDifference};
 use crate::made::hashbag_core as proved;

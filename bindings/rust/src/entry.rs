@@ -1,3 +1,4 @@
+//! The entry of a value. By hand: it borrows the proved bag, and takes an entry of it for each call, so that the call can be guarded.
 use crate::BagError;
 use crate::bag::guarded;
 use crate::error::ok;

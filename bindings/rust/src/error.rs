@@ -1,3 +1,4 @@
+//! The public error, and the panics of calls that have no other way to report it. By hand: the source has no panics.
 use crate::made::hashbag_core::BagError as Proved;
 use crate::rattle::AllocError;
 use std::fmt;

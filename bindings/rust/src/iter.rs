@@ -1,3 +1,4 @@
+//! The iterators over one bag. By hand: each is the proved one, with the traits that Rust's collections have.
 use crate::made::hashbag_core as proved;
 use crate::rattle::TryClone;
 use std::fmt;

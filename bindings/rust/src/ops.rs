@@ -1,3 +1,4 @@
+//! Operations on whole bags, as methods. By hand: each is one call of a proved function, guarded if it changes a bag.
 use crate::bag::guarded;
 use crate::error::ok;
 use crate::made::hashbag_ops as proved;
