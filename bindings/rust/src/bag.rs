@@ -31,8 +31,16 @@ use std::mem;
 /// A call that inserts panics if the total would pass the limit, or if an allocation fails. The bag is then unchanged. Each such call has a form
 /// whose name begins with `try_` and which returns a [`BagError`] instead. (`try_take` is no such form; it is the original crate's.)
 ///
-/// If a value's own code or a closure panics during a call, each value is still in the bag, or was dropped, or is leaked. The total is the sum of the
-/// counts that are left.
+/// # After a panic
+///
+/// If a value's own code, a closure or an iterator panics in a call, the bag can be used on, and the total is the sum of its counts. What is left:
+///
+/// - The hash, the `==` or a closure of a call for one value: the bag is as before. So it is after a panic in `reserve`, `shrink_to_fit`,
+///   `finish_carry` or `clone`.
+/// - The drop of a value that was given, replaced or removed: the call has made its change.
+/// - `extend`, `retain`, `merge`, `keep_most`, `keep_common`, `take_away`: each value was changed or not. What `other` still has is dropped.
+/// - `clear`: each value was removed or not. What was removed and not dropped is leaked.
+/// - `drain`, an iterator by value, and the drop of the bag: values that weren't dropped are leaked.
 ///
 /// # Examples
 ///

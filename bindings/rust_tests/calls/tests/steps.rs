@@ -1,6 +1,6 @@
 //! The tables of a bag after each of many steps: slots, slots that wait, and room. They have to be those of the proved bag. The program
-//! `beside/crates/tests_steps`, in Rattle, makes the same steps under the same state, and prints what is compared here, line by line. A line has a sum
-//! over all steps so far, of their tables and of what they returned, so each step is compared.
+//! `beside/crates/tests_steps`, in Rattle, makes the same steps under the same state, and prints what is compared here, line by line. A line has a
+//! sum over all steps so far, of their tables and of what they returned, so each step is compared.
 use hashbag::HashBag;
 use std::fmt::Write;
 use std::hash::{BuildHasherDefault, Hasher};
