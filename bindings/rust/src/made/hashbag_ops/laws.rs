@@ -1,0 +1,86 @@
+// Made by bindings/rust/make of crates/hashbag_ops/src/laws.rt. Change that, or what `make` reads.
+use crate::rattle::prelude::*;
+// What follows from the contracts of several calls together: bags may be merged in any order and in any groups, what was merged can be taken away
+// again, and a list may be counted in parts.
+//
+// Each law is a function that is proved, which callers can copy.
+
+use crate::made::hashbag_ops::combine::{merge, take_away};
+use crate::made::hashbag_core::{BagError, HashBag};
+use crate::rattle::Global;
+use std::hash::{BuildHasher, Hash};
+
+// Merges `b` into `a`, and `same_a` into `same_b`, and returns whether the two sums are equal. They are. `same_a` has the counts of `a`, and
+// `same_b` those of `b`.
+//
+// # Errors
+//
+// `TooMany` or `Memory` if a merge fails.
+pub fn merges_commute<T: Eq + Hash, S: BuildHasher>(
+    mut a: HashBag<T, S>,
+    b: HashBag<T, S>,
+    same_a: HashBag<T, S>,
+    mut same_b: HashBag<T, S>,
+) -> Result<bool, BagError>
+{
+    merge(&mut a, b)?;
+    merge(&mut same_b, same_a)?;
+    Ok(a == same_b)
+}
+
+// Merges `b` and then `c` into `a`; and merges `same_c` into `same_b`, and the sum into `same_a`. Returns whether the two results are equal. They
+// are. `same_a`, `same_b` and `same_c` have the counts of `a`, `b` and `c`.
+//
+// # Errors
+//
+// `TooMany` or `Memory` if a merge fails.
+pub fn merges_associate<T: Eq + Hash, S: BuildHasher>(
+    mut a: HashBag<T, S>,
+    b: HashBag<T, S>,
+    c: HashBag<T, S>,
+    mut same_a: HashBag<T, S>,
+    mut same_b: HashBag<T, S>,
+    same_c: HashBag<T, S>,
+) -> Result<bool, BagError>
+{
+    merge(&mut a, b)?;
+    merge(&mut a, c)?;
+    merge(&mut same_b, same_c)?;
+    merge(&mut same_a, same_b)?;
+    Ok(a == same_a)
+}
+
+// Merges `other` into `bag`, and takes `same` away from `bag`. `same` has the counts of `other`, so each value then occurs in `bag` as often as
+// before.
+//
+// # Errors
+//
+// `TooMany` or `Memory` if the merge fails.
+pub fn put_in_and_taken_out<
+    T: Eq + Hash,
+    S: BuildHasher,
+    S2: BuildHasher,
+    S3: BuildHasher,
+>(bag: &mut HashBag<T, S>, other: HashBag<T, S2>, same: &HashBag<T, S3>) -> Result<(), BagError>
+{
+    merge(bag, other)?;
+    take_away(bag, same);
+    Ok(())
+}
+
+// Counts a list in two parts and merges them: each value is counted as often as it occurs in the whole list.
+//
+// # Errors
+//
+// `TooMany` or `Memory` if an insertion or the merge fails.
+pub fn count_in_parts<T: Eq + Hash>(
+    alloc: Global,
+    first: Vec<T>,
+    second: Vec<T>,
+) -> Result<HashBag<T>, BagError>
+{
+    let mut whole: HashBag<T> = HashBag::from_iter(alloc, first.into_iter())?;
+    let part: HashBag<T> = HashBag::from_iter(alloc, second.into_iter())?;
+    merge(&mut whole, part)?;
+    Ok(whole)
+}

@@ -1,0 +1,48 @@
+// Made by bindings/rust/make of crates/hashbag_slots/src/tags.rt. Change that, or what `make` reads.
+use crate::rattle::prelude::*;
+// Tags of slots, a byte each: what a probe reads of a slot before it reads its cell.
+//
+// | Tag | Slot |
+// |---|---|
+// | 0 | Empty |
+// | 1 | Removed |
+// | 2 | Moved |
+// | 128 plus the top 7 bits of the hash: its fingerprint | Live |
+
+use crate::rattle::{AllocError, Global};
+
+// The tag of an Empty slot.
+pub const EMPTY: u8 = 0;
+
+// The tag of a Removed slot.
+pub const REMOVED: u8 = 1;
+
+// The tag of a Moved slot.
+pub const MOVED: u8 = 2;
+
+// The least tag of a Live slot.
+pub const LEAST_LIVE: u8 = 128;
+
+// Returns the tag of a Live slot whose value has this hash: 128 plus the top 7 bits of the hash. The place is chosen by lower bits.
+#[inline(always)]
+pub fn fingerprint_of(hash: u64) -> u8
+{
+    (hash >> 57) as u8 + LEAST_LIVE
+}
+
+// Returns the tags of `slots` Empty slots.
+//
+// # Errors
+//
+// `AllocError` if the allocation fails. With `slots` 0 it can't fail.
+pub fn empty_tags(alloc: Global, slots: usize) -> Result<Vec<u8>, AllocError>
+{
+    let tags = crate::made::hashbag_slots::cells::empty_tags(slots)?;
+    Ok(tags)
+}
+
+// Makes each tag Empty.
+pub fn make_all_empty(tags: &mut [u8])
+{
+    tags.fill(EMPTY);
+}
