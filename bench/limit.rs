@@ -128,6 +128,13 @@ fn main() {
             let (slots, mut new) = (Slots::full(slots_of(many)), Slots::new(slots_of(many)));
             repeat(what, many, many, times, || slots.walk_into(&mut new));
         }
+        "clone" => {
+            let slots = Slots::full(slots_of(many));
+            repeat(what, many, many, times, || {
+                let mut new = Slots::new(slots_of(many));
+                slots.walk_into(&mut new)
+            });
+        }
         "common" => {
             let slots = Slots::full(slots_of(many));
             repeat("most_common", many, many, times, || {

@@ -132,6 +132,19 @@ fn copies(many: u64) {
     say("drop", many, many, now() - start, sum);
 }
 
+// A map is cloned, and the clone is dropped, again and again.
+fn clones(many: u64, times: u64) {
+    let map = filled(&distinct(0, many, 1));
+    let (mut sum, mut time) = (0, 0);
+    for _ in 0..times {
+        let start = now();
+        let other = black_box(black_box(&map).clone());
+        time += now() - start;
+        sum += distinct_values(&other) as u64;
+    }
+    say("clone", many, many * times, time, sum);
+}
+
 // Measures each single insertion.
 fn growth(many: u64) {
     let mut times = distinct(0, many, 1);
@@ -206,6 +219,7 @@ fn main() {
         "growth" => growth(many),
         "two" => two(many, times),
         "copy" => copies(many),
+        "clone" => clones(many, times),
         "common" => most_common(many),
         "texts" => texts(many),
         _ => panic!("not measured: {what}"),

@@ -1,8 +1,10 @@
 -- What bits tell of places.
 use Rattle.std.proofs.Common.{◌≡◌, ℕ, zero, suc, min, bit_and, ◌+◌, ◌-◌, ◌/◌, ◌%◌, ◌^◌, ◌<◌, ◌≤◌, ◌&&◌, Bool, true, false, cond, not, eqb, ltb, List, length, get_or, map, refl, sym, ap, subst, ◌∙◌, inl, inr, arith, w64}
-use Rattle.std.proofs.Math.Nat.{min-eq_left, min-zero}
+use Rattle.std.proofs.Math.Nat.{min-eq_left, min-zero, pow-succ'}
 use Rattle.std.proofs.lemmas.Bool.{cases_lt, ltb-true, lt-ltb, le-ltb, leb-true, lt-leb, le-leb, and_parts, ne_eqb, eq-eqb}
 use Rattle.std.proofs.lemmas.List.{get_or-map, get_or_past, length-map}
+use lib.Count.{count_leading_zeros}
+use Rattle.std.proofs.lemmas.Nat.{leading_top}
 use Rattle.std.proofs.lemmas.Nat.Bits.{bit_at-zero, bit_at-trailing_zeros, bit_at-suc, bit_at_lowest, bit_at-lt, bit_at_and, bit_at_ones, bit_at_ones_above}
 use Rattle.std.proofs.lemmas.Simd.{length-chunk, get_or-chunk, bit_mask_l}
 use Rattle.std.specs.Int.{bit_at, trailing_zeros}
@@ -153,6 +155,23 @@ module _ (test : ℕ → Bool) (from at until bits : ℕ) (tells : IsMaskOf (fro
         let passed = first_passes.0 in
         tells_same (from_place_on (from_place_on test at) (from + t + 1)) (from_place_on test (from + t + 1)) from until (bit_and bits (bits - 1))
         (λ p _. from_place_on-twice test at (from + t + 1) p (omega arith)) (tells_cleared (from_place_on test at) from until bits tells t some one low)
+
+-- one of the places passes the test
+pub some_told : (test : ℕ → Bool) (from until bits : ℕ) → IsMaskOf test from until bits → 0 < bits → bits < 2 ^ 64 → (i : ℕ) × (from + i < until) × (test (from + i) ≡ true)
+some_told test from until bits tells some fits =
+    let t = trailing_zeros w64 bits in let lowest = bit_at-trailing_zeros w64 bits some fits in let is = told test from until bits tells t lowest.1 in (t, is.0, is.1)
+
+-- the greatest bit of a number is set
+top_bit : (j n : ℕ) → 2 ^ j ≤ n → n < 2 ^ suc j → bit_at n j ≡ 1
+top_bit zero n low high = bit_at_lowest n ∙ omega arith
+top_bit (suc j) n low high =
+    let twice = pow-succ' 2 j in let more = pow-succ' 2 (suc j) in
+    bit_at-suc n j ∙ top_bit j (n / 2) (omega arith) (omega arith)
+
+-- the last of the places that pass the test
+pub last_told : (test : ℕ → Bool) (from until bits : ℕ) → IsMaskOf test from until bits → 0 < bits → bits < 2 ^ 64 → (i : ℕ) × (count_leading_zeros 64 bits + suc i ≡ 64) × (from + i < until) × (test (from + i) ≡ true)
+last_told test from until bits tells some fits =
+    let top = leading_top 64 bits some fits in let is = told test from until bits tells top.0 (top_bit top.0 bits top.2 top.3) in (top.0, top.1, is.0, is.1)
 
 -- the bits before the first place of which other bits tell, and of which these don't
 module _ (test stop : ℕ → Bool) (from until bits : ℕ) (tells : IsMaskOf test from until bits) (apart : (p : ℕ) → test p ≡ true → stop p ≡ false) where

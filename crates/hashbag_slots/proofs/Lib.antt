@@ -1,5 +1,6 @@
 pub mod Dropping
 pub mod GroupLemmas
+pub mod Guards
 pub mod Carrying
 pub mod Edits
 pub mod Hashing

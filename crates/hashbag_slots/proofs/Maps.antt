@@ -2,11 +2,11 @@
 use Rattle.std.proofs.Common.{◌≡◌, ℕ, zero, suc, Bool, true, false, cond, List, [], ◌∷◌, Option, Some, None, refl, sym, ap, ◌∙◌, arith}
 use Rattle.std.specs.Map.{lookup_entry}
 use Rattle.std.specs.Option.{IfSome, IfNone}
-use Rattle.hashbag_slots.specs.declared.probe.FirstGroup.{FirstGroup}
-use Rattle.hashbag_slots.specs.declared.probe.FirstGroup.TheVariants.{Found, Absent, Open}
+use Rattle.hashbag_slots.specs.declared.probe.Probed.{Probed}
+use Rattle.hashbag_slots.specs.declared.probe.Probed.TheVariants.{Found, Absent, Full}
 use Rattle.hashbag_slots.specs.declared.slots.Slot.{Slot}
 use Rattle.hashbag_slots.specs.declared.slots.Slot.TheVariants.{Empty, Removed, Moved, Live}
-use Rattle.hashbag_slots.specs.FirstGroup.{IfFound}
+use Rattle.hashbag_slots.specs.Probed.{IfFound}
 use Rattle.hashbag_slots.specs.Slots.{is_live, holds, slot_at, HoldsAt, IsAbsent, IsSet, slot_entry, entry_at, entries}
 use Rattle.hashbag_slots.proofs.Probing.{holder}
 
@@ -63,7 +63,7 @@ module _ {T : Type 0} (eq : T → T → Bool) (ss : List (Slot T)) (set : IsSet 
       set.apart q p at_q.0 at_p.0 at_q.1 at_p.1 at_q.2 at_p.2 (sym (one at_p.0 at_q.0 at_p.3) ∙ at_q.3)))
 
   -- the same of a place alone
-  pub known-lookup : (r : FirstGroup) → IfFound r (HoldsAt test ss) → IfFound r (λ p. slot_entry (slot_at ss p) ≡ lookup_entry test (entries ss))
+  pub known-lookup : (r : Probed) → IfFound r (HoldsAt test ss) → IfFound r (λ p. slot_entry (slot_at ss p) ≡ lookup_entry test (entries ss))
   known-lookup (Found p) some = entry_at-lookup (Some p) some tt
   known-lookup (Absent p) some = tt
-  known-lookup Open some = tt
+  known-lookup Full some = tt

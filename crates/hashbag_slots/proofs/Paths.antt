@@ -15,6 +15,23 @@ path_mask n h s c lt =
           ap (λ y. bit_and (y + s) (n - 1)) (mask h) ∙ mask (h % n + s) ∙ mod-add-mod h n s
     ]
 
+-- the first place of a path
+pub home_mask : (n h : ℕ) → IsSlotCount n → 0 < n → bit_and h (n - 1) ≡ path_slot n h 0
+home_mask n h c some =
+    elim c [
+      | inl z ↦ absurd (omega arith)
+      | inr w ↦
+          let same : h ≡ h + 0 = omega arith in
+          ap (λ m. bit_and h (m - 1)) w.3 ∙ and_mask h w.0 ∙ ap (λ m. h % m) (sym w.3) ∙ ap (λ k. k % n) same
+    ]
+
+-- a path that comes to the last slot goes on at slot 0
+pub path_wraps : (n h s r : ℕ) → 0 < n → path_slot n h s + r ≡ n → path_slot n h (s + r) ≡ 0
+path_wraps n h s r some end =
+    let e : h + (s + r) ≡ h + s + r = omega arith in
+    let once : n ≡ 0 + n = omega arith in
+    ap (λ x. x % n) e ∙ sym (mod-add-mod (h + s) n r) ∙ ap (λ x. x % n) (end ∙ once) ∙ add-mod_right 0 n ∙ mod-eq_of_lt some
+
 -- a place is reached without a wrap, or with one
 abbrev pub PathCases : ℕ → ℕ → ℕ → Type 0
 PathCases n h j = ((h % n + j < n) × (path_slot n h j ≡ h % n + j)) ⊎ ((n ≤ h % n + j) × (path_slot n h j + n ≡ h % n + j))

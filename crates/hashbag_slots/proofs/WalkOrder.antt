@@ -170,6 +170,7 @@ module _ {T : Type 0} where
       within = omega arith;
       sixteen = refl;
       on_pass = λ p a b. absurd (omega arith);
+      goes_on = λ inside. absurd (inside refl);
     }
 
     module _ (eq : T → T → Bool) (live removed older_live older_removed : ℕ) (first : IsColumns eq ts cs live removed) (second : IsColumns eq us ds older_live older_removed) where

@@ -166,6 +166,7 @@ module _ (turn p : ℕ) (on_pass : pass_of p ≡ turn / 2) (ts us vs ws : List �
     within = let w = on.within in let l = length_same in omega (arith, w, l);
     sixteen = on.sixteen;
     on_pass = on.on_pass;
+    goes_on = on.goes_on;
   }
 
   module _ {T : Type 0} (cs ds es fs : List (Option (T × ℕ))) (cells : IsEdit turn (λ l. slice_set l p None) cs ds es fs) where

@@ -153,6 +153,7 @@ module _ (newer older : List ℕ) where
           within = within;
           sixteen = omega arith;
           on_pass = λ p a b. same_pass base p sixteen (omega arith) b ∙ is;
+          goes_on = λ inside. in_block base sixteen inside ∙ is;
         };
       }
 

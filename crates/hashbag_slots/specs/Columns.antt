@@ -1,6 +1,6 @@
 -- How a table of slots is stored: a tag for each slot, which is a byte, and a row of cells. This file says which slots the tags and the cells stand
 -- for, and what a probe relies on.
-use Rattle.std.specs.Prelude.{◌≡◌, ◌≢◌, ℕ, ◌+◌, ◌/◌, ◌^◌, ◌<◌, ◌≤◌, Bool, true, List, [], ◌∷◌, length, Option, Some, None, if◌then◌else◌, nat_eq, slice_index_or}
+use Rattle.std.specs.Prelude.{◌≡◌, ℕ, ◌+◌, ◌/◌, ◌^◌, ◌<◌, ◌≤◌, Bool, true, List, [], ◌∷◌, length, take, Option, Some, None, if◌then◌else◌, nat_eq, slice_index_or}
 use Rattle.std.specs.HashMap.Lent.{HashMembers}
 use Rattle.std.specs.declared.hash.Hasher as hasher
 use Rattle.std.specs.declared.hash.BuildHasher as builder
@@ -30,15 +30,12 @@ AreLiveTags hash ts many = (step : ℕ) → step < many → 128 ≤ tag_at ts (p
 abbrev pub IsPastLiveTags : ℕ → List ℕ → ℕ → Type 0
 IsPastLiveTags hash ts p = (step : ℕ) × (step < length ts) × (p ≡ path_slot (length ts) hash step) × AreLiveTags hash ts step
 
--- an Empty tag is at a place from `from` to before `until`
-abbrev pub HasEmptyIn : List ℕ → ℕ → ℕ → Type 0
-HasEmptyIn ts from until = (p : ℕ) × (from ≤ p) × (p < until) × (tag_at ts p ≡ 0)
+-- the tags of `slots` slots come first. If there is a slot, 16 tags of no slot follow, the guards: all are 2, which is Moved
+pub record IsGuarded (slots : ℕ) (tags : List ℕ) : Type 0 where
+  pub long : 0 < slots → length tags ≡ slots + 16
+  pub guards : (p : ℕ) → slots ≤ p → p < slots + 16 → 0 < slots → tag_at tags p ≡ 2
 
--- no Empty tag is at the places from `from` to before `until`
-abbrev pub HasNoEmptyIn : List ℕ → ℕ → ℕ → Type 0
-HasNoEmptyIn ts from until = (p : ℕ) → from ≤ p → p < until → tag_at ts p ≢ 0
-
--- what contracts see of a table: its slots in the order of places, and their tags. The tags are there for `IsReached` and `IsUndecided`
+-- what contracts see of a table: its slots in the order of places, and their tags. The tags are there for `IsReached` and `IsFull`
 pub record Columns (T : Type 0) : Type 0 where
   pub slots : List (Slot T)
   pub tags : List ℕ
@@ -78,6 +75,12 @@ module _ {T : Type 0} where
     pub paths : KeepsPaths hash table.slots
     pub fingerprints : (p : ℕ) (v : T) (n : ℕ) → slot_at table.slots p ≡ Live v n → tag_at table.tags p ≡ fingerprint_of (hash v)
 
+  -- a probe for what passes the test finds it: under some hash each Live value of the table is found, and all that pass the test have the hash h
+  pub record IsReachedAt (test : T → Bool) (h : ℕ) (table : Columns T) : Type 0 where
+    pub hash : T → ℕ
+    pub alike : (v : T) → test v ≡ true → hash v ≡ h
+    pub reached : IsReached hash table
+
   -- `IsReached` for the table that tags and cells stand for
   abbrev pub AreReached : (T → ℕ) → List ℕ → List (Option (T × ℕ)) → Type 0
   AreReached hash ts cs = IsReached hash (columns ts cs)
@@ -110,3 +113,8 @@ module _ {T : Type 0} where
   pub record IsColumns (eq : T → T → Bool) (ts : List ℕ) (cs : List (Option (T × ℕ))) (live removed : ℕ) : Type 0 where
     pub agree : Agree ts cs
     pub table : IsTable eq (slots_of ts cs) live removed
+
+  -- the invariant of a table, over what it stores: `IsColumns` of the tags of its slots, after which the guards come
+  pub record IsStored (eq : T → T → Bool) (slots : ℕ) (tags : List ℕ) (cs : List (Option (T × ℕ))) (live removed : ℕ) : Type 0 where
+    pub shown : IsColumns eq (take slots tags) cs live removed
+    pub guarded : IsGuarded slots tags

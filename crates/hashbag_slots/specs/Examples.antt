@@ -4,7 +4,8 @@ use Rattle.std.proofs.Common.{zero, suc, lit<, lit≤, inl, inr, arith}
 use Rattle.hashbag_slots.specs.declared.slots.Slot.{Slot}
 use Rattle.hashbag_slots.specs.declared.slots.Slot.TheVariants.{Empty, Removed, Moved, Live}
 use Rattle.hashbag_slots.specs.Cells.{cell_at, filled_values}
-use Rattle.hashbag_slots.specs.Columns.{fingerprint_of, tag_at, slots_of}
+use Rattle.hashbag_slots.specs.Columns.{fingerprint_of, tag_at, columns, slots_of, IsGuarded, IsReachedAt}
+use Rattle.hashbag_slots.specs.Probed.{IsFull}
 use Rattle.hashbag_slots.specs.Slots.{IsSlotCount, path_slot, is_live, holds, live_count, removed_count, slot_at, HoldsAt, IsNextLive, entry_at, entries, recounted, raised, count_in, Places, PlacesAll, moved, entries_in}
 
 -- 16 slots. The home of 31 is the last slot, which 15 has, so 31 is in slot 0. The value of slot 1 was removed, and the value of slot 2 was carried
@@ -132,3 +133,19 @@ full_places = refl
 
 no_cell : cell_at {T = ℕ} (Some 5 ∷ []) 1 ≡ None
 no_cell = refl
+
+-- a table without slots needs no guards
+no_guards : IsGuarded 0 []
+no_guards = record { long = λ some. absurd (omega (arith, some)); guards = λ p from until some. absurd (omega (arith, some)) }
+
+-- tags of Empty slots after the last slot are no guards
+unguarded : IsGuarded 16 (replicate 32 0) → ⊥
+unguarded guarded = let guard : 0 ≡ 2 = guarded.guards 16 (lit≤ tt) (lit< tt) (lit< tt) in absurd (omega (arith, guard))
+
+-- in a table without slots no slot is free, and each value is absent
+full_without_slots : IsFull (λ (v : ℕ). v == 31) 31 (columns [] [])
+full_without_slots = (λ p within. refl, λ step before. absurd (omega (arith, before)))
+
+-- in a table that has 31 a probe for 31 finds it, and not for the hash 5
+other_hash : IsReachedAt (λ (v : ℕ). v == 31) 5 (columns (128 ∷ []) (Some (31, 2) ∷ [])) → (hash : ℕ → ℕ) × (hash 31 ≡ 5)
+other_hash reached = (reached.hash, reached.alike 31 refl)

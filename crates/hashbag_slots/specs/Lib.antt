@@ -1,7 +1,7 @@
 pub mod Cells
 pub mod Columns
 pub mod Examples
-pub mod FirstGroup
+pub mod Probed
 pub mod Hashing
 pub mod Group
 pub mod Owning

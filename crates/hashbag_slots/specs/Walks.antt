@@ -1,5 +1,5 @@
 -- What a walk over the tags and cells of two tables, a newer and an older one, still gives.
-use Rattle.std.specs.Prelude.{◌≡◌, ℕ, ◌+◌, ◌-◌, ◌/◌, ◌%◌, ◌^◌, ◌<◌, ◌≤◌, List, [], ◌∷◌, ◌++◌, Option, drop, length, map, if◌then◌else◌, nat_le, nat_eq}
+use Rattle.std.specs.Prelude.{◌≡◌, ◌≢◌, ℕ, ◌+◌, ◌-◌, ◌/◌, ◌%◌, ◌^◌, ◌<◌, ◌≤◌, List, [], ◌∷◌, ◌++◌, Option, drop, length, map, if◌then◌else◌, nat_le, nat_eq}
 use Rattle.std.proofs.Common.{zero, suc}
 use Rattle.std.specs.List.{filter, filter_map}
 use Rattle.hashbag_slots.specs.declared.live.Course.{Course}
@@ -58,7 +58,7 @@ pub record IsNextGroup (ts : List ℕ) (pass from : ℕ) (group : ℕ × ℕ) : 
   pub none : (p : ℕ) → from ≤ p → p < group.0 → pass_of p ≡ pass → tag_at ts p < 128
 
 -- a course has a bit in `ahead` for each of the 16 slots that end before `until`, all of them of its pass: the bit is set if the slot is Live and
--- isn't before `next`
+-- isn't before `next`. If no block ends at `until`, the slots after it are of the same pass
 pub record IsCourse (newer older : List ℕ) (c : Course) : Type 0 where
   pub mask : IsMaskFrom (λ p. nat_le 128 (tag_at (of_turn c.turn newer older) p)) (c.until - 16) c.next c.until c.ahead
   pub whole : 0 < c.ahead → 16 ≤ c.until
@@ -67,6 +67,7 @@ pub record IsCourse (newer older : List ℕ) (c : Course) : Type 0 where
   pub within : c.until ≤ length (of_turn c.turn newer older)
   pub sixteen : c.until % 16 ≡ 0
   pub on_pass : (p : ℕ) → c.next ≤ p → p < c.until → pass_of p ≡ c.turn / 2
+  pub goes_on : c.until % 256 ≢ 0 → pass_of c.until ≡ c.turn / 2
 
 -- a walk has come to the place `next` of this turn. The first place that it still gives is `place`, and after that place its course is c
 pub record IsNextOn (newer older : List ℕ) (turn next place : ℕ) (c : Course) : Type 0 where

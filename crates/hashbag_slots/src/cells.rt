@@ -110,6 +110,16 @@ impl<T> Cells<T> {
             row.put(place, value);
             return;
         }
+        self.put_first(place, value);
+    }
+
+    // Puts the first value into cells that weren't written.
+    #[inline(never)]
+    fn put_first(&mut self, place: usize, value: T)
+        requires within { place < length self.old }
+        requires empty { cell_at self.old place ≡ None }
+        ensures { self.new ≡ slice_set self.old place (Some value) }
+    {
         replace_with(&mut self.store, (place, value, self.alloc), put_into);
     }
 

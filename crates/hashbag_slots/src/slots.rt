@@ -15,18 +15,18 @@ ghost use Rattle.std.specs.Prelude.{◌≡◌, ℕ, ◌+◌, ◌<◌, ◌≤◌,
 ghost use Rattle.std.specs.List.Sorted.{IsPermutation};
 ghost use Rattle.std.specs.Map.{lookup_entry};
 ghost use Rattle.std.specs.Option.{option_map};
-ghost use Rattle.hashbag_slots.specs.FirstGroup.{IfFound, IfAbsent};
+ghost use Rattle.hashbag_slots.specs.Probed.{IfFound, IfAbsent};
 ghost use Rattle.hashbag_slots.specs.Hashing.{hash_under};
-ghost use Rattle.hashbag_slots.specs.Slots.{IsSlotCount, is_live, holds, live_count, removed_count, slot_at, HoldsAt, IsAbsent, IsNextLive, IsFirstFree, IsSet, slot_entry, entry_at, entries, recounted, raised, count_in, with_value, Places, PlacesAlong};
+ghost use Rattle.hashbag_slots.specs.Slots.{IsSlotCount, path_slot, is_live, holds, live_count, removed_count, slot_at, HoldsAt, IsAbsent, IsNextLive, IsFirstFree, IsSet, slot_entry, entry_at, entries, recounted, raised, count_in, with_value, Places, PlacesAlong};
 ghost use Rattle.hashbag_slots.specs.Columns.{slot_of, IsReached, PlacesBy, HashesAlike};
 
 pub mod blank;
 mod carry;
-mod find;
+pub mod find;
 
 use crate::cells::Cells;
 use crate::live::{Course, drop_if_live, next_live};
-pub use crate::probe::FirstGroup;
+pub use crate::probe::Probed;
 use crate::probe::first_free;
 use crate::tags::{LEAST_LIVE, REMOVED, empty_tags, fingerprint_of, make_all_empty};
 use crate::walk::{IntoWalk, Walk};
@@ -60,8 +60,10 @@ pub fn hash_of<Q: Hash + Copy, S: BuildHasher>(state: &S, key: Q) -> u64
 /// Contracts see its slots in the order of their places, and their tags. `IsReached`, which says that values are found under a hash, depends on the
 /// tags. Each call requires and ensures `IsReached`. A table that is dropped drops each of its values once.
 pub struct Slots<T: Eq> {
+    // The tags of the slots, and the guards.
     tags: Vec<u8>,
     cells: Cells<(T, usize)>,
+    slots: usize,
     live: usize,
     removed: usize,
 }
@@ -71,11 +73,12 @@ impl<T: Eq> Model for Slots<T> {
 
     ghost Value = { Columns T };
 
-    ghost use Rattle.hashbag_slots.specs.Columns.{columns, IsColumns};
+    ghost use Rattle.std.specs.Prelude.{take};
+    ghost use Rattle.hashbag_slots.specs.Columns.{columns, IsStored};
 
-    ghost view = { λ s. columns s.tags.items s.cells };
+    ghost view = { λ s. columns (take s.slots s.tags.items) s.cells };
 
-    ghost invariant = { λ s. IsColumns T.eq s.tags.items s.cells s.live s.removed };
+    ghost invariant = { λ s. IsStored T.eq s.slots s.tags.items s.cells s.live s.removed };
 }
 
 impl<T: Eq + Drop> Drop for Slots<T> {
@@ -83,10 +86,11 @@ impl<T: Eq + Drop> Drop for Slots<T> {
         let Slots {
             tags,
             mut cells,
+            slots,
             live,
             removed: _,
         } = self;
-        drop_if_live(tags.as_slice(), &mut cells, live);
+        drop_if_live(&tags.as_slice()[..slots], &mut cells, live);
         cells.free();
     }
 }
@@ -115,6 +119,7 @@ impl<T: Eq> Slots<T> {
         Ok(Slots {
             tags,
             cells,
+            slots: n,
             live: 0,
             removed: 0,
         })
@@ -132,7 +137,7 @@ impl<T: Eq> Slots<T> {
         // No two Live slots have equal values, and each count is at least 1.
         ensures distinct { IsSet T.eq self.now.slots }
     {
-        self.tags.len()
+        self.slots
     }
 
     /// Returns the number of Live slots, and so of values.
@@ -179,7 +184,7 @@ impl<T: Eq> Slots<T> {
         ensures none { IfNone result ((p : ℕ) → from ≤ p → is_live (slot_at self.now.slots p) ≡ false) }
         ensures bound { IfSome result (λ p. p < 2 ^ 59) }
     {
-        next_live(self.tags.as_slice(), from)
+        next_live(&self.tags.as_slice()[..self.slots], from)
     }
 
     /// Sets the count of the value at a place to `n`. The slot must be Live.
@@ -267,8 +272,12 @@ impl<T: Eq> Slots<T> {
         // There is no value left, so a probe finds each value under any hash.
         ensures reached { (hash : T → ℕ) → IsReached hash self.new }
     {
-        drop_if_live(self.tags.as_slice(), &mut self.cells, self.live);
-        make_all_empty(self.tags.as_mut_slice());
+        drop_if_live(
+            &self.tags.as_slice()[..self.slots],
+            &mut self.cells,
+            self.live,
+        );
+        make_all_empty(self.tags.as_mut_slice(), self.slots);
         self.live = 0;
         self.removed = 0;
     }
@@ -279,9 +288,9 @@ impl<T: Eq> Slots<T> {
         ensures fits { length result < 2 ^ 63 }
     {
         Walk {
-            newer_tags: self.tags.as_slice(),
+            newer_tags: &self.tags.as_slice()[..self.slots],
             newer: &self.cells,
-            older_tags: older.tags.as_slice(),
+            older_tags: &older.tags.as_slice()[..older.slots],
             older: &older.cells,
             cells: &self.cells,
             course: Course::first(),
@@ -296,17 +305,21 @@ impl<T: Eq> Slots<T> {
         ensures fits { length result < 2 ^ 63 }
     {
         let Slots {
-            tags: newer_tags,
+            tags: mut newer_tags,
             cells: newer,
+            slots: newer_slots,
             live: newer_live,
             removed: _,
         } = self;
         let Slots {
-            tags: older_tags,
+            tags: mut older_tags,
             cells: older,
+            slots: older_slots,
             live: older_live,
             removed: _,
         } = older;
+        newer_tags.truncate(newer_slots);
+        older_tags.truncate(older_slots);
         IntoWalk {
             newer_tags,
             newer,
@@ -347,7 +360,19 @@ impl<T: Eq + Hash> Slots<T> {
         requires room { live_count self.now.slots < length self.now.slots }
         ensures free { IsFirstFree hash self.now.slots result }
     {
-        first_free(self.tags.as_slice(), hash)
+        first_free(&self.tags.as_slice()[..self.slots], hash)
+    }
+
+    /// Returns the first place from `place` on, along the path, whose slot is not Live. At least one slot must not be Live.
+    #[inline(always)]
+    pub fn free_from(&self, place: usize) -> usize
+        requires room { live_count self.now.slots < length self.now.slots }
+
+        // On the path of a hash, all slots before `place` are Live: then the result is the first one on that path that isn't.
+        ensures free { (hash step : ℕ) → step < length self.now.slots → place ≡ path_slot (length self.now.slots) hash step → ((before : ℕ) → before < step → is_live (slot_at self.now.slots (path_slot (length self.now.slots) hash before)) ≡ true) → IsFirstFree hash self.now.slots result }
+    {
+        // The path that begins at `place`.
+        self.first_free(place as u64)
     }
 
     /// Places a value as [`Slots::place`] does, with its hash under the state. It hashes nothing.

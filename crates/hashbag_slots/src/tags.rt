@@ -6,8 +6,9 @@
 //! | 1 | Removed |
 //! | 2 | Moved |
 //! | 128 plus the top 7 bits of the hash: its fingerprint | Live |
-ghost use Rattle.std.specs.Prelude.{◌≡◌, ◌≤◌, length, IfOk, IsOk, replicate};
-ghost use Rattle.hashbag_slots.specs.Columns.{fingerprint_of};
+ghost use Rattle.std.specs.Prelude.{◌≡◌, ◌≤◌, ◌++◌, length, take, drop, IfOk, IsOk, replicate};
+ghost use Rattle.hashbag_slots.specs.Slots.{IsSlotCount};
+ghost use Rattle.hashbag_slots.specs.Columns.{fingerprint_of, IsGuarded};
 
 use std::alloc::{AllocError, Global};
 
@@ -19,6 +20,9 @@ pub const REMOVED: u8 = 1;
 
 /// The tag of a Moved slot.
 pub const MOVED: u8 = 2;
+
+/// How many tags of no slot, all `MOVED`, come after the tags of the slots. So sixteen tags can be read from each slot on.
+pub const GUARDS: usize = 16;
 
 /// The least tag of a Live slot.
 pub const LEAST_LIVE: u8 = 128;
@@ -32,23 +36,30 @@ pub fn fingerprint_of(hash: u64) -> u8
     (hash >> 57) as u8 + LEAST_LIVE
 }
 
-/// Returns the tags of `slots` Empty slots.
+/// Returns the tags of `slots` Empty slots, and the guards after them.
 ///
 /// # Errors
 ///
 /// `AllocError` if the allocation fails. With `slots` 0 it can't fail.
 pub fn empty_tags(alloc: Global, slots: usize) -> Result<Vec<u8>, AllocError>
-    ensures tags { IfOk result (λ v. v.items ≡ replicate slots 0) }
+    requires { IsSlotCount slots }
+    ensures tags { IfOk result (λ v. take slots v.items ≡ replicate slots 0) }
+    ensures guarded { IfOk result (λ v. IsGuarded slots v.items) }
     ensures none { slots ≡ 0 → IsOk result }
 {
-    let mut tags = Vec::with_capacity(alloc, slots)?;
+    if slots == 0 {
+        return Vec::with_capacity(alloc, 0);
+    }
+    let mut tags = Vec::with_capacity(alloc, slots + GUARDS)?;
     tags.resize(slots, EMPTY)?;
+    tags.resize(slots + GUARDS, MOVED)?;
     Ok(tags)
 }
 
-/// Makes each tag Empty.
-pub fn make_all_empty(tags: &mut [u8])
-    ensures { tags.new ≡ replicate (length tags.old) 0 }
+/// Makes each of the first `slots` tags Empty.
+pub fn make_all_empty(tags: &mut [u8], slots: usize)
+    requires { slots ≤ length tags.old }
+    ensures { tags.new ≡ replicate slots 0 ++ drop slots tags.old }
 {
-    tags.fill(EMPTY);
+    tags[..slots].fill(EMPTY);
 }

@@ -67,6 +67,10 @@ module _ {T : Type 0} where
             ];
       }
 
+  -- a Live slot stays Live
+  pub stays_live : (k : ℕ) (a b : List (Slot T)) → Fills k a b → (p : ℕ) → is_live (slot_at a p) ≡ true → is_live (slot_at b p) ≡ true
+  stays_live k a b f p live = elim (f.each p) [ inl same ↦ ap is_live same ∙ live | inr filled ↦ filled.2 ]
+
   pub Fills-PlacesAll : (hash : T → ℕ) (es : List (T × ℕ)) (a b : List (Slot T)) → PlacesAll hash es a b → Fills (length es) a b
   Fills-PlacesAll hash [] a b h = subst (Fills 0 a) (sym h) (Fills-none a)
   Fills-PlacesAll hash (e ∷ es) a b h =

@@ -20,7 +20,7 @@ module _ {T : Type 0} where
   IsTaken s = one_if (is_live s) + one_if (is_removed s) ≡ 1
 
   module _ (ss : List (Slot T)) (p : ℕ) (s : Slot T) (v : T) (n : ℕ) (within : p < length ss) (was : slot_at ss p ≡ Live v n) (taken : IsTaken s) where
-    same_taken : live_count (slice_set ss p s) + removed_count (slice_set ss p s) ≡ live_count ss + removed_count ss
+    pub same_taken : live_count (slice_set ss p s) + removed_count (slice_set ss p s) ≡ live_count ss + removed_count ss
     same_taken =
         let a = count-set ss p s within is_live in let b = count-set ss p s within is_removed in
         let c : one_if (is_live (slot_at ss p)) ≡ 1 = ap (λ x. one_if (is_live x)) was in

@@ -6,7 +6,7 @@ use lib.Pow.{pow_mono}
 use Rattle.hashbag_slots.specs.declared.slots.Slot.{Slot}
 use Rattle.hashbag_slots.specs.declared.slots.Slot.TheVariants.{Empty, Removed, Live}
 use Rattle.hashbag_table.specs.declared.table.Spot.TheVariants.{Newer, Waiting}
-use Rattle.hashbag_table.specs.Tables.{most_used, grown_slots, IsLeast, Tables, room, values, entries_of, slot_in, entry_in, IsPacked, fresh}
+use Rattle.hashbag_table.specs.Tables.{most_used, grown_slots, IsLeast, Tables, room, values, entries_of, slot_in, entry_in, IsPacked, IsAtOnce, IsHinted, fresh}
 
 -- 32 slots of the newer table, one Live and one Removed; and 16 of the older one, of which the last two still wait
 abbrev newer : List (Slot ℕ)
@@ -119,3 +119,17 @@ no_spot = refl
 -- both values in one table, without a Removed slot
 packed : IsPacked {T = ℕ} (record { newer = Live 15 7 ∷ replicate 4 Empty ++ Live 5 2 ∷ replicate 26 Empty; waiting = []; older = 0; built = 32 })
 packed = record { waiting = refl; room = refl }
+
+-- ---- the three numbers that are kept with two tables
+
+-- 12 values can be placed in 16 Empty slots at once
+twelve_at_once : IsAtOnce {T = ℕ} (replicate 16 Empty) [] 12
+twelve_at_once = record { alone = λ some. refl; fits = λ some. omega arith }
+
+-- while an older table has slots, none can
+none_at_once : IsAtOnce {T = ℕ} (replicate 16 Empty) (replicate 16 Empty) 1 → ⊥
+none_at_once k = let older : 16 ≡ 0 = k.alone (lit< tt) in absurd (omega (arith, older))
+
+-- 16 slots alone: the number that shows it is 15
+quick_alone : IsHinted {T = ℕ} (replicate 16 Empty) [] 0 0 15 12
+quick_alone = record { quick_is = λ small. (refl, refl); edge_within = omega arith; edge_ends = λ some. absurd (omega (arith, some)); places = twelve_at_once }

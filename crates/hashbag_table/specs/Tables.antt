@@ -1,5 +1,5 @@
 -- Two tables of slots as one map: the newer one, and the slots of the older one that wait to be carried.
-use Rattle.std.specs.Prelude.{◌≡◌, ◌≢◌, ℕ, ◌+◌, ◌-◌, ◌*◌, ◌/◌, ◌<◌, ◌≤◌, Bool, true, false, List, [], ◌∷◌, ◌++◌, Option, Some, None, drop, length, replicate, if◌then◌else◌, nat_eq, nat_le, ◌⊎◌, slice_index, slice_set}
+use Rattle.std.specs.Prelude.{◌≡◌, ◌≢◌, ℕ, ◌+◌, ◌-◌, ◌*◌, ◌/◌, ◌^◌, ◌<◌, ◌≤◌, Bool, true, false, List, [], ◌∷◌, ◌++◌, Option, Some, None, drop, length, replicate, if◌then◌else◌, nat_eq, nat_le, ◌⊎◌, slice_index, slice_set}
 use Rattle.std.specs.HashMap.Lent.{HashMembers}
 use Rattle.std.specs.declared.hash.Hasher as hasher
 use Rattle.std.specs.declared.hash.BuildHasher as builder
@@ -83,6 +83,24 @@ module _ {T : Type 0} where
     pub carries : length (drop carried_to older.slots) ≤ 16 * room_of newer.slots (drop carried_to older.slots)
     pub smaller : (drop carried_to older.slots ≡ []) ⊎ (16 + length (drop carried_to older.slots) ≤ length newer.slots)
     pub freed : length older.slots ≤ carried_to → length older.slots ≡ 0
+
+  -- at least k absent values can be placed without a carry or a growth: if k isn't 0, the older table has no slots, and the newer one has room for k
+  pub record IsAtOnce (newer older : List (Slot T)) (k : ℕ) : Type 0 where
+    pub alone : 0 < k → length older ≡ 0
+    pub fits : 0 < k → k + live_count newer + removed_count newer ≤ most_used (length newer)
+
+  -- three numbers that are kept with two tables. `edge`: 0, or a place up to `carried_to`, and the slot before it is Empty. `quick`: if it is less than
+  -- 2 ^ 16, it is the number of newer slots less 1, and the older table has no slots. `at_once`: as `IsAtOnce` says
+  pub record IsHinted (newer older : List (Slot T)) (carried_to edge quick at_once : ℕ) : Type 0 where
+    pub quick_is : quick < 2 ^ 16 → (length newer ≡ quick + 1) × (length older ≡ 0)
+    pub edge_within : edge ≤ carried_to
+    pub edge_ends : 0 < edge → slot_at older (edge - 1) ≡ Empty
+    pub places : IsAtOnce newer older at_once
+
+  -- what holds between two calls, of both tables and of the three numbers
+  pub record IsHeld (eq : T → T → Bool) (hash : T → ℕ) (newer older : Columns T) (carried_to edge quick at_once : ℕ) : Type 0 where
+    pub kept : IsTables eq hash newer older carried_to
+    pub hints : IsHinted newer.slots older.slots carried_to edge quick at_once
 
   -- the table `newer` may become the newer one. Then the slots `former` are the older table, whose first `many` slots are carried at once. A probe
   -- of `newer` finds each of its values. No more of its slots are used than `most_used` allows, with the values of `former`. The slots that wait then

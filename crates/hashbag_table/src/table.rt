@@ -6,10 +6,10 @@
 //! In clauses `IsMapOf` says which entries there are. `Adds`: occurrences were added, and a stored instance stays. `Stores`: the given instance itself
 //! is stored. Both also say which slots changed. `Rewrites`: only the slot of one value changed. `KeepsRoom 0`: no table was built, and room isn't
 //! lower. `FailsIfFull`: a call fails only for an absent value without room, and then changes nothing. `named_entry`: the entry that a key names.
-ghost use Rattle.std.specs.Prelude.{◌≡◌, ◌+◌, ◌-◌, ◌*◌, ◌<◌, ◌≤◌, ◌^◌, [], ◌∷◌, length, replicate, true, Some, None, IfOk, IfErr, OnOk, OnErr, IsOk, IsSome, IsTrue};
+ghost use Rattle.std.specs.Prelude.{◌≡◌, ◌+◌, ◌-◌, ◌*◌, ◌<◌, ◌≤◌, ◌^◌, [], ◌∷◌, length, replicate, true, Some, None, IfOk, IfErr, IfSome, IfNone, OnOk, OnErr, OnSome, IsOk, IsSome, IsTrue};
 ghost use Rattle.std.specs.Borrow.{sem};
 ghost use Rattle.std.specs.List.Sorted.{IsPermutation};
-ghost use Rattle.hashbag_slots.specs.FirstGroup.{IfAbsent};
+ghost use Rattle.hashbag_slots.specs.Probed.{IfAbsent, IfFull};
 ghost use Rattle.hashbag_slots.specs.Hashing.{hash_under};
 ghost use Rattle.hashbag_slots.specs.Slots.{IsSlotCount, entries, IsAbsent, IsFirstFree, Places};
 ghost use Rattle.hashbag_table.specs.Additions.{Adds, Stores, FailsIfFull};
@@ -18,7 +18,7 @@ ghost use Rattle.hashbag_table.specs.Named.{named_count, named_entry};
 ghost use Rattle.hashbag_table.specs.Entries.{entry_of, count_of, without, with_count, with_instance, total, IsCounted};
 ghost use Rattle.hashbag_table.specs.Retained.{RetainsTables};
 ghost use Rattle.hashbag_table.specs.Table.{IsMapOf, LosesNamed, RewritesCount, ChangesSlot};
-ghost use Rattle.hashbag_table.specs.Tables.{most_used, room, entries_of, Arrives, KeepsRoom, IsNotOverfull, NoneMoved, Rewrites};
+ghost use Rattle.hashbag_table.specs.Tables.{most_used, room, entries_of, Arrives, KeepsRoom, IsNotOverfull, IsAtOnce, NoneMoved, Rewrites};
 
 mod keys;
 mod make;
@@ -31,7 +31,8 @@ use crate::capacity::{MOST_SLOTS, clear_slots, most_used, no_slots};
 use crate::key::Key;
 use crate::retain::retain_slots;
 use crate::walk::{DrainWalk, IntoWalk, Walk};
-use hashbag_slots::slots::{FirstGroup, Slot, Slots};
+use hashbag_slots::slots::find::MOST_CACHED;
+use hashbag_slots::slots::{Probed, Slot, Slots};
 use std::alloc::{AllocError, Global};
 use std::hash::{BuildHasher, Hash};
 use std::marker::Model;
@@ -41,6 +42,31 @@ use std::mem;
 pub const MOST_VALUES: usize = MOST_SLOTS / 4 * 3;
 
 const _: () = prove!(MOST_VALUES == 432_345_564_227_567_616);
+
+// No number of slots less 1.
+const NOT_QUICK: usize = usize::MAX;
+
+// Returns `quick` for a newer and an older table with these numbers of slots.
+fn quick_of(newer: usize, older: usize) -> usize
+    ensures small { result < 2 ^ 16 → (newer ≡ result + 1) × (older ≡ 0) }
+    ensures told { 0 < newer → newer ≤ 2 ^ 16 → older ≡ 0 → newer ≡ result + 1 }
+{
+    let mask = newer.wrapping_sub(1);
+    if older == 0 && mask < MOST_CACHED {
+        return mask;
+    }
+    NOT_QUICK
+}
+
+// Returns `at_once` for two tables: how many absent values can be placed in the newer one, if no slot waits in the older one. Else 0.
+fn at_once_of<T: Eq>(newer: &Slots<T>, older: &Slots<T>) -> usize
+    ensures { IsAtOnce newer.now.slots older.now.slots result }
+{
+    if older.slots() > 0 {
+        return 0;
+    }
+    most_used(newer.slots()).saturating_sub(newer.live() + newer.removed())
+}
 
 /// Where a value is: the place of its slot in the newer table, or among the waiting slots of the older one.
 #[derive(Clone, Copy)]
@@ -62,6 +88,13 @@ pub struct Table<T: Eq + Hash + Drop, S: BuildHasher + Drop> {
     older: Slots<T>,
     // The number of slots of the older table that were carried: its first ones.
     carried_to: usize,
+    // A value whose home in the older table is before this place isn't in that table: the slot before it is Empty, and all slots before `carried_to`
+    // were carried.
+    edge: usize,
+    // The number of slots less 1, if there are at most `MOST_CACHED`, and none waits in the older table. Else `NOT_QUICK`.
+    quick: usize,
+    // At least as many absent values can be placed without a carry or a growth. It may be too low. If it isn't 0, no slot waits.
+    at_once: usize,
     hasher: S,
     // The allocator of the table and of its copies.
     alloc: Global,
@@ -75,13 +108,13 @@ impl<T: Eq + Hash + Drop, S: BuildHasher + Drop> Model for Table<T, S> {
     ghost use Rattle.std.specs.Prelude.{drop, length};
     ghost use Rattle.hashbag_slots.specs.Hashing.{hash_under};
     ghost use Rattle.hashbag_table.specs.Table.{Table as Entries};
-    ghost use Rattle.hashbag_table.specs.Tables.{IsTables, entries_of};
+    ghost use Rattle.hashbag_table.specs.Tables.{IsHeld, entries_of};
 
     ghost Value = { Entries T S };
 
     ghost view = { λ t. record { entries = entries_of t.newer.slots (drop t.carried_to t.older.slots); hasher = t.hasher; tables = record { newer = t.newer.slots; waiting = drop t.carried_to t.older.slots; older = length t.older.slots; built = t.built } } };
 
-    ghost invariant = { λ t. IsTables T.eq (hash_under T.hash_input S.BuildHasher S.Hasher.Hasher t.hasher) t.newer t.older t.carried_to };
+    ghost invariant = { λ t. IsHeld T.eq (hash_under T.hash_input S.BuildHasher S.Hasher.Hasher t.hasher) t.newer t.older t.carried_to t.edge t.quick t.at_once };
 }
 
 impl<T: Eq + Hash + Drop, S: BuildHasher + Drop> Table<T, S> {
@@ -156,18 +189,36 @@ impl<T: Eq + Hash + Drop, S: BuildHasher + Drop> Table<T, S> {
         self.set_len() + self.room()
     }
 
-    // Returns whether an absent value can be placed without a carry or a growth: no slot waits, and there is room.
+    // Returns whether it is known that an absent value can be placed without a carry or a growth: no slot waits, and there is room.
     #[inline(always)]
     fn can_place_at_once(&self) -> bool
         ensures room { result ≡ true → 0 < room self.now.tables }
         ensures none_waits { result ≡ true → self.now.tables.waiting ≡ [] }
         ensures entries { result ≡ true → self.now.entries ≡ entries self.now.tables.newer }
     {
-        self.older.slots() == 0 && self.room() > 0
+        self.at_once > 0
     }
 
     // Places an absent value at `place`, the first slot on its path that isn't Live. The caller has carried or grown before, if that was
     // needed. It doesn't allocate.
+    #[inline(always)]
+    fn place_at_once(&mut self, place: usize, hash: u64, value: T, count: usize)
+        requires hashed { hash ≡ hash_under T.hash_input S.BuildHasher S.Hasher.Hasher self.old.hasher value }
+        requires free { IsFirstFree hash self.old.tables.newer place }
+        requires absent { entry_of T.eq value self.old.entries ≡ None }
+        requires positive { 0 < count }
+        requires room { 0 < room self.old.tables }
+        requires carries { length self.old.tables.waiting ≤ 16 * (room self.old.tables - 1) }
+        ensures placed { Places value count self.old.tables.newer self.new.tables.newer }
+        ensures waiting { self.new.tables.waiting ≡ self.old.tables.waiting }
+        ensures built { self.new.tables.built ≡ self.old.tables.built }
+        ensures entries { IsMapOf T.eq self.old ((value, count) ∷ self.old.entries) self.new }
+    {
+        self.at_once = self.at_once.saturating_sub(1);
+        self.newer.place_at(place, &self.hasher, hash, value, count);
+    }
+
+    // Places a value as `place_at_once` does, and counts anew how many more can be placed at once.
     #[inline(never)]
     fn place_absent(&mut self, place: usize, hash: u64, value: T, count: usize)
         requires hashed { hash ≡ hash_under T.hash_input S.BuildHasher S.Hasher.Hasher self.old.hasher value }
@@ -181,7 +232,8 @@ impl<T: Eq + Hash + Drop, S: BuildHasher + Drop> Table<T, S> {
         ensures built { self.new.tables.built ≡ self.old.tables.built }
         ensures entries { IsMapOf T.eq self.old ((value, count) ∷ self.old.entries) self.new }
     {
-        self.newer.place_at(place, &self.hasher, hash, value, count);
+        self.place_at_once(place, hash, value, count);
+        self.at_once = at_once_of(&self.newer, &self.older);
     }
 
     /// Inserts an absent value with a count.
@@ -220,18 +272,97 @@ impl<T: Eq + Hash + Drop, S: BuildHasher + Drop> Table<T, S> {
         Ok(())
     }
 
-    /// Sets the count of a present value. It hashes the value once and doesn't allocate.
-    pub fn set_count(&mut self, value: &T, n: usize)
-        requires present { IsSome (entry_of T.eq value.now self.old.entries) }
+    // Inserts an absent value as `insert_hashed` does. `first` is what a probe of the newer table showed: if that was a free slot, a carry goes on from
+    // there, and nothing is probed from the home slot again.
+    fn insert_probed(
+        &mut self,
+        hash: u64,
+        value: T,
+        n: usize,
+        first: Probed,
+    ) -> Result<(), AllocError>
+        requires hashed { hash ≡ hash_under T.hash_input S.BuildHasher S.Hasher.Hasher self.old.hasher value }
+        requires free { IfAbsent first (IsFirstFree hash self.old.tables.newer) }
+        requires absent { entry_of T.eq value self.old.entries ≡ None }
         requires positive { 0 < n }
-        ensures set { IsMapOf T.eq self.old (with_count T.eq value.now n self.old.entries) self.new }
-        ensures slot { RewritesCount (T.eq value.now) n self.old self.new }
+        ensures stored { OnOk result (Stores T.eq value n self.old self.new) }
+        ensures counted { IsCounted T.eq self.new.entries }
+        ensures fails { FailsIfFull T.eq value self.old self.new result }
+    {
+        if let Probed::Absent(place) = first {
+            if self.room() > 0 {
+                let free = self.carry_past(place);
+                self.place_absent(free, hash, value, n);
+                return Ok(());
+            }
+        }
+        self.insert_hashed(hash, value, n)
+    }
+
+    // Inserts an absent value with a count. The table must have room, and no slot may wait. The call is inlined into the loop that clones: it hashes the
+    // value once and probes only for a free slot.
+    #[inline(always)]
+    fn place_new(&mut self, value: T, count: usize)
+        requires absent { entry_of T.eq value self.old.entries ≡ None }
+        requires positive { 0 < count }
+        requires room { 0 < room self.old.tables }
+        requires none_waits { self.old.tables.waiting ≡ [] }
+        ensures stored { Stores T.eq value count self.old self.new }
+        ensures counted { IsCounted T.eq self.new.entries }
+    {
+        let hash = self.hash(&value);
+        let place = self.newer.first_free(hash);
+        self.place_at_once(place, hash, value, count);
+    }
+
+    /// Sets the count of a present value, if the count rises by at most `more`, and returns the count before in `Ok`. Else nothing changes, and the count
+    /// is returned in `Err`, which is no failure; 0 means that the value is absent. One look-up finds what is compared and what is set.
+    ///
+    /// # Complexity
+    ///
+    /// It hashes the value once and doesn't allocate.
+    pub fn set_count(&mut self, value: &T, n: usize, more: usize) -> Result<usize, usize>
+        requires positive { 0 < n }
+        ensures before { IfOk result (λ before. (before ≡ count_of T.eq value.now self.old.entries) × (0 < before) × (n ≤ before + more)) }
+        ensures count { IfErr result (λ before. (before ≡ count_of T.eq value.now self.old.entries) × (0 < before → before + more < n)) }
+        ensures set { OnOk result (IsMapOf T.eq self.old (with_count T.eq value.now n self.old.entries) self.new) }
+        ensures slot { OnOk result (RewritesCount (T.eq value.now) n self.old self.new) }
+        ensures err { OnErr result (self.new ≡ self.old) }
         ensures room { KeepsRoom 0 self.old.tables self.new.tables }
     {
         let hash = self.hash(value);
         if let Some(spot) = self.spot_of(hash, value) {
+            let before = self.count_at(spot);
+            if n.saturating_sub(before) > more {
+                return Err(before);
+            }
             self.set_spot(spot, n);
+            return Ok(before);
         }
+        Err(0)
+    }
+
+    /// Stores a value itself with the count 1, if it is present, and returns the count before. The instance that was stored is dropped. `None`: the value
+    /// is absent, and nothing changes; the given value is dropped.
+    ///
+    /// # Complexity
+    ///
+    /// It hashes the value once and doesn't allocate.
+    pub fn put_present(&mut self, value: T) -> Option<usize>
+        ensures before { IfSome result (λ before. (before ≡ count_of T.eq value self.old.entries) × (0 < before)) }
+        ensures stored { OnSome result (Stores T.eq value 1 self.old self.new) }
+        ensures counted { IsCounted T.eq self.new.entries }
+        ensures absent { IfNone result (entry_of T.eq value self.old.entries ≡ None) }
+        ensures none { IfNone result (self.new ≡ self.old) }
+    {
+        let hash = self.hash(&value);
+        if let Some(spot) = self.spot_of(hash, &value) {
+            let before = self.count_at(spot);
+            let replaced = self.put_spot(spot, value);
+            drop(replaced);
+            return Some(before);
+        }
+        None
     }
 
     /// Removes the value that a key names, and returns its stored instance and its count, or `None` if it is absent. Its slot, in whichever
@@ -317,18 +448,20 @@ impl<T: Eq + Hash + Drop, S: BuildHasher + Drop> Table<T, S> {
         Err(0)
     }
 
-    // The slow path of `add`, if the first group of the value's path in the newer table doesn't have the value. `first` says whether that group shows
-    // that the value is absent there. This function is out of line, so that the fast path is short.
+    // The slow path of `add`, if the newer table doesn't have the value. `first` is what a probe of that table showed. This function is out of line, so that
+    // the fast path is short.
     #[inline(never)]
     fn add_slow(
         &mut self,
         hash: u64,
         value: T,
         n: usize,
-        first: FirstGroup,
+        first: Probed,
     ) -> Result<usize, AllocError>
         requires hashed { hash ≡ hash_under T.hash_input S.BuildHasher S.Hasher.Hasher self.old.hasher value }
         requires shown { IfAbsent first (λ _. IsAbsent (T.eq value) self.old.tables.newer) }
+        requires free { IfAbsent first (IsFirstFree hash self.old.tables.newer) }
+        requires full { IfFull first (IsAbsent (T.eq value) self.old.tables.newer) }
         requires positive { 0 < n }
         requires fits { count_of T.eq value self.old.entries + n < 2 ^ 64 }
         ensures before { IfOk result (λ before. before ≡ count_of T.eq value self.old.entries) }
@@ -337,11 +470,11 @@ impl<T: Eq + Hash + Drop, S: BuildHasher + Drop> Table<T, S> {
         ensures fails { FailsIfFull T.eq value self.old self.new result }
     {
         self.show_invariant();
-        if let Some(spot) = self.spot_after_first_group(hash, &value, first) {
+        if let Some(spot) = self.spot_after_probe(hash, &value, first) {
             let before = self.raise_spot(spot, n);
             return Ok(before);
         }
-        self.insert_hashed(hash, value, n)?;
+        self.insert_probed(hash, value, n, first)?;
         Ok(0)
     }
 
@@ -366,14 +499,14 @@ impl<T: Eq + Hash + Drop, S: BuildHasher + Drop> Table<T, S> {
         ensures fails { FailsIfFull T.eq value self.old self.new result }
     {
         let hash = self.hash(&value);
-        let first = self.probe_first_group(hash, &value);
-        if let FirstGroup::Found(place) = first {
+        let first = self.probe_path(hash, &value);
+        if let Probed::Found(place) = first {
             let before = self.raise_spot(Spot::Newer(place), n);
             return Ok(before);
         }
-        if let FirstGroup::Absent(place) = first {
+        if let Probed::Absent(place) = first {
             if self.can_place_at_once() {
-                self.place_absent(place, hash, value, n);
+                self.place_at_once(place, hash, value, n);
                 return Ok(0);
             }
         }
@@ -424,6 +557,9 @@ impl<T: Eq + Hash + Drop, S: BuildHasher + Drop> Table<T, S> {
         clear_slots(&mut self.newer);
         let _freed = mem::replace(&mut self.older, no_slots(self.alloc));
         self.carried_to = 0;
+        self.edge = 0;
+        self.quick = quick_of(self.newer.slots(), 0);
+        self.at_once = 0;
     }
 
     /// Calls `f` once for each value, with its count, in no particular order. Each count becomes the lesser of the count and what `f` returns. If
@@ -445,6 +581,7 @@ impl<T: Eq + Hash + Drop, S: BuildHasher + Drop> Table<T, S> {
         ensures in_place { RetainsTables self.old.tables self.new.tables }
         ensures room { KeepsRoom 0 self.old.tables self.new.tables }
     {
+        self.at_once = 0;
         let newer = retain_slots(&mut self.newer, 0, &mut f);
         let waiting = retain_slots(&mut self.older, self.carried_to, &mut f);
         newer + waiting
@@ -469,6 +606,9 @@ impl<T: Eq + Hash + Drop, S: BuildHasher + Drop> Table<T, S> {
             newer,
             older,
             carried_to: _,
+            edge: _,
+            quick: _,
+            at_once: _,
             hasher: _,
             alloc: _,
             built: _,
@@ -491,6 +631,9 @@ impl<T: Eq + Hash + Drop, S: BuildHasher + Drop> Table<T, S> {
         let newer = mem::replace(&mut self.newer, no_slots(self.alloc));
         let older = mem::replace(&mut self.older, no_slots(self.alloc));
         self.carried_to = 0;
+        self.edge = 0;
+        self.quick = NOT_QUICK;
+        self.at_once = 0;
         DrainWalk {
             taken: newer.into_walk(older),
             table: &mut self.lent,

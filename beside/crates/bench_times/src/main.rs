@@ -1,4 +1,4 @@
-//! Measures bags. Each line of standard input says what is measured, `large`, `two`, `words`, `texts`, `common`, `copy` or `growth`, how many
+//! Measures bags. Each line of standard input says what is measured, `large`, `two`, `words`, `texts`, `common`, `copy`, `clone` or `growth`, how many
 //! values there are, and how often it is done.
 //!
 //! Each result is a line with what was done, with how many values, and a sum. Standard error has the same lines, with how often it was done and

@@ -1,6 +1,6 @@
 //! What is measured of insertions, look-ups, walks and removals.
 use crate::values::{distinct, words};
-use crate::wholes::{of_commonest, of_copies, of_texts, of_two};
+use crate::wholes::{of_clones, of_commonest, of_copies, of_texts, of_two};
 use anyhow::bail;
 use hashbag::{BagError, HashBag};
 use std::time::{CpuClock, Duration};
@@ -189,6 +189,7 @@ pub fn measure(rt: &HostRuntime, what: &str, many: u64, times: u64) -> anyhow::R
         "growth" => growth(rt, many),
         "two" => of_two(rt, many, times),
         "copy" => of_copies(rt, many),
+        "clone" => of_clones(rt, many, times),
         "common" => of_commonest(rt, many),
         "texts" => of_texts(rt, many),
         _ => bail!("not measured: {what}"),

@@ -56,6 +56,19 @@ pub fn of_copies(rt: &HostRuntime, many: u64) -> anyhow::Result<()> {
     say(rt, "drop", many, many, since(rt, start)?, sum)
 }
 
+/// A bag is cloned, and the clone is dropped, again and again.
+pub fn of_clones(rt: &HostRuntime, many: u64, times: u64) -> anyhow::Result<()> {
+    let bag = filled(rt, distinct(rt.alloc(), 0, many, 1)?.as_slice())?;
+    let (mut sum, mut time) = (0u64, Duration::ZERO);
+    for _ in 0..times {
+        let start = now(rt)?;
+        let other = bag.clone()?;
+        time = time.saturating_add(since(rt, start)?);
+        sum = sum.wrapping_add(other.set_len() as u64);
+    }
+    say(rt, "clone", many, many.wrapping_mul(times), time, sum)
+}
+
 // Inserts each of them as often as its count.
 fn fill_counts(bag: &mut HashBag<u64>, values: &[(u64, usize)]) -> Result<(), BagError> {
     for (value, count) in values {

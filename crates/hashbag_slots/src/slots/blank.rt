@@ -5,7 +5,7 @@ ghost use Rattle.hashbag_slots.specs.Columns.{IsReached};
 
 use crate::cells::Cells;
 use crate::slots::{Slot, Slots};
-use crate::tags::EMPTY;
+use crate::tags::{EMPTY, GUARDS, MOVED};
 use std::alloc::{AllocError, Global};
 use std::marker::Model;
 
@@ -13,25 +13,30 @@ use std::marker::Model;
 ///
 /// Contracts see the number of slots.
 pub struct Blank<T> {
-    // No tag is written yet. The capacity is the number of slots.
+    // No tag is written yet. There is room for those of the slots and the guards.
     tags: Vec<u8>,
+    slots: usize,
     cells: Cells<(T, usize)>,
 }
 
 impl<T> Model for Blank<T> {
-    ghost use Rattle.std.specs.Prelude.{◌≡◌, ℕ, [], replicate, None, vec_capacity};
+    ghost use Rattle.std.specs.Prelude.{◌≡◌, ℕ, ◌+◌, ◌≤◌, [], replicate, None, vec_capacity};
     ghost use Rattle.hashbag_slots.specs.Slots.{IsSlotCount};
 
     ghost Value = { ℕ };
 
-    ghost view = { λ b. vec_capacity b.tags };
+    ghost view = { λ b. b.slots };
 
-    ghost invariant = { λ b. IsSlotCount (vec_capacity b.tags) × (b.tags.items ≡ []) × (b.cells ≡ replicate (vec_capacity b.tags) None) };
+    ghost invariant = { λ b. IsSlotCount b.slots × (b.tags.items ≡ []) × (b.cells ≡ replicate b.slots None) × (b.slots + 16 ≤ vec_capacity b.tags) };
 }
 
 impl<T: Drop> Drop for Blank<T> {
     fn drop(self) {
-        let Blank { tags: _, cells } = self;
+        let Blank {
+            tags: _,
+            slots: _,
+            cells,
+        } = self;
         cells.free();
     }
 }
@@ -47,9 +52,13 @@ impl<T: Eq> Blank<T> {
         requires { IsSlotCount n }
         ensures slots { IfOk result (λ b. b ≡ n) }
     {
-        let tags = Vec::with_capacity(alloc, n)?;
+        let tags = Vec::with_capacity(alloc, n + GUARDS)?;
         let cells = Cells::new(alloc, n)?;
-        Ok(Blank { tags, cells })
+        Ok(Blank {
+            tags,
+            slots: n,
+            cells,
+        })
     }
 
     /// Returns the number of slots.
@@ -59,7 +68,7 @@ impl<T: Eq> Blank<T> {
         // It is 0, or a power of two from 16 to 2^59.
         ensures count { IsSlotCount result }
     {
-        self.tags.capacity()
+        self.slots
     }
 
     /// Returns the table, whose slots are Empty. It doesn't allocate.
@@ -69,12 +78,19 @@ impl<T: Eq> Blank<T> {
         // There is no value yet, so a probe finds each value under any hash.
         ensures reached { (hash : T → ℕ) → IsReached hash result }
     {
-        let Blank { mut tags, cells } = self;
-        let slots = tags.capacity();
-        tags.resize(slots, EMPTY).unwrap();
+        let Blank {
+            mut tags,
+            slots,
+            cells,
+        } = self;
+        if slots > 0 {
+            tags.resize(slots, EMPTY).unwrap();
+            tags.resize(slots + GUARDS, MOVED).unwrap();
+        }
         Slots {
             tags,
             cells,
+            slots,
             live: 0,
             removed: 0,
         }

@@ -6,7 +6,7 @@ ghost use Rattle.hashbag_slots.specs.Slots.{is_live, live_count, slot_at, IsSet,
 ghost use Rattle.hashbag_slots.specs.Columns.{IsReached, CarriesUnder};
 
 use crate::group::{GROUP_WIDTH, match_live, take_lowest};
-use crate::slots::Slots;
+use crate::slots::{Slots, hash_of};
 use crate::tags::{LEAST_LIVE, MOVED};
 use std::hash::{BuildHasher, Hash};
 
@@ -42,8 +42,11 @@ impl<T: Eq + Hash> Slots<T> {
         ensures { CarriesUnder T.Hash S.BuildHasher S.Hasher.Hasher state.now at 1 self.old older.old self.new older.new }
     {
         if older.is_live_at(at) {
+            // The value is hashed before it is taken: no code of its type runs while it is in neither table.
+            let (key, _) = older.live_at(at);
+            let hash = hash_of(state, key);
             let (value, n) = older.take_leaving(at, MOVED);
-            self.place(state, value, n);
+            self.place_hashed(state, hash, value, n);
         }
     }
 

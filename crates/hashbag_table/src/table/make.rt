@@ -6,7 +6,7 @@ ghost use Rattle.hashbag_table.specs.Tables.{IsLeast, IsPacked};
 
 use crate::built::Built;
 use crate::capacity::{least_slots, no_slots};
-use crate::table::{MOST_VALUES, Table};
+use crate::table::{MOST_VALUES, NOT_QUICK, Table, quick_of};
 use hashbag_slots::slots::{Slot, Slots};
 use std::alloc::{AllocError, Global};
 use std::hash::{BuildHasher, Hash};
@@ -29,6 +29,9 @@ impl<T: Eq + Hash + Drop, S: BuildHasher + Drop> Table<T, S> {
             newer,
             older,
             carried_to: 0,
+            edge: 0,
+            quick: NOT_QUICK,
+            at_once: 0,
             hasher,
             alloc,
             built: Built::first(0),
@@ -62,6 +65,9 @@ impl<T: Eq + Hash + Drop, S: BuildHasher + Drop> Table<T, S> {
             newer,
             older,
             carried_to: 0,
+            edge: 0,
+            quick: quick_of(slots, 0),
+            at_once: 0,
             hasher,
             alloc,
             built: Built::first(slots),
@@ -98,7 +104,7 @@ impl<T: Eq + Hash + Drop, S: BuildHasher + Drop> Table<T, S> {
         let mut table = Table::with_room(self.alloc, hasher, self.set_len())?;
         for (value, count) in self.walk() {
             let clone = value.clone()?;
-            table.insert_new(clone, count)?;
+            table.place_new(clone, count);
         }
         Ok(table)
     }

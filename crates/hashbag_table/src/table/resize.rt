@@ -1,14 +1,14 @@
 //! Room: a table that grows, carries what waits, or gets other slots on request.
 ghost use Rattle.std.specs.Prelude.{◌≡◌, ◌++◌, ◌+◌, ◌-◌, ◌*◌, ◌<◌, ◌≤◌, ℕ, [], length, replicate, OnOk, OnErr, IsOk, IsErr};
 ghost use Rattle.std.specs.List.Sorted.{IsPermutation};
-ghost use Rattle.hashbag_slots.specs.Slots.{entries};
+ghost use Rattle.hashbag_slots.specs.Slots.{entries, slot_at, IsFirstFree};
 ghost use Rattle.hashbag_slots.specs.Columns.{IsReached};
 ghost use Rattle.hashbag_table.specs.Entries.{IsCounted};
 ghost use Rattle.hashbag_table.specs.Table.{IsMapOf};
 ghost use Rattle.hashbag_table.specs.Tables.{most_used, room, values, IfNoLarger, AreTablesUnder, HasLeast, IsPacked, KeepsRoom, ReservesOrStays, ShrinksOrStays, Carried, CarriedOn, CarriesNext, IsReady, MayAdoptUnder};
 
 use crate::capacity::{grown_slots, least_slots, no_slots};
-use crate::table::{MOST_VALUES, Table};
+use crate::table::{MOST_VALUES, NOT_QUICK, Table, quick_of};
 use hashbag_slots::slots::{Slot, Slots};
 use std::alloc::{AllocError, Global};
 use std::hash::{BuildHasher, Hash};
@@ -33,6 +33,10 @@ fn carry_next<T: Eq + Hash + Drop, S: BuildHasher>(
     ensures tables { AreTablesUnder T.Hash S.BuildHasher S.Hasher.Hasher hasher.now newer.new older.new result }
     ensures carried { CarriedOn most carried_to result newer.old older.old newer.new older.new }
     ensures freed { length older.new.slots ≤ result → length older.new.slots ≡ 0 }
+    ensures far { 0 < result → result ≡ carried_to + most }
+
+    // An Empty slot of the older table stays Empty.
+    ensures empty { (p : ℕ) → slot_at older.old.slots p ≡ Slot.Empty → slot_at older.new.slots p ≡ Slot.Empty }
 {
     let slots = older.slots();
     if slots == 0 {
@@ -49,11 +53,28 @@ fn carry_next<T: Eq + Hash + Drop, S: BuildHasher>(
     carried_to + many
 }
 
+// Returns `edge` after a carry. `last` is the place after the last Empty slot among those that were carried, 0 if none of them is Empty.
+#[inline(always)]
+fn edge_after(edge: usize, last: usize, carried_to: usize) -> usize
+    ensures none { carried_to ≡ 0 → result ≡ 0 }
+    ensures last { 0 < carried_to → 0 < last → result ≡ last }
+    ensures kept { 0 < carried_to → last ≡ 0 → result ≡ edge }
+{
+    if carried_to == 0 {
+        return 0;
+    }
+    if last > 0 {
+        return last;
+    }
+    edge
+}
+
 impl<T: Eq + Hash + Drop, S: BuildHasher + Drop> Table<T, S> {
     // Carries the next 16 waiting slots. It doesn't allocate.
     #[inline(never)]
     fn carry(&mut self)
         requires room { 0 < room self.old.tables }
+        requires waits { 0 < self.old.tables.older }
         ensures carried { CarriesNext 16 self.old.tables self.new.tables }
         ensures some { 0 < room self.new.tables }
         ensures carries { length self.new.tables.waiting ≤ 16 * (room self.new.tables - 1) }
@@ -61,6 +82,7 @@ impl<T: Eq + Hash + Drop, S: BuildHasher + Drop> Table<T, S> {
         ensures entries { IsPermutation self.old.entries self.new.entries }
         ensures hasher { self.new.hasher ≡ self.old.hasher }
     {
+        let last = self.older.after_last_empty(self.carried_to);
         self.carried_to = carry_next(
             &mut self.newer,
             &mut self.older,
@@ -69,6 +91,24 @@ impl<T: Eq + Hash + Drop, S: BuildHasher + Drop> Table<T, S> {
             &self.hasher,
             self.alloc,
         );
+        self.edge = edge_after(self.edge, last, self.carried_to);
+        self.quick = quick_of(self.newer.slots(), self.older.slots());
+    }
+
+    // Carries the next 16 waiting slots, if some wait. `place` is the first place on some path whose slot isn't Live; the first such place after the carry
+    // is returned. It doesn't allocate.
+    pub(super) fn carry_past(&mut self, place: usize) -> usize
+        requires room { 0 < room self.old.tables }
+        ensures ready { IsReady self.old.tables self.new.tables }
+        ensures free { (hash : ℕ) → IsFirstFree hash self.old.tables.newer place → IsFirstFree hash self.new.tables.newer result }
+        ensures entries { IsPermutation self.old.entries self.new.entries }
+        ensures hasher { self.new.hasher ≡ self.old.hasher }
+    {
+        if self.older.slots() == 0 {
+            return place;
+        }
+        self.carry();
+        self.newer.free_from(place)
     }
 
     /// Carries all slots that wait. A look-up then probes one table alone. The entries stay. If no slot waits, it does nothing.
@@ -96,6 +136,9 @@ impl<T: Eq + Hash + Drop, S: BuildHasher + Drop> Table<T, S> {
             &self.hasher,
             self.alloc,
         );
+        self.edge = 0;
+        self.quick = quick_of(self.newer.slots(), self.older.slots());
+        self.at_once = 0;
     }
 
     // Makes `newer` the newer table. No other method gives an existing `Table` new slots. The former newer table becomes the older one: its first
@@ -110,6 +153,10 @@ impl<T: Eq + Hash + Drop, S: BuildHasher + Drop> Table<T, S> {
         ensures hasher { self.new.hasher ≡ self.old.hasher }
     {
         self.built.raise(newer.slots());
+        // First, since these numbers are of the former tables: if a hash panics in the carry, where a type allows that, they are right all the same.
+        self.edge = 0;
+        self.quick = NOT_QUICK;
+        self.at_once = 0;
         let former = mem::replace(&mut self.newer, newer);
         let _freed = mem::replace(&mut self.older, former);
         self.carried_to = carry_next(
@@ -120,6 +167,7 @@ impl<T: Eq + Hash + Drop, S: BuildHasher + Drop> Table<T, S> {
             &self.hasher,
             self.alloc,
         );
+        self.quick = quick_of(self.newer.slots(), self.older.slots());
     }
 
     // Grows, if there is no room left: makes a new table, and carries the first 16 slots into it. If an allocation fails, the table is unchanged.
@@ -156,7 +204,7 @@ impl<T: Eq + Hash + Drop, S: BuildHasher + Drop> Table<T, S> {
     }
 
     // Moves every value into `newer`, and makes it the newer table. All slots of `newer` must be Empty, with room for all values. It frees both
-    // former tables, hashes each value once, and doesn't allocate.
+    // former tables, and doesn't allocate. It hashes each value once, and once more if it waited: while values move, each is in one of the two tables.
     pub(super) fn move_all_into(&mut self, newer: Slots<T>)
         requires empty { newer.slots ≡ replicate (length newer.slots) Slot.Empty }
         requires reached { (hash : T → ℕ) → IsReached hash newer }
@@ -167,12 +215,8 @@ impl<T: Eq + Hash + Drop, S: BuildHasher + Drop> Table<T, S> {
         ensures values { values self.new.tables ≡ length self.old.entries }
         ensures entries { IsMapOf T.eq self.old self.old.entries self.new }
     {
-        let mut newer = newer;
-        let waiting = self.older.slots() - self.carried_to;
-        newer.carry_from(&self.hasher, &mut self.older, self.carried_to, waiting);
-        let _older = mem::replace(&mut self.older, no_slots(self.alloc));
-        self.carried_to = 0;
-        let many = self.newer.slots();
+        self.finish_carry();
+        let many = self.slots();
         self.adopt(newer, many);
     }
 
@@ -185,7 +229,7 @@ impl<T: Eq + Hash + Drop, S: BuildHasher + Drop> Table<T, S> {
     /// # Complexity
     ///
     /// If there is enough room, it does nothing. Else it allocates the least table of slots that has the room, and is not smaller than the
-    /// newer one. Every value is moved into that table and hashed once, and the former tables are freed.
+    /// newer one. Every value is moved into that table and hashed once, a waiting one twice. The former tables are freed.
     pub fn reserve(&mut self, n: usize) -> Result<(), AllocError>
         // The entries are the same, in whatever order, and so is the hash state.
         ensures entries { IsMapOf T.eq self.old self.old.entries self.new }
@@ -220,7 +264,7 @@ impl<T: Eq + Hash + Drop, S: BuildHasher + Drop> Table<T, S> {
     /// # Complexity
     ///
     /// If the least table of slots in which the entries have room is smaller than the newer one, that least table is allocated. Every value is moved
-    /// into it and hashed once, and the former tables are freed. Else the call does nothing. Without entries it allocates nothing.
+    /// into it and hashed once, a waiting one twice, and the former tables are freed. Else the call does nothing. Without entries it allocates nothing.
     pub fn shrink_to_fit(&mut self) -> Result<(), AllocError>
         // The entries are the same, in whatever order, and so is the hash state.
         ensures entries { IsMapOf T.eq self.old self.old.entries self.new }

@@ -35,7 +35,7 @@ impl<T: Eq + Hash + Drop, S: BuildHasher + Drop> Table<T, S> {
     ///
     /// # Complexity
     ///
-    /// Every value is moved and hashed once. It doesn't allocate.
+    /// Every value is moved and hashed once, a waiting one twice. It doesn't allocate.
     pub fn use_spare(&mut self, spare: Spare<T>)
         requires enough { length self.old.entries ≤ most_used spare }
         ensures slots { length self.new.tables.newer ≡ spare }

@@ -1,7 +1,7 @@
 //! Look-ups: the spot of a value in the two tables of slots, what is there, and what is changed there.
 ghost use Rattle.std.specs.Prelude.{◌≡◌, ◌+◌, ◌-◌, ◌<◌, ◌≤◌, ◌^◌, ℕ, [], ◌∷◌, true, false, length, Some, None, IfSome, IfNone, IfOk, IfErr, OnErr, IsSome, slice_set, option_map};
 ghost use Rattle.std.specs.List.Sorted.{IsPermutation};
-ghost use Rattle.hashbag_slots.specs.FirstGroup.{IfFound, IfAbsent};
+ghost use Rattle.hashbag_slots.specs.Probed.{IfFound, IfAbsent, IfFull};
 ghost use Rattle.hashbag_slots.specs.Hashing.{hash_under};
 ghost use Rattle.hashbag_slots.specs.Slots.{IsEntryPlace, is_live, HoldsAt, IsAbsent, IsFirstFree, recounted, holds, slot_at, count_in};
 ghost use Rattle.hashbag_slots.specs.Columns.{IsReached, HashesAlike};
@@ -12,7 +12,8 @@ ghost use Rattle.hashbag_table.specs.Table.{IsEntrySpot};
 
 use crate::table::{Spot, Table};
 use hashbag_slots::key::Key;
-use hashbag_slots::slots::{FirstGroup, Slot, Slots, hash_of};
+use hashbag_slots::slots::find::MOST_CACHED;
+use hashbag_slots::slots::{Probed, Slot, Slots, hash_of};
 use std::hash::{BuildHasher, Hash};
 
 // Stores another equal instance at a place, with the count 1, and returns the former one.
@@ -27,26 +28,27 @@ fn store_once<T: Eq>(slots: &mut Slots<T>, place: usize, value: T) -> T
     former
 }
 
-// Returns the place in the older table of the value that a key names. The first `carried_to` slots of that table were carried.
+// Returns the place in the older table of the value that a key names, if its home isn't before `edge`.
 #[inline(always)]
 fn find_waiting<T: Eq + Hash, S: BuildHasher, Q: Key<T>>(
     older: &Slots<T>,
-    carried_to: usize,
+    edge: usize,
     state: &S,
     hash: u64,
     key: Q,
 ) -> Option<usize>
-    requires within { carried_to ≤ length older.now.slots }
-    requires not_live { (p : ℕ) → p < carried_to → is_live (slot_at older.now.slots p) ≡ false }
+    requires within { edge ≤ length older.now.slots }
+    requires not_live { (p : ℕ) → p < edge → is_live (slot_at older.now.slots p) ≡ false }
+    requires ends { 0 < edge → slot_at older.now.slots (edge - 1) ≡ Slot.Empty }
     requires hashed { hash ≡ hash_under Q.hash_input S.BuildHasher S.Hasher.Hasher state.now key }
     requires reached { IsReached (hash_under T.hash_input S.BuildHasher S.Hasher.Hasher state.now) older.now }
     ensures found { IfSome result (HoldsAt (Q.names key) older.now.slots) }
     ensures map { IsEntryPlace (Q.names key) older.now.slots result }
 {
-    if older.slots() == 0 {
+    if older.slots() == 0 || older.home(hash) < edge {
         return None;
     }
-    older.find_uncarried(state, hash, key, carried_to)
+    older.find_hashed(state, hash, key)
 }
 
 impl<T: Eq + Hash + Drop, S: BuildHasher + Drop> Table<T, S> {
@@ -71,11 +73,44 @@ impl<T: Eq + Hash + Drop, S: BuildHasher + Drop> Table<T, S> {
         ensures counted { IsCounted T.eq self.now.entries }
     {
         let hash = self.hash(key);
-        if let Some(place) = self.newer.find_hashed(&self.hasher, hash, key) {
-            return Some(self.newer.live_at(place));
+        let mask = self.quick;
+        if mask < MOST_CACHED {
+            match self.newer.find_small(mask, hash, key) {
+                Some(place) => return Some(self.newer.live_at(place)),
+                None => return None,
+            }
         }
-        match find_waiting(&self.older, self.carried_to, &self.hasher, hash, key) {
-            Some(place) => Some(self.older.live_at(place)),
+        if self.older.slots() == 0 {
+            match self.newer.find_large(hash, key) {
+                Some(place) => return Some(self.newer.live_at(place)),
+                None => return None,
+            }
+        }
+        match self.spot_slow(hash, key) {
+            Some(Spot::Newer(place)) => Some(self.newer.live_at(place)),
+            Some(Spot::Waiting(place)) => {
+                // Only for the proof: it uses the clauses `value` and `bound` of `Slots::slots`.
+                let _slots = self.older.slots();
+                Some(self.older.live_at(self.carried_to + place))
+            }
+            None => None,
+        }
+    }
+
+    // Returns the spot of the value that a key names, in tables of any size. While slots wait, most values are in the older table, if it still has those
+    // of their home.
+    #[inline(never)]
+    fn spot_slow<Q: Key<T>>(&self, hash: u64, key: Q) -> Option<Spot>
+        requires hashed { hash ≡ hash_under Q.hash_input S.BuildHasher S.Hasher.Hasher self.now.hasher key }
+        ensures map { IsEntrySpot (Q.names key) self.now result }
+        ensures held { IfSome result (HoldsIn (Q.names key) self.now.tables) }
+        ensures counted { IsCounted T.eq self.now.entries }
+    {
+        if let Some(place) = find_waiting(&self.older, self.edge, &self.hasher, hash, key) {
+            return Some(Spot::Waiting(place - self.carried_to));
+        }
+        match self.newer.find_hashed(&self.hasher, hash, key) {
+            Some(place) => Some(Spot::Newer(place)),
             None => None,
         }
     }
@@ -88,7 +123,7 @@ impl<T: Eq + Hash + Drop, S: BuildHasher + Drop> Table<T, S> {
         ensures map { IsEntrySpot (Q.names key) self.now result }
         ensures held { IfSome result (HoldsIn (Q.names key) self.now.tables) }
     {
-        match find_waiting(&self.older, self.carried_to, &self.hasher, hash, key) {
+        match find_waiting(&self.older, self.edge, &self.hasher, hash, key) {
             Some(place) => Some(Spot::Waiting(place - self.carried_to)),
             None => None,
         }
@@ -102,45 +137,57 @@ impl<T: Eq + Hash + Drop, S: BuildHasher + Drop> Table<T, S> {
         ensures held { IfSome result (HoldsIn (Q.names key) self.now.tables) }
         ensures counted { IsCounted T.eq self.now.entries }
     {
-        self.show_invariant();
-        if let Some(place) = self.newer.find_hashed(&self.hasher, hash, key) {
-            return Some(Spot::Newer(place));
+        let mask = self.quick;
+        if mask < MOST_CACHED {
+            match self.newer.find_small(mask, hash, key) {
+                Some(place) => return Some(Spot::Newer(place)),
+                None => return None,
+            }
         }
-        self.waiting_spot(hash, key)
+        if self.older.slots() == 0 {
+            match self.newer.find_large(hash, key) {
+                Some(place) => return Some(Spot::Newer(place)),
+                None => return None,
+            }
+        }
+        self.spot_slow(hash, key)
     }
 
-    // Returns the spot of the value that a key names. `first` is what the first group of the key's path in the newer table showed. If `first` is
-    // `Absent`, the newer table isn't probed again.
+    // Returns the spot of the value that a key names. `first` is what a probe of the newer table showed. Unless that was the value, the newer table isn't
+    // probed again.
     #[inline(always)]
-    pub(super) fn spot_after_first_group<Q: Key<T>>(
+    pub(super) fn spot_after_probe<Q: Key<T>>(
         &self,
         hash: u64,
         key: Q,
-        first: FirstGroup,
+        first: Probed,
     ) -> Option<Spot>
         requires hashed { hash ≡ hash_under Q.hash_input S.BuildHasher S.Hasher.Hasher self.now.hasher key }
         requires shown { IfAbsent first (λ _. IsAbsent (Q.names key) self.now.tables.newer) }
+        requires full { IfFull first (IsAbsent (Q.names key) self.now.tables.newer) }
         ensures map { IsEntrySpot (Q.names key) self.now result }
         ensures held { IfSome result (HoldsIn (Q.names key) self.now.tables) }
     {
-        if let FirstGroup::Absent(_) = first {
-            return self.waiting_spot(hash, key);
+        match first {
+            Probed::Found(_) => return self.spot_of(hash, key),
+            Probed::Absent(_) => return self.waiting_spot(hash, key),
+            Probed::Full => return self.waiting_spot(hash, key),
         }
-        self.spot_of(hash, key)
     }
 
-    // Returns what the first 16 slots of a key's path in the newer table show.
+    // Returns what a probe of the newer table along a key's path shows.
     #[inline(always)]
-    pub(super) fn probe_first_group<Q: Key<T>>(&self, hash: u64, key: Q) -> FirstGroup
+    pub(super) fn probe_path<Q: Key<T>>(&self, hash: u64, key: Q) -> Probed
         requires hashed { hash ≡ hash_under Q.hash_input S.BuildHasher S.Hasher.Hasher self.now.hasher key }
         ensures map { IfFound result (λ p. IsEntrySpot (Q.names key) self.now (Some (Spot.Newer p))) }
         ensures held { IfFound result (λ p. HoldsIn (Q.names key) self.now.tables (Spot.Newer p)) }
         ensures absent { IfAbsent result (λ _. IsAbsent (Q.names key) self.now.tables.newer) }
         ensures free { IfAbsent result (IsFirstFree hash self.now.tables.newer) }
+        ensures full { IfFull result (IsAbsent (Q.names key) self.now.tables.newer) }
         ensures counted { IsCounted T.eq self.now.entries }
     {
         self.show_invariant();
-        self.newer.probe_first_group(&self.hasher, hash, key)
+        self.newer.probe_path(&self.hasher, hash, key)
     }
 
     // Sets the count of the value at a spot.

@@ -4,7 +4,7 @@ ghost use Rattle.hashbag_slots.specs.Hashing.{hash_under};
 ghost use Rattle.hashbag_slots.specs.Slots.{IsSlotCount};
 ghost use Rattle.hashbag_slots.specs.Columns.{IsReached};
 
-use hashbag_slots::slots::{FirstGroup, Slots, hash_of};
+use hashbag_slots::slots::{Probed, Slots, hash_of};
 use hashbag_slots::walk::IntoWalk;
 use std::alloc::{AllocError, Global};
 use std::hash::{BuildHasher, Hash};
@@ -67,39 +67,25 @@ impl<T: Eq + Hash + Drop, S: BuildHasher + Drop> Held<T, S> {
         self.slots.find(&self.state, value)
     }
 
-    /// Returns the place of a value, if no slot before a place is Live. `None` if one is, or if there are fewer slots.
-    pub fn find_uncarried(&self, value: &T, from: usize) -> Option<usize> {
-        if from > self.slots.slots() {
-            return None;
-        }
-        for place in 0..from {
-            if self.slots.at(place).is_some() {
-                return None;
-            }
-        }
+    /// What a probe along a value's path shows: its place, or the one into which it would go.
+    pub fn seek(&self, value: &T) -> Probed {
         let hash = hash_of(&self.state, value);
-        self.slots.find_uncarried(&self.state, hash, value, from)
+        self.slots.probe_path(&self.state, hash, value)
     }
 
-    /// What the first 16 slots of a value's path show: its place, or the one into which it would go.
-    pub fn seek(&self, value: &T) -> FirstGroup {
-        let hash = hash_of(&self.state, value);
-        self.slots.probe_first_group(&self.state, hash, value)
-    }
-
-    /// Places a value as `place` does, if the first 16 slots of the path show whether it is absent.
+    /// Places a value as `place` does, where the probe found a free slot.
     pub fn place_sought(&mut self, value: T, n: usize) -> Option<bool> {
         if n == 0 {
             return None;
         }
         let hash = hash_of(&self.state, &value);
-        match self.slots.probe_first_group(&self.state, hash, &value) {
-            FirstGroup::Found(_) => Some(false),
-            FirstGroup::Absent(place) => {
+        match self.slots.probe_path(&self.state, hash, &value) {
+            Probed::Found(_) => Some(false),
+            Probed::Absent(place) => {
                 self.slots.place_at(place, &self.state, hash, value, n);
                 Some(true)
             }
-            FirstGroup::Open => None,
+            Probed::Full => None,
         }
     }
 

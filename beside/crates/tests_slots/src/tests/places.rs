@@ -70,7 +70,7 @@ const ROWS: &str = "\
     find 2 = Some(0)
     find 4 = Some(2)
 
-    [the first 16 slots of a path show a value, or the first slot on it that is not Live, a Removed one too]
+    [a probe shows a value, or the first slot on it that is not Live, a Removed one too]
     new 16 0 = ()
     fill 4 = 4
     take 1 = Some((1, 1))
@@ -86,54 +86,43 @@ const ROWS: &str = "\
     place_sought 9 = Some(false)
     slots = (16, 3, 1)
 
-    [the path goes past the last slot, which the first group no longer shows]
+    [the path goes past the last slot, and past the guards, on to slot 0]
     new 16 15 = ()
     fill 3 = 3
-    seek 1 = Open
-    seek 3 = Open
-    seek 4 = Open
-    place_sought 4 = None
-    slots = (16, 3, 0)
+    seek 1 = Found(15)
+    seek 3 = Found(1)
+    seek 4 = Absent(2)
+    place_sought 4 = Some(true)
+    slots = (16, 4, 0)
 
-    [the path ends with the last slot]
+    [the first 16 slots of the path are the last ones]
     new 32 16 = ()
     fill 15 = 15
     seek 15 = Found(30)
     seek 16 = Absent(31)
     place_sought 16 = Some(true)
     seek 16 = Found(31)
-    seek 17 = Open
+    seek 17 = Absent(0)
 
-    [that none of 16 slots is Empty doesn't tell whether a value is absent]
+    [without an Empty slot a probe reads them all, and shows the first that is not Live]
     new 16 0 = ()
     fill 16 = 16
     seek 1 = Found(0)
-    seek 17 = Open
-    take 7 = Some((7, 7))
-    seek 7 = Open
-    seek 16 = Found(15)
-    seek 17 = Open
+    seek 17 = Full
     place_sought 17 = None
-    find 17 = None
+    take 7 = Some((7, 7))
+    seek 7 = Absent(6)
+    seek 16 = Found(15)
+    seek 17 = Absent(6)
+    place_sought 17 = Some(true)
+    find 17 = Some(6)
     find 16 = Some(15)
 
     [a probe goes past Removed slots to the values after them, and ends at an Empty one]
     new 64 2 = ()
-    find_uncarried 1 0 = None
-    find_uncarried 1 40 = None
-    find_uncarried 1 64 = None
     fill 40 = 40
-    find_uncarried 1 2 = Some(2)
-    find_uncarried 40 0 = Some(41)
     take_each 1 30 = 30
-    find_uncarried 31 32 = Some(32)
-    find_uncarried 35 32 = Some(36)
-    find_uncarried 40 17 = Some(41)
-    find_uncarried 30 32 = None
-    find_uncarried 41 32 = None
     take_each 31 40 = 10
-    find_uncarried 35 41 = None
-    find_uncarried 35 64 = None
 
     [twelve, and six of them removed]
     new 16 0 = ()
@@ -300,7 +289,6 @@ fn with_two(
         }
         "place" => debug_of(alloc, &table.place(value, n)),
         "take_each" => debug_of(alloc, &take_each(table, value, n as u64)),
-        "find_uncarried" => debug_of(alloc, &table.find_uncarried(&value, n)),
         "add" => debug_of(alloc, &table.add(&value, n)),
         "set" => debug_of(alloc, &table.set(&value, n)),
         _ => None,

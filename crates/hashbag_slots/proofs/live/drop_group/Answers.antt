@@ -17,23 +17,29 @@ live-init g c = (
   c.requires.agree,
 )
 
+pub returns-then-ahead-eq0 : goal.returns-then-ahead-eq0
+returns-then-ahead-eq0 g c =
+    let ts = c.args.tags.now in let i = c.live.invariant in let begun = i.1 in
+    let none = none_told (is_fingerprint ts) c.args.from i.0 (c.args.from + 16) c.live.ahead i.3 (omega arith) c.if-ahead-eq0.true in
+    none_after ts c.live.cells i.0 (c.args.from + 16) i.4 i.2 (λ p a b. leb-false _ _ (none p a b))
+
 pub take-requires : goal.take-requires
 take-requires g c =
-    let ts = c.args.tags.now in let i = c.live.invariant in let test : ℕ → Bool = is_fingerprint ts in
+    let ts = c.args.tags.now in let i = c.live.invariant in let begun = i.1 in let test : ℕ → Bool = is_fingerprint ts in
     let told = c.take_lowest-place.ensures in
-    let first = told.first test i.0 (c.args.from + 16) i.1 i.3 in
+    let first = told.first test i.0 (c.args.from + 16) (omega arith) i.3 in
     let high = leb-true _ _ (first.hit (told.before_until test i.0 (c.args.from + 16) i.3)) in
     let low = first.low in
     i.4.filled c.take_lowest-place.result.0 (omega arith) high
 
 pub live-preserved : goal.live-preserved
 live-preserved g c =
-    let ts = c.args.tags.now in let i = c.live.invariant in let test : ℕ → Bool = is_fingerprint ts in
+    let ts = c.args.tags.now in let i = c.live.invariant in let begun = i.1 in let test : ℕ → Bool = is_fingerprint ts in
     let place = c.take_lowest-place.result.0 in
     let told = c.take_lowest-place.ensures in
-    let first = told.first test i.0 (c.args.from + 16) i.1 i.3 in
+    let first = told.first test i.0 (c.args.from + 16) (omega arith) i.3 in
     let below = told.before_until test i.0 (c.args.from + 16) i.3 in
-    let low = first.low in let room = c.requires.within in let begun = i.1 in (
+    let low = first.low in let room = c.requires.within in (
       place + 1,
       omega arith,
       omega arith,
@@ -42,11 +48,7 @@ live-preserved g c =
           (one_taken ts c.live.cells i.0 place i.4 (omega arith) (omega arith) (λ p a b. leb-false _ _ (first.before p a b))),
     )
 
-pub live-smaller : goal.live-smaller
-live-smaller g c = c.take_lowest-place.ensures.fewer
-
 pub returns : goal.returns
 returns g c =
-    let ts = c.args.tags.now in let i = c.live.invariant in
-    let none = none_told (is_fingerprint ts) c.args.from i.0 (c.args.from + 16) c.live.ahead i.3 i.1 c.live-test.false in
-    none_after ts c.live.cells i.0 (c.args.from + 16) i.4 i.2 (λ p a b. leb-false _ _ (none p a b))
+    let i = c.live.invariant in let begun = i.1 in let end = i.2 in let all = c.live-test.false in
+    subst (λ n. AgreeFrom n c.args.tags.now c.live.cells) (omega arith) i.4

@@ -1,31 +1,24 @@
-use Rattle.std.proofs.Common.{◌≡◌, ◌+◌, ◌-◌, ◌/◌, suc, ℕ, sym, ap, subst, ◌∙◌, refl, arith}
+use Rattle.std.proofs.Common.{◌≡◌, ◌+◌, ◌-◌, ◌/◌, suc, ℕ, subst, ◌∙◌, refl, arith}
 use Rattle.hashbag_slots.specs.Walks.{of_turn, IsNextGroup, NoneLive}
 use Rattle.hashbag_slots.proofs.GroupLemmas.{tells_fresh}
-use Rattle.hashbag_slots.proofs.Walking.{is_fingerprint, of_turn-odd, of_turn-even, next_on, next_on_earlier, left_skip, turn_ends, last_ends}
-use Rattle.hashbag_slots.proofs.live.next_in_turns.Goals.{then-turn-eq1, else-turn-eq1, In_default, Joined-turn-eq1}
+use Rattle.hashbag_slots.proofs.Walking.{is_fingerprint, next_on, next_on_earlier, left_skip, turn_ends, last_ends}
+use Rattle.hashbag_slots.proofs.live.next_in_turns.Goals.{In_default}
 use Rattle.hashbag_slots.proofs.live.next_in_turns.Goals as goal
 
 pub overflow_add-course : goal.overflow_add-course
 overflow_add-course c =
-    let live = is_fingerprint c.if-turn-eq1.tags.now in let at = c.in-Some.at in
+    let live = is_fingerprint c.tags_of_turn-tags.result.now in let at = c.in-Some.at in
     let b = c.take_lowest-place.ensures.before_until live at (at + 16) (tells_fresh live at (at + 16) c.in-Some.ahead c.in-Some.ensures.some.mask) in
     let w = c.in-Some.ensures.some.fits in
     omega arith
 
--- the tags that are read are those of the turn's table
-here : (c : goal.Joined-turn-eq1) → c.if-turn-eq1.tags.now ≡ of_turn c.turns.turn c.args.newer.now c.args.older.now
-here c = elim c.if-turn-eq1.branch [
-  | then-turn-eq1 w ↦ ap (λ t. t.now) w.tags-is ∙ sym (of_turn-odd c.turns.turn c.args.newer.now c.args.older.now w.if-turn-eq1.true)
-  | else-turn-eq1 w ↦ ap (λ t. t.now) w.tags-is ∙ sym (of_turn-even c.turns.turn c.args.newer.now c.args.older.now w.if-turn-eq1.false)
-]
-
 none : (c : goal.In_default) → NoneLive (of_turn c.turns.turn c.args.newer.now c.args.older.now) (c.turns.turn / 2) c.turns.from
-none c = subst (λ ts. NoneLive ts (c.turns.turn / 2) c.turns.from) (here (goal.at.In_default c).Joined-turn-eq1) c.in_default.ensures.none
+none c = subst (λ ts. NoneLive ts (c.turns.turn / 2) c.turns.from) c.tags_of_turn-tags.ensures c.in_default.ensures.none
 
 pub returns-in-Some-clause-some : goal.returns-in-Some-clause-some
 returns-in-Some-clause-some c =
     let ns = c.args.newer.now in let os = c.args.older.now in let turn = c.turns.turn in
-    let group : IsNextGroup (of_turn turn ns os) (turn / 2) c.turns.from (c.in-Some.at, c.in-Some.ahead) = subst (λ ts. IsNextGroup ts (turn / 2) c.turns.from (c.in-Some.at, c.in-Some.ahead)) (here (goal.at.returns-in-Some-clause-some c).Joined-turn-eq1) c.in-Some.ensures.some in
+    let group : IsNextGroup (of_turn turn ns os) (turn / 2) c.turns.from (c.in-Some.at, c.in-Some.ahead) = subst (λ ts. IsNextGroup ts (turn / 2) c.turns.from (c.in-Some.at, c.in-Some.ahead)) c.tags_of_turn-tags.ensures c.in-Some.ensures.some in
     let live = is_fingerprint (of_turn turn ns os) in let at : ℕ = c.in-Some.at in let told = tells_fresh live at (at + 16) c.in-Some.ahead group.mask in
     let e = c.take_lowest-place.ensures in
     next_on_earlier ns os c.args.turn turn c.args.from at c.take_lowest-place.result.0 _ (c.turns.invariant.0 ∙ left_skip ns os turn c.turns.from at group.after group.none)

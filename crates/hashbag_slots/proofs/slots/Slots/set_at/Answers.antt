@@ -1,4 +1,4 @@
-use Rattle.std.proofs.Common.{◌≡◌, ℕ, Some, None, refl, sym, ap, subst, ◌∙◌, slice_set}
+use Rattle.std.proofs.Common.{◌≡◌, ℕ, Some, None, refl, sym, ap, subst, ◌∙◌, slice_set, take}
 use Rattle.hashbag_slots.specs.declared.slots.Slot.TheVariants.{Live}
 use Rattle.hashbag_slots.specs.Slots.{is_live, slot_at, recounted}
 use Rattle.hashbag_slots.specs.Columns.{columns, slots_of, IsColumns, IsReached}
@@ -9,12 +9,12 @@ use Rattle.hashbag_slots.proofs.slots.Slots.set_at.Goals as goal
 
 pub take-value-requires : goal.take-value-requires
 take-value-requires g c =
-    let m = tagged_at c.self.inside.tags.items c.self.inside.cells c.self.invariant.agree c.args.place (ap (λ s. is_live (slot_at s.slots c.args.place)) c.self.view_is ∙ c.requires.live) in
+    let m = tagged_at (take c.self.inside.slots c.self.inside.tags.items) c.self.inside.cells c.self.invariant.shown.agree c.args.place (ap (λ s. is_live (slot_at s.slots c.args.place)) c.self.view_is ∙ c.requires.live) in
     (m.1, m.2)
 
 -- what the slot was
 was : (g : _) (c : goal.After-put g) → slot_at c.args.self.now.slots c.args.place ≡ Live c.take-value.result.0 c.take-value.result.1
-was g c = sym (ap (λ s. slot_at s.slots c.args.place) c.self.view_is) ∙ live_at c.self.inside.tags.items c.self.inside.cells c.self.invariant.agree c.args.place c.take-value.result c.take-value.ensures.value
+was g c = sym (ap (λ s. slot_at s.slots c.args.place) c.self.view_is) ∙ live_at (take c.self.inside.slots c.self.inside.tags.items) c.self.inside.cells c.self.invariant.shown.agree c.args.place c.take-value.result c.take-value.ensures.value
 
 -- the cell has its entry again
 again : (g : _) (c : goal.After-put g) → c.put.new.self ≡ slice_set c.self.inside.cells c.args.place (Some (c.take-value.result.0, c.args.n))
@@ -23,17 +23,20 @@ again g c = put_back c.self.inside.cells c.take-value.new.self c.put.new.self c.
 pub invariant_of-self : goal.invariant_of-self
 invariant_of-self g c =
     let i = c.self.inside in let p : ℕ = c.args.place in let e = c.take-value.result in let cell = c.take-value.ensures.value in
-    subst (λ ds. IsColumns g.T.PartialEq.eq i.tags.items ds i.live i.removed) (sym (again g c))
-    (IsColumns-rewrite g.T.PartialEq.eq g.met.T.Eq.laws i.tags.items i.cells i.live i.removed p c.self.invariant e cell e.0 c.args.n (g.met.T.Eq.laws.refl e.0) c.requires.positive)
+    record {
+      shown = subst (λ ds. IsColumns g.T.PartialEq.eq (take i.slots i.tags.items) ds i.live i.removed) (sym (again g c))
+          (IsColumns-rewrite g.T.PartialEq.eq g.met.T.Eq.laws (take i.slots i.tags.items) i.cells i.live i.removed p c.self.invariant.shown e cell e.0 c.args.n (g.met.T.Eq.laws.refl e.0) c.requires.positive);
+      guarded = c.self.invariant.guarded;
+    }
 
 pub returns-clause-after : goal.returns-clause-after
 returns-clause-after g c =
     let i = c.self.inside in let p : ℕ = c.args.place in let e = c.take-value.result in
-    ap (slots_of i.tags.items) (again g c) ∙ rewritten i.tags.items i.cells c.self.invariant.agree p e c.take-value.ensures.value e.0 c.args.n
+    ap (slots_of (take i.slots i.tags.items)) (again g c) ∙ rewritten (take i.slots i.tags.items) i.cells c.self.invariant.shown.agree p e c.take-value.ensures.value e.0 c.args.n
     ∙ ap (λ s. slice_set s.slots p (Live e.0 c.args.n)) c.self.view_is ∙ ap (λ s. slice_set c.args.self.now.slots p (recounted c.args.n s)) (sym (was g c))
 
 pub returns-clause-reached : goal.returns-clause-reached
 returns-clause-reached g c hash r =
     let i = c.self.inside in let e = c.take-value.result in
-    subst (λ ds. IsReached hash (columns i.tags.items ds)) (sym (again g c))
-    (IsReached-rewrite i.tags.items i.cells c.self.invariant.agree c.args.place e c.take-value.ensures.value hash (subst (IsReached hash) (sym c.self.view_is) r) e.0 c.args.n refl)
+    subst (λ ds. IsReached hash (columns (take i.slots i.tags.items) ds)) (sym (again g c))
+    (IsReached-rewrite (take i.slots i.tags.items) i.cells c.self.invariant.shown.agree c.args.place e c.take-value.ensures.value hash (subst (IsReached hash) (sym c.self.view_is) r) e.0 c.args.n refl)

@@ -5,12 +5,12 @@ use Rattle.hashbag_table.proofs.SpotLemmas.{count_absent}
 use Rattle.hashbag_table.proofs.RaisedLemmas.{raised_fits, raised_before}
 use Rattle.hashbag_table.proofs.table.Table.add_slow.Goals as goal
 
-pub spot_after_first_group-requires-clause-hashed : goal.spot_after_first_group-requires-clause-hashed
+pub spot_after_probe-requires-clause-hashed : goal.spot_after_probe-requires-clause-hashed
 unfolding hash_under
-spot_after_first_group-requires-clause-hashed g c = c.requires.hashed
+spot_after_probe-requires-clause-hashed g c = c.requires.hashed
 
-pub insert_hashed-requires-clause-absent : goal.insert_hashed-requires-clause-absent
-insert_hashed-requires-clause-absent g c = sym (c.in_default.ensures.map)
+pub insert_probed-requires-clause-absent : goal.insert_probed-requires-clause-absent
+insert_probed-requires-clause-absent g c = sym (c.in_default.ensures.map)
 
 pub raise_spot-before-requires-clause-fits : goal.raise_spot-before-requires-clause-fits
 raise_spot-before-requires-clause-fits g c =
@@ -29,4 +29,4 @@ pub returns-clause-before : goal.returns-clause-before
 returns-clause-before g c = sym (count_absent g.T.PartialEq.eq c.args.value c.args.self.now.entries (sym (c.in_default.ensures.map)))
 
 pub returns-clause-added : goal.returns-clause-added
-returns-clause-added g c = adds_stored g.T.PartialEq.eq g.met.T.Eq.laws c.args.value c.args.n c.args.self.now c.insert_hashed.new.self (sym (c.in_default.ensures.map)) c.in_ok-insert_hashed.ensures.stored
+returns-clause-added g c = adds_stored g.T.PartialEq.eq g.met.T.Eq.laws c.args.value c.args.n c.args.self.now c.insert_probed.new.self (sym (c.in_default.ensures.map)) c.in_ok-insert_probed.ensures.stored

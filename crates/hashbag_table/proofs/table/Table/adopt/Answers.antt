@@ -5,6 +5,7 @@ use Rattle.hashbag_slots.specs.Hashing.{hash_under}
 use Rattle.hashbag_slots.specs.Slots.{entries}
 use Rattle.hashbag_table.specs.Tables.{entries_of, Carried, MayAdopt}
 use Rattle.hashbag_table.proofs.CarryLemmas.{IsTables-adopted}
+use Rattle.hashbag_table.proofs.HintLemmas.{hints_new}
 use Rattle.hashbag_table.proofs.table.Table.adopt.Goals.{After-carry_next-self-inside}
 use Rattle.hashbag_table.proofs.table.Table.adopt.Goals as goal
 
@@ -19,8 +20,12 @@ pub invariant_of-self : goal.invariant_of-self
 invariant_of-self g c =
     let may = subst (λ t. MayAdopt g.T.PartialEq.eq (hash_under g.T.Hash.hash_input g.S.BuildHasher g.S.Hasher.Hasher t.hasher) c.args.newer t.tables.newer c.args.many) (sym c.self.view_is) c.requires.may in
     let h = c.carry_next-self-inside in
-    IsTables-adopted g.T.PartialEq.eq _ c.self.inside.newer c.args.newer c.args.many c.self.invariant.tables.newer_reached may g.met.T.Eq.laws h.new.newer h.new.older h.result h.ensures.tables
-    (carried g (goal.at.invariant_of-self g c).After-carry_next-self-inside) h.ensures.freed
+    record {
+      kept = IsTables-adopted g.T.PartialEq.eq _ c.self.inside.newer c.args.newer c.args.many c.self.invariant.kept.tables.newer_reached may g.met.T.Eq.laws h.new.newer h.new.older h.result h.ensures.tables
+          (carried g (goal.at.invariant_of-self g c).After-carry_next-self-inside) h.ensures.freed;
+      hints = hints_new h.new.newer.slots h.new.older.slots h.result c.quick_of-self-inside.result
+          (λ small. let is = c.quick_of-self-inside.ensures.small small in (sym c.slots-2.ensures.value ∙ is.0, sym c.slots-3.ensures.value ∙ is.1));
+    }
 
 pub returns-clause-carried : goal.returns-clause-carried
 returns-clause-carried g c =

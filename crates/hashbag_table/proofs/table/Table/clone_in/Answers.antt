@@ -27,16 +27,30 @@ loop-value-init g c =
 order_next : (g : _) (c : In-Some g) → IsPermutation c.args.self.now.entries (c.loop-value.invariant.0.0 ++ (c.in-Some.value.now, c.in-Some.count) ∷ c.next.new.self)
 order_next g c = subst (λ (l : List (g.row.T.Denot × ℕ)). IsPermutation c.args.self.now.entries (c.loop-value.invariant.0.0 ++ l)) c.in-Some.ensures.steps c.loop-value.invariant.0.1
 
-pub insert_new-requires-clause-absent : goal.insert_new-requires-clause-absent
-insert_new-requires-clause-absent g c =
-    let order = order_next g (goal.at.insert_new-requires-clause-absent g c).In-Some in
+-- fewer were cloned than the new table has room for
+fewer_so_far : (g : _) (c : In-Some g) → length c.loop-value.invariant.0.0 < most_used (length c.in_ok-table.table.tables.newer)
+fewer_so_far g c =
+    let done = c.loop-value.invariant.0.0 in let entry : g.row.T.Denot × ℕ = (c.in-Some.value.now, c.in-Some.count) in
+    let all = length_permutation _ _ (order_next g c) in let both = length-append done (entry ∷ c.next.new.self) in
+    let e = c.in_ok-table.ensures.least.enough in let n = c.set_len.ensures.len in omega (arith, e, n, all, both)
+
+pub place_new-requires-clause-absent : goal.place_new-requires-clause-absent
+place_new-requires-clause-absent g c =
+    let order = order_next g (goal.at.place_new-requires-clause-absent g c).In-Some in
     next_is_new g.met.T.Eq.laws g.T.Clone.is_clone c.args.self.now.entries c.loop-value.invariant.0.0 c.next.new.self c.loop-value.table.entries (c.in-Some.value.now, c.in-Some.count) c.in_ok-clone.clone
     c.requires.equal c.walk-value-items.ensures.counted.distinct order c.loop-value.invariant.0.2 c.in_ok-clone.ensures.cases
 
-pub insert_new-requires-clause-positive : goal.insert_new-requires-clause-positive
-insert_new-requires-clause-positive g c =
-    let order = order_next g (goal.at.insert_new-requires-clause-positive g c).In-Some in
+pub place_new-requires-clause-positive : goal.place_new-requires-clause-positive
+place_new-requires-clause-positive g c =
+    let order = order_next g (goal.at.place_new-requires-clause-positive g c).In-Some in
     next_is_some c.args.self.now.entries c.loop-value.invariant.0.0 c.next.new.self (c.in-Some.value.now, c.in-Some.count) c.walk-value-items.ensures.counted.positive order
+
+pub place_new-requires-clause-room : goal.place_new-requires-clause-room
+place_new-requires-clause-room g c =
+    let more = fewer_so_far g (goal.at.place_new-requires-clause-room g c).In-Some in let r = c.loop-value.invariant.0.3.room in omega (arith, r, more)
+
+pub place_new-requires-clause-none_waits : goal.place_new-requires-clause-none_waits
+place_new-requires-clause-none_waits g c = c.loop-value.invariant.0.3.waiting
 
 pub loop-value-preserved : goal.loop-value-preserved
 loop-value-preserved g c =
@@ -45,19 +59,17 @@ loop-value-preserved g c =
     let order = order_next g (goal.at.loop-value-preserved g c).In-Some in
     let absent = next_is_new g.met.T.Eq.laws g.T.Clone.is_clone c.args.self.now.entries so_far.0 c.next.new.self c.loop-value.table.entries entry c.in_ok-clone.clone
     c.requires.equal c.walk-value-items.ensures.counted.distinct order so_far.2 c.in_ok-clone.ensures.cases in
-    let all = length_permutation _ _ order in
-    let both = length-append so_far.0 (entry ∷ c.next.new.self) in
-    let more : length so_far.0 < most_used (length c.in_ok-table.table.tables.newer) = let e = c.in_ok-table.ensures.least.enough in let n = c.set_len.ensures.len in omega (arith, e, n, all, both) in
+    let more = fewer_so_far g (goal.at.loop-value-preserved g c).In-Some in
     let longer : length so_far.0 + 1 ≡ length (so_far.0 ++ entry ∷ []) = sym (length-append so_far.0 (entry ∷ [])) in (
       (
         so_far.0 ++ entry ∷ [],
         rw (append_assoc so_far.0 (entry ∷ []) c.next.new.self) order,
-        copied g.met.T.Eq.laws g.T.Clone.is_clone so_far.0 c.loop-value.table.entries c.insert_new.new.self.entries entry c.in_ok-clone.clone so_far.2 c.in_ok-clone.ensures.cases absent c.in_ok-insert_new.ensures.stored.map.means,
-        subst (IsFilled c.insert_new.new.self.tables c.in_ok-table.table.tables) longer
-            (filled_next c.loop-value.table.tables c.insert_new.new.self.tables c.in_ok-table.table.tables (length so_far.0) so_far.3 more (c.in_ok-insert_new.ensures.stored.arrives absent)),
+        copied g.met.T.Eq.laws g.T.Clone.is_clone so_far.0 c.loop-value.table.entries c.place_new.new.self.entries entry c.in_ok-clone.clone so_far.2 c.in_ok-clone.ensures.cases absent c.place_new.ensures.stored.map.means,
+        subst (IsFilled c.place_new.new.self.tables c.in_ok-table.table.tables) longer
+            (filled_next c.loop-value.table.tables c.place_new.new.self.tables c.in_ok-table.table.tables (length so_far.0) so_far.3 more (c.place_new.ensures.stored.arrives absent)),
       ),
-      c.in_ok-insert_new.ensures.stored.map.hasher ∙ c.loop-value.invariant.1,
-      c.insert_new.ensures.counted,
+      c.place_new.ensures.stored.map.hasher ∙ c.loop-value.invariant.1,
+      c.place_new.ensures.counted,
     )
 
 pub returns-clause-clones : goal.returns-clause-clones

@@ -12,7 +12,7 @@ use Rattle.hashbag_table.proofs.table.Table.grow.Goals as goal
 -- the new table follows the full one
 grows : (g : _) (c : In_ok-newer g) → Grows g.T.PartialEq.eq (hash_under g.T.Hash.hash_input g.S.BuildHasher g.S.Hasher.Hasher c.self.inside.hasher) c.self.inside.newer c.self.inside.older c.in_ok-newer.newer c.self.inside.carried_to
 grows g c = record {
-  before = c.self.invariant;
+  before = c.self.invariant.kept;
   full = subst (λ t. room t.tables ≡ 0) (sym c.self.view_is) c.requires.full;
   count = subst IsSlotCount c.slots.ensures.value c.slots.ensures.count;
   slots = c.in_ok-newer.ensures.slots ∙ ap (λ k. replicate k Empty) (c.in_ok-grown.ensures.grown ∙ (λ i. grown_slots (c.slots.ensures.value i) (c.live.ensures i)));

@@ -12,12 +12,12 @@ use Rattle.hashbag_table.proofs.table.Table.reserve.Goals as goal
 fit : (g : _) (c : After-slots-slots g) → (length c.args.self.now.entries ≡ live_count c.self.inside.newer.slots + live_count (drop c.self.inside.carried_to c.self.inside.older.slots)) × (length c.args.self.now.entries ≤ MOST_VALUES)
 fit g c =
     let i = c.self.inside in
-    values_fit i.newer.slots (drop i.carried_to i.older.slots) c.args.self.now.entries _ (ap (λ t. t.entries) c.self.view_is) c.self.invariant.tables.fits c.slots-slots.ensures.value c.slots-slots.ensures.bound
+    values_fit i.newer.slots (drop i.carried_to i.older.slots) c.args.self.now.entries _ (ap (λ t. t.entries) c.self.view_is) c.self.invariant.kept.tables.fits c.slots-slots.ensures.value c.slots-slots.ensures.bound
 
 -- and so do they with what there is room for
 pub returns-then-n-room-clause-past_most : goal.returns-then-n-room-clause-past_most
 returns-then-n-room-clause-past_most g c some beyond =
-    let values = (fit g (goal.at.returns-then-n-room-clause-past_most g c).After-slots-slots).0 in let f = c.self.invariant.tables.fits in
+    let values = (fit g (goal.at.returns-then-n-room-clause-past_most g c).After-slots-slots).0 in let f = c.self.invariant.kept.tables.fits in
     let a = c.room.ensures ∙ sym (ap (λ t. room t.tables) c.self.view_is) in
     let s = c.slots-slots.ensures.value in let b = c.slots-slots.ensures.bound in
     let few = c.if-n-room.true in let most = most_is in

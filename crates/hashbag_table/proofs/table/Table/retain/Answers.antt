@@ -7,6 +7,7 @@ use Rattle.hashbag_table.specs.Retained.{RetainsSlots}
 use Rattle.hashbag_table.specs.Tables.{entries_of, room}
 use Rattle.hashbag_table.proofs.KeptLemmas.{WalksBoth, callable_first, callable_waiting, total_both, total_fits, total_left, retains_both, room_left, length_waiting, IsTables-left}
 use Rattle.hashbag_table.proofs.RetainLemmas.{slots_kept}
+use Rattle.hashbag_table.proofs.HintLemmas.{none_at_once, hints_kept}
 use Rattle.hashbag_table.proofs.table.Table.retain.Goals.{After-retain_slots-waiting}
 use Rattle.hashbag_table.proofs.table.Table.retain.Goals as goal
 
@@ -36,8 +37,11 @@ walked g c = record { first = c.retain_slots-newer.ensures.retained; second = c.
 
 pub invariant_of-self : goal.invariant_of-self
 invariant_of-self g c =
-    let both = walked g (goal.at.invariant_of-self g c).After-retain_slots-waiting in let t = c.self.invariant.tables in
-    IsTables-left g.F.FnMut both g.T.PartialEq.eq _ c.self.invariant (c.retain_slots-newer.ensures.reached _ t.newer_reached) (c.retain_slots-waiting.ensures.reached _ t.older_reached)
+    let both = walked g (goal.at.invariant_of-self g c).After-retain_slots-waiting in let t = c.self.invariant.kept.tables in
+    record {
+      kept = IsTables-left g.F.FnMut both g.T.PartialEq.eq _ c.self.invariant.kept (c.retain_slots-newer.ensures.reached _ t.newer_reached) (c.retain_slots-waiting.ensures.reached _ t.older_reached);
+      hints = hints_kept c.self.invariant.hints c.retain_slots-newer.new.slots.slots c.retain_slots-waiting.new.slots.slots 0 c.retain_slots-newer.ensures.retained.same_length c.retain_slots-waiting.ensures.retained.same_length (λ p lt. c.retain_slots-waiting.ensures.retained.before p lt) (none_at_once _ _);
+    }
 
 pub overflow_add-result : goal.overflow_add-result
 overflow_add-result g c =
@@ -58,7 +62,7 @@ returns-clause-total g c =
     omega (arith, a.ensures.total, b.ensures.total, both)
 
 pub returns-clause-counted : goal.returns-clause-counted
-returns-clause-counted g c = (invariant_of-self g c).counted
+returns-clause-counted g c = (invariant_of-self g c).kept.counted
 
 pub returns-clause-waiting : goal.returns-clause-waiting
 returns-clause-waiting g c = length_waiting g.F.FnMut (walked g (goal.at.returns-clause-waiting g c).After-retain_slots-waiting) ∙ ap (λ t. length t.tables.waiting) c.self.view_is

@@ -8,7 +8,7 @@ use Rattle.hashbag_table.proofs.table.Table.spare.Goals as goal
 fit : (g : _) (c : After-slots-slots g) → length c.args.self.now.entries ≤ MOST_VALUES
 fit g c =
     let i = c.self.inside in
-    (values_fit i.newer.slots (drop i.carried_to i.older.slots) c.args.self.now.entries _ (ap (λ t. t.entries) c.self.view_is) c.self.invariant.tables.fits c.slots-slots.ensures.value c.slots-slots.ensures.bound).1
+    (values_fit i.newer.slots (drop i.carried_to i.older.slots) c.args.self.now.entries _ (ap (λ t. t.entries) c.self.view_is) c.self.invariant.kept.tables.fits c.slots-slots.ensures.value c.slots-slots.ensures.bound).1
 
 pub overflow_sub-values : goal.overflow_sub-values
 overflow_sub-values g c = omega (arith, fit g (goal.at.overflow_sub-values g c).After-slots-slots, c.set_len-values.ensures.len, most_is)

@@ -6,12 +6,17 @@ use Rattle.hashbag_table.specs.Tables.{IsLeast}
 use Rattle.hashbag_table.proofs.CarryLemmas.{IsTables-blank, entries_blank}
 use Rattle.hashbag_table.proofs.LeastLemmas.{least_none, least_bound}
 use Rattle.hashbag_table.proofs.PackedLemmas.{packed_fresh, fresh_length}
+use Rattle.hashbag_table.proofs.HintLemmas.{hints_new}
 use Rattle.hashbag_table.proofs.table.Table.with_room.Goals as goal
 
 pub invariant_of-result : goal.invariant_of-result
 invariant_of-result g c =
-    IsTables-blank g.T.PartialEq.eq (hash_under g.T.Hash.hash_input g.S.BuildHasher g.S.Hasher.Hasher c.args.hasher) c.in_ok-newer.newer c.no_slots-older.result c.in_ok-slots.slots
-    c.in_ok-newer.ensures.slots c.no_slots-older.ensures.slots (c.in_ok-newer.ensures.reached _) (c.no_slots-older.ensures.reached _)
+    record {
+      kept = IsTables-blank g.T.PartialEq.eq (hash_under g.T.Hash.hash_input g.S.BuildHasher g.S.Hasher.Hasher c.args.hasher) c.in_ok-newer.newer c.no_slots-older.result c.in_ok-slots.slots
+          c.in_ok-newer.ensures.slots c.no_slots-older.ensures.slots (c.in_ok-newer.ensures.reached _) (c.no_slots-older.ensures.reached _);
+      hints = hints_new c.in_ok-newer.newer.slots c.no_slots-older.result.slots 0 c.quick_of.result
+          (λ small. let is = c.quick_of.ensures.small small in (ap length c.in_ok-newer.ensures.slots ∙ length-replicate c.in_ok-slots.slots Empty ∙ is.0, ap length c.no_slots-older.ensures.slots));
+    }
 
 pub with_slots-requires : goal.with_slots-requires
 with_slots-requires g c = c.in_ok-slots.ensures.least.count

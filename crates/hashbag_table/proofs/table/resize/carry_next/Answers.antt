@@ -1,5 +1,8 @@
-use Rattle.std.proofs.Common.{◌≡◌, ◌+◌, ◌-◌, ◌≤◌, min, length, drop, sym, ap, subst, ◌∙◌, arith}
+use Rattle.std.proofs.Common.{◌+◌, ◌-◌, ◌≤◌, min, length, drop, sym, ap, subst, ◌∙◌, inl, inr, arith}
+use Rattle.std.proofs.Math.Nat.{min-eq_left, min-eq_right}
+use Rattle.std.proofs.lemmas.Bool.{cases_lt}
 use Rattle.hashbag_slots.specs.Hashing.{hash_under}
+use Rattle.hashbag_slots.specs.Slots.{slot_at, moved}
 use Rattle.hashbag_table.specs.Tables.{AreTables, Carried, CarriedOn}
 use Rattle.hashbag_table.proofs.SlotLemmas.{live-drop}
 use Rattle.hashbag_table.proofs.CarryLemmas.{tables_after, carried_after, tables_freed, carried_freed}
@@ -48,3 +51,25 @@ returns-then-carried_to-many-clause-freed g c = λ _. ap (λ (o : _). length o.s
 pub returns-clause-freed : goal.returns-clause-freed
 returns-clause-freed g c all =
     absurd (c.if-carried_to-many.false (omega (arith, within g (goal.at.returns-clause-freed g c).After-carry_from, c.carry_from.ensures.left.same_length, c.slots-slots.ensures.value, all)))
+
+pub returns-clause-far : goal.returns-clause-far
+returns-clause-far g c some =
+    let few = c.min-many.ensures in let value = c.slots-slots.ensures.value in let goes = c.if-carried_to-many.false in let inside = within g (goal.at.returns-clause-far g c).After-carry_from in
+    elim (cases_lt (c.slots-slots.result - c.args.carried_to) c.args.most) [
+      | inl less ↦ absurd (goes (let is = few ∙ min-eq_left (omega arith) in omega arith))
+      | inr more ↦ let is = few ∙ min-eq_right more in omega arith
+    ]
+
+pub returns-clause-empty : goal.returns-clause-empty
+returns-clause-empty g c p was =
+    let left = c.carry_from.ensures.left in
+    elim (cases_lt p c.args.carried_to) [
+      | inl before ↦ left.outside p (inl before) ∙ was
+      | inr after ↦ elim (cases_lt p (c.args.carried_to + c.min-many.result)) [
+        | inl inside ↦ left.inside p after inside ∙ ap moved was
+        | inr beyond ↦ left.outside p (inr beyond) ∙ was
+      ]
+    ]
+
+pub returns-then-carried_to-many-clause-empty : goal.returns-then-carried_to-many-clause-empty
+returns-then-carried_to-many-clause-empty g c p was = ap (λ (o : _). slot_at o.slots p) c.replace-freed.ensures.after ∙ ap (λ ss. slot_at ss p) c.no_slots.ensures.slots

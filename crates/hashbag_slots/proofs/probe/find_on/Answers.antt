@@ -1,0 +1,109 @@
+use Rattle.std.proofs.Common.{◌≡◌, ℕ, ◌+◌, ◌<◌, ◌≤◌, take, get_or, false, sym, ap, ◌∙◌, inl, inr, arith}
+use Rattle.std.proofs.lemmas.Bool.{eqb-true}
+use Rattle.hashbag_slots.specs.Slots.{path_slot, holds, slot_at}
+use Rattle.hashbag_slots.specs.Columns.{tag_at, slots_of}
+use Rattle.hashbag_slots.specs.Group.{IsTagMask}
+use Rattle.hashbag_slots.proofs.Guards.{length-first, first_tag, of_slot, mask_first}
+use Rattle.hashbag_slots.proofs.Paths.{count_bound}
+use Rattle.hashbag_slots.proofs.Strides.{path_ahead, reach, further, other, absent_before, absent_all}
+use Rattle.hashbag_slots.proofs.WalkOrder.{sixteens}
+use Rattle.hashbag_slots.proofs.probe.find_on.Goals.{Start, After-match_tag-tagged, After-first_equal, then-at-slots, else-at-slots}
+use Rattle.hashbag_slots.proofs.probe.find_on.Goals as goal
+
+-- the slot at a place doesn't hold the value
+abbrev Passed : (g : _) (c : goal.Start g) → ℕ → Type 0
+Passed g c p = holds (g.Q.Key.names c.args.key) (slot_at (slots_of (take c.args.slots c.args.tags.now) c.args.cells.now) p) ≡ false
+
+pub sixteens-init : goal.sixteens-init
+sixteens-init g c =
+    let n : ℕ = c.args.slots in let h : ℕ = c.args.hash in let at = c.path_slot-at.result in let is = c.path_slot-at.ensures.value in let bound = c.path_slot-at.ensures.bound in
+    let to = reach n h 0 at c.requires.some (sym is) bound in let r = to.0 in let long = to.1.0 in
+    let step : 0 + r ≡ r = omega arith in
+    let passed : (k : ℕ) → k < 0 + r → Passed g (goal.at.sixteens-init g c).Start (path_slot n h k) =
+    further (Passed g (goal.at.sixteens-init g c).Start) n h 0 r (omega arith) (λ k lt. absurd (omega arith)) (λ p a b. c.requires.passed p a (let few = to.1.1 in omega arith)) in (
+      0 + r,
+      bound,
+      elim to.1.2 [ inl x ↦ inl (x.0, x.2) | inr x ↦ inr (x.0, x.2) ],
+      passed,
+      sixteens n c.requires.slots,
+      elim to.1.2 [
+        | inl x ↦ inl (let e = x.1 in omega arith)
+        | inr x ↦ inr (omega arith, let e = x.2 in omega arith)
+      ],
+    )
+
+pub overflow_add-at : goal.overflow_add-at
+overflow_add-at g c = let bound = c.sixteens.invariant.1 in let most = count_bound c.args.slots c.requires.slots in record { fits = omega arith }
+
+-- the sixteen that are read begin at the next slot of the path
+next : (g : _) (c : goal.After-match_tag-tagged g) → (path_slot c.args.slots c.args.hash c.sixteens.invariant.0 ≡ c.if-at-slots.at) × (c.if-at-slots.at < c.args.slots)
+next g c =
+    let i = c.sixteens.invariant in let some = c.requires.some in
+    elim c.if-at-slots.branch [
+      | then-at-slots w ↦
+          let ends = w.if-at-slots.true in let is = w.at-is in
+          elim i.2 [ inl x ↦ absurd (let short = x.0 in omega arith) | inr x ↦ (let to = x.1 in omega arith, omega arith) ]
+      | else-at-slots w ↦
+          let goes = w.if-at-slots.false in let is = w.at-is in
+          elim i.2 [ inl x ↦ (let to = x.1 in omega arith, omega arith) | inr x ↦ absurd (let long = x.0 in omega arith) ]
+    ]
+
+-- the bits tell of the tags of slots
+tagged : (g : _) (c : goal.After-match_tag-tagged g) → IsTagMask (take c.args.slots c.args.tags.now) c.fingerprint_of-fingerprint.result c.if-at-slots.at (c.if-at-slots.at + 16) c.match_tag-tagged.result
+tagged g c =
+    mask_first c.args.slots c.args.tags.now c.requires.guarded c.fingerprint_of-fingerprint.result c.if-at-slots.at (c.if-at-slots.at + 16) c.match_tag-tagged.result
+    c.fingerprint_of-fingerprint.ensures.least c.requires.some c.match_tag-tagged.ensures
+
+pub find_tagged-requires-clause-mask : goal.find_tagged-requires-clause-mask
+find_tagged-requires-clause-mask g c = (c.if-at-slots.at + 16, omega arith, tagged g (goal.at.find_tagged-requires-clause-mask g c).After-match_tag-tagged)
+
+-- none of the sixteen holds the value
+none : (g : _) (c : goal.After-first_equal g) (p : ℕ) → c.if-at-slots.at ≤ p → p < c.if-at-slots.at + 16 → Passed g (goal.at.After-first_equal g c).Start p
+none g c p a b =
+    other (g.Q.Key.names c.args.key) c.requires.reached.hash c.args.hash c.requires.reached.alike (take c.args.slots c.args.tags.now) c.args.cells.now c.requires.agree c.requires.reached.reached
+    c.fingerprint_of-fingerprint.result c.fingerprint_of-fingerprint.ensures.fingerprint p
+    (λ same. c.in_default.ensures.absent (c.if-at-slots.at + 16) (tagged g (goal.at.After-first_equal g c).After-match_tag-tagged) p a b same)
+
+pub returns-then-first_equal-lt-GROUP_WIDTH-clause-absent :
+    goal.returns-then-first_equal-lt-GROUP_WIDTH-clause-absent
+returns-then-first_equal-lt-GROUP_WIDTH-clause-absent g c =
+    let at0 = goal.at.returns-then-first_equal-lt-GROUP_WIDTH-clause-absent g c in
+    let n : ℕ = c.args.slots in let h : ℕ = c.args.hash in let all = c.args.tags.now in let ts = take n all in let i = c.sixteens.invariant in
+    let at = c.if-at-slots.at in let here = next g at0.After-match_tag-tagged in let is = here.0 in let bound = here.1 in
+    let stop = c.first_equal.result in let short = c.if-first_equal-lt-GROUP_WIDTH.true in
+    let empty : get_or all (at + stop) 0 ≡ 0 = eqb-true _ _ (c.first_equal.ensures.first.hit (omega arith)) in
+    let within = of_slot n all c.requires.guarded (at + stop) (omega arith) c.requires.some (λ e. absurd (omega arith)) in
+    let there : path_slot n h (i.0 + stop) ≡ at + stop = path_ahead n h i.0 stop (omega arith) ∙ ap (λ p. p + stop) is in
+    absent_before (g.Q.Key.names c.args.key) c.requires.reached.hash h c.requires.reached.alike ts c.args.cells.now c.requires.agree c.requires.reached.reached
+    n (length-first n all c.requires.guarded) (i.0 + stop)
+    (further (Passed g at0.Start) n h i.0 stop (omega arith) i.3 (λ p a b. none g at0.After-first_equal p (omega arith) (omega arith)))
+    (ap (tag_at ts) there ∙ first_tag n all c.requires.guarded (at + stop) within ∙ empty)
+
+pub sixteens-preserved : goal.sixteens-preserved
+sixteens-preserved g c =
+    let at0 = goal.at.sixteens-preserved g c in
+    let n : ℕ = c.args.slots in let h : ℕ = c.args.hash in let i = c.sixteens.invariant in let left : ℕ = c.sixteens.left in
+    let at = c.if-at-slots.at in let here = next g at0.After-match_tag-tagged in let is = here.0 in let bound = here.1 in
+    let more : 16 ≤ left = c.sixteens-test.true in let aligned = i.4 in let whole = sixteens n c.requires.slots in
+    let to = reach n h i.0 at c.requires.some is bound in let r = to.0 in let long = to.1.0 in let few = to.1.1 in (
+      i.0 + r,
+      bound,
+      elim to.1.2 [ inl x ↦ inl (x.0, x.2) | inr x ↦ inr (x.0, x.2) ],
+      further (Passed g at0.Start) n h i.0 r (omega arith) i.3 (λ p a b. none g at0.After-first_equal p (omega arith) (omega arith)),
+      omega arith,
+      elim to.1.2 [
+        | inl x ↦
+            let goes = x.1 in let then = x.2 in
+            elim i.5 [ inl y ↦ inl (omega arith) | inr y ↦ let enough = y.0 in let even = y.1 in inr (omega arith, omega arith) ]
+        | inr x ↦
+            let ends = x.1 in let then = x.2 in let near = x.0 in
+            elim i.5 [ inl y ↦ inr (omega arith, omega arith) | inr y ↦ let enough = y.0 in let even = y.1 in inr (omega arith, omega arith) ]
+      ],
+    )
+
+pub returns-clause-absent : goal.returns-clause-absent
+returns-clause-absent g c =
+    let n : ℕ = c.args.slots in let i = c.sixteens.invariant in let aligned = i.4 in let over = c.sixteens-test.false in
+    let all : n ≤ i.0 = elim i.5 [ inl y ↦ omega arith | inr y ↦ let enough = y.0 in omega arith ] in
+    absent_all (g.Q.Key.names c.args.key) c.requires.reached.hash c.args.hash c.requires.reached.alike (take n c.args.tags.now) c.args.cells.now c.requires.agree c.requires.reached.reached
+    n (length-first n c.args.tags.now c.requires.guarded) (λ k lt. i.3 k (omega arith))
