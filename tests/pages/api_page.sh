@@ -85,8 +85,8 @@ def exported(path):
 
 
 class Item:
-    def __init__(self, name, kind, path, doc, signature, clauses, header):
-        self.name, self.kind, self.path, self.doc = name, kind, path, doc
+    def __init__(self, name, kind, path, line, doc, signature, clauses, header):
+        self.name, self.kind, self.path, self.line, self.doc = name, kind, path, line, doc
         self.signature, self.clauses, self.header = signature, clauses, header
         self.parts = []  # of a type: its variants or public fields, each with its comment
         self.traits = []
@@ -144,14 +144,14 @@ class Reader:
             self.at += 1
         self.header = " ".join(part.strip() for part in self.lines[start : self.at + 1]).rstrip(" {")
         self.owner, self.trait = of_impl(self.header)
-        self.items.append(Item(self.owner, "impl", self.path, self.doc, [], [], self.trait))
+        self.items.append(Item(self.owner, "impl", self.path, self.at + 1, self.doc, [], [], self.trait))
         self.doc, self.of_impl = [], self.doc + [""] if self.doc else []
 
     def on_type(self):
         kind, name = re.match(r"pub (\w+) (\w+)", self.lines[self.at]).groups()
-        traits = derived(self.lines, self.at)
+        traits, number = derived(self.lines, self.at), self.at + 1
         signature, clauses, self.at = declaration(self.lines, self.at)
-        item = Item(name, kind, self.path, self.doc, signature, clauses, None)
+        item = Item(name, kind, self.path, number, self.doc, signature, clauses, None)
         item.traits = traits
         self.items.append(item)
         has_body = self.lines[self.at].endswith("{")
@@ -162,7 +162,7 @@ class Reader:
     # Public are a `pub fn`, one of a public trait, and a documented one of a trait that is implemented for `HashBag`. The comment of that
     # `impl` belongs to it too.
     def on_fn(self):
-        line = self.lines[self.at]
+        line, number = self.lines[self.at], self.at + 1
         name = re.search(r"\bfn (\w+)", line).group(1)
         of_trait = self.owner is not None and self.header == ""
         of_bag = self.trait is not None and self.owner == "HashBag" and self.doc != []
@@ -170,7 +170,7 @@ class Reader:
         if line.lstrip().startswith("pub ") or of_trait or of_bag:
             full = f"{self.owner}::{name}" if line.startswith(" ") else name
             doc = self.of_impl + self.doc if of_bag else self.doc
-            self.items.append(Item(full, "fn", self.path, doc, signature, clauses, self.header))
+            self.items.append(Item(full, "fn", self.path, number, doc, signature, clauses, self.header))
         self.doc = []
 
     # A variant, or a public field.
@@ -333,7 +333,7 @@ def entry(name, items, names):
             lines += [f"*Clauses:* {said}.", ""]
         if item.traits:
             lines += ["*Traits:* " + ", ".join(f"`{trait}`" for trait in sorted(set(item.traits))) + ".", ""]
-        lines += [f"[{item.path}](../../{item.path})", ""]
+        lines += [f"[{item.path}, line {item.line}](../../{item.path}#L{item.line})", ""]
     return lines
 
 

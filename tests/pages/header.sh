@@ -1,7 +1,6 @@
 #!/usr/bin/env bash
 # bash tests/pages/header.sh [--write]: makes bindings/c/hashbag.h from the functions that crates/hashbag_c exports, and compares it with the file. `--write`
-# writes the file. It also compares the names in the Python binding with the exports: it names all of them, with as many arguments. Each error has a text
-# in bindings/c/unproved.c. The last line is 'header: N functions' or says what is wrong.
+# writes the file. Each error has a text in bindings/c/unproved.c. The last line is 'header: N functions' or says what is wrong.
 #
 # The comment of a function is its doc comment. A parameter `alloc` takes no bytes, so C passes nothing for it; a slice is a pointer and a length.
 set -u
@@ -194,9 +193,5 @@ elif made != read(HEADER):
     sys.stdout.writelines(difflib.unified_diff(read(HEADER).splitlines(True), made.splitlines(True), HEADER, "the exports"))
     fail(f"{HEADER} isn't what the exports say: bash tests/pages/header.sh --write")
 
-python = {name: len([it for it in words.split(",") if it.strip()]) for name, words in re.findall(r'"(hashbag_\w+)", \[([^\]]*)\]', read("bindings/python/hashbag/_library.py"))}
-if python != functions:
-    wrong = sorted(name for name in {*python, *functions} if python.get(name) != functions.get(name))
-    fail(f"bindings/python/hashbag/_library.py doesn't declare these as they are exported: {' '.join(wrong)}")
 print(f"header: {len(functions)} functions")
 PYTHON

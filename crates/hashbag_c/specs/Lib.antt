@@ -7,5 +7,6 @@ pub mod Json
 pub mod Pieces
 pub mod Quotas
 pub mod Reads
+pub mod States
 pub mod Whole
 pub mod Walked

@@ -1,4 +1,4 @@
-//! `hashbag` for C: bags of numbers and of byte strings, each behind a handle of one word. `docs/use/BINDINGS.md` has how to build and call it;
+//! `hashbag` for C: bags of numbers and of byte strings, each behind a handle of one word. `docs/use/C.md` has how to build and call it;
 //! `bindings/c/hashbag.h` is made from the functions that are exported here.
 //!
 //! No exported function requires anything of its values. A handle that has nothing, or a bag of the other kind, is reported by a number.

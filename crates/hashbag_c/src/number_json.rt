@@ -8,6 +8,7 @@
 ghost use Rattle.std.specs.Prelude.{◌≡◌, ◌≢◌, ◌⊎◌};
 ghost use Rattle.hashbag_c.specs.Calls.{HasNumbers, IfNumbers, OnNumbers, UnlessNumbers};
 ghost use Rattle.hashbag_c.specs.Json.{has_number, AreNumbersReadFrom, IsNumbersJson, IsReported, IsTooLong, IsWritten};
+ghost use Rattle.hashbag_c.specs.States.{HashesUnder};
 
 use crate::any::{EMPTY, KIND, SHORT};
 use crate::handle::Handle;
@@ -101,6 +102,7 @@ pub extern "C" fn hashbag_numbers_from_json_keyed(
     // If the result is 0: the text is JSON without any of the faults `HASHBAG_JSON_..`. Its pairs were inserted in turn into an empty bag; the limit
     // is the text's, or `most` if less.
     ensures read { result ≡ 0 → HasNumbers handle.new.held (AreNumbersReadFrom most text.now) }
+    ensures keys { result ≡ 0 → HasNumbers handle.new.held (HashesUnder key0 key1) }
 
     // Else the result is the number of the error: no memory, no JSON (or no UTF-8), or the first fault under the limit `most`. `at` is the place of
     // the error, or unchanged if it has none.

@@ -12,6 +12,7 @@ ghost use Rattle.hashbag_core.specs.Held.{HasFewer};
 ghost use Rattle.hashbag_core.specs.Inserts.{Inserts};
 ghost use Rattle.hashbag_core.specs.Occurrences.{count};
 ghost use Rattle.hashbag_c.specs.Calls.{HasNumbers, IfNumbers, NumbersTo, OnNumbers, UnlessNumbers};
+ghost use Rattle.hashbag_c.specs.States.{IsEmptyUnder};
 ghost use Rattle.hashbag_c.specs.Whole.{CanHold, LosesAll, Overfills, RecountOverfills, SetsCount, ShrinksBy, TotalFollows};
 
 use crate::any::{EMPTY, KIND};
@@ -54,7 +55,7 @@ pub extern "C" fn hashbag_numbers_new_keyed(
     key0: u64,
     key1: u64,
 ) -> u8
-    ensures made { result ≡ 0 → HasNumbers handle.new.held (λ bag. (bag.items ≡ []) × (bag.most ≡ most)) }
+    ensures made { result ≡ 0 → HasNumbers handle.new.held (IsEmptyUnder most key0 key1) }
     ensures memory { result ≢ 0 → result ≡ 1 }
     ensures err { result ≢ 0 → handle.new.held ≡ handle.old.held }
 {

@@ -4,12 +4,14 @@
 //! holds on success and on failure. `IfOk` and `IfErr` say what holds of the returned value and of the error. `×` is "and", `⊎` is "or",
 //! `(x : A) ×` is "there is an x", `(x : A) →` is "for every x". `ensures*` says what holds once a loan is over: the prover uses it at the end of
 //! the loan, and no proof can name it.
-ghost use Rattle.std.specs.Prelude.{◌≡◌, ◌+◌, ◌<◌, ◌≤◌, ◌↔◌, [], length, IsTrue, IsOk, IfOk, IfErr, OnOk, OnErr};
+ghost use Rattle.std.specs.Prelude.{◌≡◌, ◌+◌, ◌<◌, ◌≤◌, ◌↔◌, [], length, true, false, None, IsTrue, IsOk, IfOk, IfErr, OnOk, OnErr};
+ghost use Rattle.hashbag_table.specs.Additions.{Stores};
+ghost use Rattle.hashbag_table.specs.Entries.{entry_of, count_of, IsCounted};
 ghost use Rattle.hashbag_table.specs.Tables.{room};
 ghost use Rattle.hashbag_core.specs.Bag.{limited, total_recounted, Lends};
 ghost use Rattle.hashbag_core.specs.Occurrences.{count_named, stored_named, count, distinct_count, IsBag};
 ghost use Rattle.hashbag_core.specs.Inserts.{Inserts, Replaces, MayFail};
-ghost use Rattle.hashbag_core.specs.declared.bag.BagError.TheVariants.{Memory};
+ghost use Rattle.hashbag_core.specs.declared.bag.BagError.TheVariants.{Memory, TooMany};
 
 mod capacity;
 mod equality;
@@ -35,7 +37,7 @@ pub enum BagError {
     #[error("no memory")]
     Memory,
     /// The total would pass the bag's limit.
-    #[error("total past its limit")]
+    #[error("total past its end")]
     TooMany,
     /// The limit would be below the total.
     #[error("limit below total")]
@@ -68,6 +70,33 @@ impl From<AllocError> for BagError {
 
     fn from(_e: AllocError) -> BagError {
         BagError::Memory
+    }
+}
+
+// Stores a value itself with the count 1, and returns the count before, 0 if the value was absent. If the total is at its limit, an absent value isn't
+// inserted. One look-up decides both.
+fn put_within<T: Eq + Hash + Drop, S: BuildHasher + Drop>(
+    table: &mut Table<T, S>,
+    value: T,
+    at_limit: bool,
+) -> Result<usize, BagError>
+    ensures before { IfOk result (λ before. (before ≡ count_of T.eq value table.old.entries) × (at_limit ≡ true → 0 < before)) }
+    ensures stored { OnOk result (Stores T.eq value 1 table.old table.new) }
+    ensures counted { OnOk result (IsCounted T.eq table.new.entries) }
+    ensures error { IfErr result (λ e. (at_limit ≡ true → e ≡ TooMany) × (at_limit ≡ false → e ≡ Memory)) }
+    ensures absent { OnErr result (entry_of T.eq value table.old.entries ≡ None) }
+    ensures err { OnErr result (table.new ≡ table.old) }
+    ensures takes { at_limit ≡ false → 0 < room table.old.tables → IsOk result }
+{
+    if at_limit {
+        match table.put_present(value) {
+            Some(before) => return Ok(before),
+            None => return Err(BagError::TooMany),
+        }
+    }
+    match table.put_instance(value) {
+        Ok(before) => return Ok(before),
+        Err(_) => return Err(BagError::Memory),
     }
 }
 
@@ -397,8 +426,7 @@ impl<T: Eq + Hash + Drop, S: BuildHasher + Drop> HashBag<T, S> {
     ///
     /// # Complexity
     ///
-    /// It hashes the value once, and twice if the value is present and the total is at the limit. It allocates only if the value is absent
-    /// and there is no room. If the value is absent, up to 16 slots of an older table are carried, and each value in them is hashed once.
+    /// It hashes the value once. It allocates only if the value is absent and there is no room. If the value is absent, up to 16 slots of an older table are carried, and each value in them is hashed once.
     ///
     /// # Examples
     ///
@@ -424,12 +452,14 @@ impl<T: Eq + Hash + Drop, S: BuildHasher + Drop> HashBag<T, S> {
         // If the new total fits, it succeeds if there is room.
         ensures takes { total_recounted T.eq value 1 self.old ≤ self.old.most → 0 < room self.old.tables → IsOk result }
     {
-        if self.len == self.most && self.contains(&value) == 0 {
-            return Err(BagError::TooMany);
+        let at_limit = self.len == self.most;
+        match put_within(&mut self.table, value, at_limit) {
+            Ok(before) => {
+                self.len = self.len - before + 1;
+                return Ok(before);
+            }
+            Err(error) => return Err(error),
         }
-        let before = self.table.put_instance(value)?;
-        self.len = self.len - before + 1;
-        Ok(before)
     }
 
     // Inserts `n` occurrences of a value, if the total stays within the limit.

@@ -15,8 +15,8 @@ use std::hash::{BuildHasher, Hash};
 ///
 /// It is occupied if the bag has the value, and else vacant. An entry that is dropped changes nothing.
 pub struct Entry<'a, T: Eq + Hash + Drop, S: BuildHasher + Drop = FixedState> {
-    bag: &'a mut HashBag<T, S>,
-    value: T,
+    pub(crate) bag: &'a mut HashBag<T, S>,
+    pub(crate) value: T,
 }
 
 impl<'a, T: Eq + Hash + Drop, S: BuildHasher + Drop> Drop for Entry<'a, T, S> {
@@ -134,8 +134,10 @@ impl<'a, T: Eq + Hash + Drop, S: BuildHasher + Drop> Entry<'a, T, S> {
         if n > bag.limit() - (bag.len() - before) {
             return Err(BagError::TooMany);
         }
-        bag.recount(&value, before, n);
-        Ok(Entry { bag, value })
+        match bag.recount(&value, n) {
+            Ok(_) => return Ok(Entry { bag, value }),
+            Err(_) => return Err(BagError::TooMany),
+        }
     }
 
     /// Inserts the given value once if the entry is vacant, and returns the count after: [`Entry::or_insert_many`] with 1.

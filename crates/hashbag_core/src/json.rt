@@ -78,7 +78,7 @@ pub enum JsonError {
     #[error("pair {0}: bad item")]
     BadItem(usize),
     /// The total would pass the limit with the pair.
-    #[error("pair {0}: total past its limit")]
+    #[error("pair {0}: total past its end")]
     TooMany(usize),
     /// An allocation failed.
     #[error("no memory")]

@@ -1,13 +1,13 @@
 //! Bags that are built from two others, which stay unchanged.
 ghost use Rattle.std.specs.Prelude.{◌≡◌, ◌+◌, ◌<◌, ◌≤◌, ◌↔◌, length, All, true, IfErr, IfOk};
 ghost use Rattle.hashbag_core.specs.Held.{FitsLimit};
-ghost use Rattle.hashbag_ops.specs.Unions.{IsUnion, IsSumOf, IsIntersection};
+ghost use Rattle.hashbag_ops.specs.Unions.{IsUnion, IfUnion, IsSumOf, IsIntersection};
 
 use crate::combine::{keep_common, keep_most, merge_ref};
 use hashbag_core::{BagError, HashBag};
 use std::hash::{BuildHasher, Hash};
 
-/// Returns the sum of two bags: each count is the sum of both. It has the limit of the first.
+/// Returns the sum of two bags: each count is the sum of both. It has the limit of the first, and a clone of its hash state.
 ///
 /// The caller ensures that clones of the values equal them.
 ///
@@ -41,6 +41,7 @@ pub fn sum<
     ensures counts { IfOk result (λ bag. IsSumOf T.eq a.now.items b.now.items bag.items) }
     ensures len { IfOk result (λ bag. length bag.items ≡ length a.now.items + length b.now.items) }
     ensures limit { IfOk result (λ bag. bag.most ≡ a.now.most) }
+    ensures hasher { IfOk result (λ bag. S.is_clone a.now.hasher bag.hasher) }
     ensures too_many { (result ≡ Err BagError.TooMany) ↔ (a.now.most < length a.now.items + length b.now.items) }
 
     // If both totals together are within the limit of `a`, it fails only with `Memory`.
@@ -54,13 +55,13 @@ pub fn sum<
     Ok(bag)
 }
 
-/// Returns the union of two bags: each count is the greater of both. It has the limit of the first.
+/// Returns the union of two bags: each count is the greater of both. It has the limit of the first, and a clone of its hash state.
 ///
 /// The caller ensures that clones of the values equal them.
 ///
 /// # Errors
 ///
-/// - `TooMany` if the total would pass the limit of `a`.
+/// - `TooMany` only if the total of the greater counts would pass the limit of `a`.
 /// - `Memory` if an allocation fails, or the clone of a value or of a state.
 ///
 /// # Complexity
@@ -88,16 +89,21 @@ pub fn union<
     ensures counts { IfOk result (λ bag. IsUnion T.eq a.now.items b.now.items bag.items) }
     ensures len { IfOk result (λ bag. length bag.items ≤ length a.now.items + length b.now.items) }
     ensures limit { IfOk result (λ bag. bag.most ≡ a.now.most) }
+    ensures hasher { IfOk result (λ bag. S.is_clone a.now.hasher bag.hasher) }
 
-    // If both totals together are within the limit of `a`, it fails only with `Memory`.
-    ensures only_memory { FitsLimit (length b.now.items) a.now → IfErr result (λ e. e ≡ BagError.Memory) }
+    // If both totals together fit, only an allocation or a clone can fail.
+    ensures fits { FitsLimit (length b.now.items) a.now → IfErr result (λ e. e ≡ BagError.Memory) }
+
+    // n is the total of the greater counts. If it passes the limit, a clone may still fail first, with `Memory`.
+    ensures past_limit { IfUnion T.eq a.now b.now (λ n. result ≡ Err BagError.TooMany → a.now.most < n) }
+    ensures only_memory { IfUnion T.eq a.now b.now (λ n. n ≤ a.now.most → IfErr result (λ e. e ≡ BagError.Memory)) }
 {
     let mut bag = a.clone()?;
     keep_most(&mut bag, b.clone()?)?;
     Ok(bag)
 }
 
-/// Returns what two bags have in common: each count is the lesser of both. It has the limit of the first.
+/// Returns what two bags have in common: each count is the lesser of both. It has the limit of the first, and a clone of its hash state.
 ///
 /// The caller ensures that clones of the values equal them.
 ///
@@ -129,6 +135,7 @@ pub fn intersection<
     ensures counts { IfOk result (λ bag. IsIntersection T.eq a.now.items b.now.items bag.items) }
     ensures len { IfOk result (λ bag. length bag.items ≤ length a.now.items) }
     ensures limit { IfOk result (λ bag. bag.most ≡ a.now.most) }
+    ensures hasher { IfOk result (λ bag. S.is_clone a.now.hasher bag.hasher) }
     ensures memory { IfErr result (λ e. e ≡ BagError.Memory) }
 {
     let mut bag = a.clone()?;

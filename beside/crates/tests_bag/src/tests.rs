@@ -3,7 +3,6 @@
 mod callers;
 mod clones;
 mod drops;
-mod errors;
 mod hash_counts;
 mod instances;
 mod keys;

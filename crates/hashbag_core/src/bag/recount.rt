@@ -12,24 +12,36 @@ use crate::bag::{BagError, HashBag};
 use hashbag_table::Table;
 use std::hash::{BuildHasher, Hash};
 
-// Sets the count of a present value, or removes it if the count is 0.
+// Sets the count of a present value, or removes it if the new count is 0, and returns the count before in `Ok`. If the value is absent, or its count
+// would rise by more than `more`, nothing changes, and the count is returned in `Err`: 0 if the value is absent.
 fn set_or_remove<T: Eq + Hash + Drop, S: BuildHasher + Drop>(
     table: &mut Table<T, S>,
     value: &T,
     n: usize,
-)
+    more: usize,
+) -> Result<usize, usize>
     requires counted { IsCounted T.eq table.old.entries }
-    requires present { 0 < count_of T.eq value.now table.old.entries }
-    ensures set { IsPermutation (recount T.eq value.now n (occurrences table.old.entries)) (occurrences table.new.entries) }
-    ensures hasher { table.new.hasher ≡ table.old.hasher }
-    ensures counted { IsCounted T.eq table.new.entries }
-    ensures slot { Recounts T.eq value.now n table.old.tables table.new.tables }
-    ensures room { KeepsRoom 0 table.old.tables table.new.tables }
+    ensures before { IfOk result (λ before. (before ≡ count_of T.eq value.now table.old.entries) × (0 < before) × (n ≤ before + more)) }
+    ensures count { IfErr result (λ before. (before ≡ count_of T.eq value.now table.old.entries) × (0 < before → before + more < n)) }
+    ensures set { OnOk result (IsPermutation (recount T.eq value.now n (occurrences table.old.entries)) (occurrences table.new.entries)) }
+    ensures hasher { OnOk result (table.new.hasher ≡ table.old.hasher) }
+    ensures counted { OnOk result (IsCounted T.eq table.new.entries) }
+    ensures slot { OnOk result (Recounts T.eq value.now n table.old.tables table.new.tables) }
+    ensures room { OnOk result (KeepsRoom 0 table.old.tables table.new.tables) }
+    ensures err { OnErr result (table.new ≡ table.old) }
 {
-    if n == 0 {
-        let _ = table.remove(value);
-    } else {
-        table.set_count(value, n);
+    if n > 0 {
+        match table.set_count(value, n, more) {
+            Ok(before) => return Ok(before),
+            Err(before) => return Err(before),
+        }
+    }
+    match table.remove(value) {
+        Some((former, before)) => {
+            drop(former);
+            return Ok(before);
+        }
+        None => return Err(0),
     }
 }
 
@@ -88,22 +100,30 @@ impl<T: Eq + Hash + Drop, S: BuildHasher + Drop> HashBag<T, S> {
         if n > self.most - (self.len - before) {
             return Err(BagError::TooMany);
         }
-        self.recount(&value, before, n);
-        Ok(before)
+        match self.recount(&value, n) {
+            Ok(count) => return Ok(count),
+            Err(_) => return Err(BagError::TooMany),
+        }
     }
 
-    // Sets the count of a present value, whose count is `before`, or removes it if the new count is 0.
-    pub(crate) fn recount(&mut self, value: &T, before: usize, n: usize)
-        requires before { before ≡ count T.eq value.now self.old.items }
-        requires present { 0 < before }
-        requires fits { length self.old.items - before + n ≤ self.old.most }
-        ensures put { IsBagOf T.eq self.old (recount T.eq value.now n self.old.items) self.new }
-        ensures after { count T.eq value.now self.new.items ≡ n }
-        ensures slot { Recounts T.eq value.now n self.old.tables self.new.tables }
-        ensures room { KeepsRoom 0 self.old.tables self.new.tables }
-        ensures len { length self.new.items + before ≡ length self.old.items + n }
+    // Sets the count of a present value, or removes it if the new count is 0, and returns the count before in `Ok`. One look-up finds what is compared
+    // with the limit and what is changed. `Err`: nothing changed, since the value is absent (0), or the total would pass the limit.
+    pub(crate) fn recount(&mut self, value: &T, n: usize) -> Result<usize, usize>
+        ensures before { IfOk result (λ before. (before ≡ count T.eq value.now self.old.items) × (0 < before) × (total_recounted T.eq value.now n self.old ≤ self.old.most)) }
+        ensures count { IfErr result (λ before. (before ≡ count T.eq value.now self.old.items) × (0 < before → self.old.most < total_recounted T.eq value.now n self.old)) }
+        ensures put { OnOk result (IsBagOf T.eq self.old (recount T.eq value.now n self.old.items) self.new) }
+        ensures after { OnOk result (count T.eq value.now self.new.items ≡ n) }
+        ensures slot { OnOk result (Recounts T.eq value.now n self.old.tables self.new.tables) }
+        ensures room { OnOk result (KeepsRoom 0 self.old.tables self.new.tables) }
+        ensures len { IfOk result (λ before. length self.new.items + before ≡ length self.old.items + n) }
+        ensures err { OnErr result (self.new ≡ self.old) }
     {
-        set_or_remove(&mut self.table, value, n);
-        self.len = self.len - before + n;
+        match set_or_remove(&mut self.table, value, n, self.most - self.len) {
+            Ok(before) => {
+                self.len = self.len - before + n;
+                return Ok(before);
+            }
+            Err(before) => return Err(before),
+        }
     }
 }

@@ -49,7 +49,7 @@ impl<T: Eq + Hash + Drop, S: BuildHasher + Drop> HashBag<T, S> {
     ///
     /// # Complexity
     ///
-    /// Every distinct value is moved and hashed once. It doesn't allocate.
+    /// Every distinct value is moved and hashed once, a waiting one twice. It doesn't allocate.
     ///
     /// # Examples
     ///

@@ -43,7 +43,7 @@ const CALLS: &str = "
     5:2 6:1 | take_one 7 | 1
     5:2 6:1 | replace 5 | 1
     5:2 6:1 | replace 7 | 1
-    5:18446744073709551615 | replace 5 | 2
+    5:18446744073709551615 | replace 5 | 1
     5:18446744073709551615 | replace 7 | 1
     5:2 6:1 | insert_many 5 18446744073709551615 | 0
     5:2 6:1 | insert_many 7 18446744073709551615 | 0
@@ -172,7 +172,7 @@ const CALLS_IN_A_CARRY: &str = "
     drain | 0
     clear | 0
     reserve 23 | 0
-    reserve 1000 | 25
+    reserve 1000 | 33
     shrink_to_fit | 0
     finish_carry | 8
     set_limit 25 | 0";

@@ -1,33 +1,18 @@
-//! Trees of bags that were inserted, long trees, and the texts of errors. `tests_rows` has rows of trees that are read.
-use hashbag::{FixedState, HashBag, ItemError, JsonError, JsonItem};
+//! Trees of bags that were inserted, and long trees. `tests_rows` has rows of trees that are read.
+use hashbag::{FixedState, HashBag, JsonError, JsonItem};
 use hashbag_callers::json_uses::{both_trees, read_again};
 use serde_json::Value;
 use std::alloc::{AllocError, Global};
-use std::fmt::{Debug, Display};
 use std::hash::{BuildHasher, Hash};
 use std::process::Abort;
 use std::test::Fail;
-use tests_kit::texts::{debug_of, is_text, is_text_of};
-use tests_kit::{IdentityState, Named, OneState, ParityState, Row, rows_of};
+use tests_kit::texts::{debug_of, is_text_of};
+use tests_kit::{IdentityState, Named, OneState, ParityState};
 
 // What bags of inserted texts and names are written as.
 const TEXTS: &str = r#"6 3 [["Einar",1],["Harald",3],["Olaf",2]]"#;
 
 const NAMES: &str = r#"6 3 [[{"name":"Einar"},1],[{"name":"Harald"},3],[{"name":"Olaf"},2]]"#;
-
-// Each error, its number and its text.
-const JSON_ERRORS: &str = "
-    NotAnArray | 3 | not an array
-    NotAPair(0) | 4 | pair 0: not a pair
-    BadCount(1) | 5 | pair 1: bad count
-    BadItem(2) | 6 | pair 2: bad item
-    TooMany(3) | 7 | pair 3: total past its limit
-    Memory | 8 | no memory
-    BadLimit | 10 | bad limit";
-
-const ITEM_ERRORS: &str = "
-    NotAnItem | 11 | not an item
-    Memory | 12 | no memory";
 
 fn tree_of(alloc: Global, text: &str) -> Result<Value, Fail> {
     match Value::from_str(alloc, text) {
@@ -173,53 +158,4 @@ fn long_trees_of_one_value(rt: HostRuntime) -> Result<(), Fail> {
     is_read_as_one_value::<OneState>(&rt, rt.alloc(), &tree)?;
     is_read_as_one_value::<ParityState>(&rt, rt.alloc(), &tree)?;
     is_read_as_one_value::<IdentityState>(&rt, rt.alloc(), &tree)
-}
-
-// Checks that each error has a row.
-fn are_as_many(rows: &[Row], errors: usize) -> Result<(), Fail> {
-    if rows.len() == errors {
-        return Ok(());
-    }
-    Err(Fail::new(format_args!("{} rows of {errors} errors", rows.len())))
-}
-
-// Checks that an error, its number and its text are those of the row.
-fn is_told<E: Debug + Display>(
-    alloc: Global,
-    error: &E,
-    number: u8,
-    row: &str,
-) -> Result<(), Fail> {
-    let got = format!(in alloc; "{error:?} | {number} | {error}")?;
-    is_text(got.as_str(), row)
-}
-
-#[test]
-fn json_errors_are_told(rt: HostRuntime) -> Result<(), Fail> {
-    let errors = [
-        JsonError::NotAnArray,
-        JsonError::NotAPair(0),
-        JsonError::BadCount(1),
-        JsonError::BadItem(2),
-        JsonError::TooMany(3),
-        JsonError::Memory,
-        JsonError::BadLimit,
-    ];
-    let rows = rows_of(rt.alloc(), JSON_ERRORS)?;
-    are_as_many(rows.as_slice(), errors.len())?;
-    for (row, error) in rows.into_iter().zip(errors) {
-        row.tested(is_told(rt.alloc(), &error, error.number(), row.text))?;
-    }
-    Ok(())
-}
-
-#[test]
-fn item_errors_are_told(rt: HostRuntime) -> Result<(), Fail> {
-    let errors = [ItemError::NotAnItem, ItemError::Memory];
-    let rows = rows_of(rt.alloc(), ITEM_ERRORS)?;
-    are_as_many(rows.as_slice(), errors.len())?;
-    for (row, error) in rows.into_iter().zip(errors) {
-        row.tested(is_told(rt.alloc(), &error, error.number(), row.text))?;
-    }
-    Ok(())
 }

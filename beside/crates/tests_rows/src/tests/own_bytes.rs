@@ -7,11 +7,11 @@ use tests_kit::OneState;
 #[test]
 fn sizes_of_bags_and_walks(_rt: HostRuntime) -> Result<(), Fail> {
     for (name, size, want) in [
-        ("HashBag<u64>", size_of::<HashBag<u64, FixedState>>(), 160),
+        ("HashBag<u64>", size_of::<HashBag<u64, FixedState>>(), 200),
         (
             "HashBag<u64, OneState>",
             size_of::<HashBag<u64, OneState>>(),
-            152,
+            192,
         ),
         ("Iter<u64>", size_of::<Iter<u64>>(), 128),
         ("SetIter<u64>", size_of::<SetIter<u64>>(), 96),

@@ -50,7 +50,7 @@ const TREES: &str = r#"
     String | [["Einar",1],["Olaf",2],["Harald",3]] | 6 3 [["Einar",1],["Harald",3],["Olaf",2]]
     Named | [[{"name":"Einar"},1],[{"name":"Olaf"},2],[{"name":"Harald"},3]] | 6 3 [[{"name":"Einar"},1],[{"name":"Harald"},3],[{"name":"Olaf"},2]]"#;
 
-// Such rows for trees with a limit, and for objects that are no such tree.
+// Such rows for trees with a limit, and for objects that are no such tree. Of a member that is there twice the last one counts.
 const LIMITED_TREES: &str = r#"
     String | {"limit":5,"pairs":[["b",3],["a",2]]} | 5 2 {"limit":5,"pairs":[["a",2],["b",3]]}
     String | {"pairs":[["b",3],["a",2]],"limit":6} | 5 2 {"limit":6,"pairs":[["a",2],["b",3]]}
@@ -76,6 +76,10 @@ const LIMITED_TREES: &str = r#"
     String | {"limit":0,"pairs":[["a",0]]} | 0 0 {"limit":0,"pairs":[]}
     String | {"limit":18446744073709551615,"pairs":[["a",1]]} | 1 1 [["a",1]]
     String | {"limit":18446744073709551614,"pairs":[["a",18446744073709551614],["b",0]]} | 18446744073709551614 1 {"limit":18446744073709551614,"pairs":[["a",18446744073709551614]]}
+    String | {"limit":4,"pairs":[["a",9]],"limit":5,"pairs":[["b",3],["a",2]]} | 5 2 {"limit":5,"pairs":[["a",2],["b",3]]}
+    String | {"limit":-1,"limit":1,"pairs":[]} | 0 0 {"limit":1,"pairs":[]}
+    String | {"limit":1,"pairs":[],"limit":-1} | BadLimit
+    String | {"limit":1,"pairs":[],"pairs":{}} | NotAnArray
     u64 | {"limit":3,"pairs":[[7,2],[6,1]]} | 3 2 {"limit":3,"pairs":[[6,1],[7,2]]}
     Named | {"limit":2,"pairs":[[{"name":"Olaf"},2]]} | 2 1 {"limit":2,"pairs":[[{"name":"Olaf"},2]]}"#;
 

@@ -1,4 +1,4 @@
-use Rattle.std.proofs.Common.{◌≡◌, arith}
+use Rattle.std.proofs.Common.{◌≡◌, length, ap, arith}
 use Rattle.std.proofs.lemmas.List.Sorted.{IsPermutation-trans}
 use Rattle.std.proofs.lemmas.Result.{on_ok_weaker}
 use Rattle.hashbag_core.specs.Occurrences.{count}
@@ -18,3 +18,10 @@ returns-then-before-eq0-clause-set g c =
       bag = into.added.bag;
     })
     c.insert_many.ensures.inserted
+
+pub returns-in-Err : goal.returns-in-Err
+returns-in-Err g c =
+    let often = c.contains-before.ensures.count in let some = c.if-before-eq0.false in
+    let long = ap (λ b. length b.items) c.self.view_is in let most = ap (λ b. b.most) c.self.view_is in let sum = c.self.invariant.sum in let fits = c.self.invariant.fits in
+    let is = c.in-Err.ensures.count.0 in let past = c.in-Err.ensures.count.1 (omega arith) in
+    absurd (omega arith)
