@@ -60,6 +60,9 @@ PAIRS = [(re.compile(what), by) for what, by in [
     (r"\bstd::alloc::", "crate::rattle::"),
     (r"\bstd::collections::BinaryHeap\b", "crate::rattle::BinaryHeap"),
     (r"\bstd::simd::prelude::\*", "crate::sixteen::u8x16"),
+    # The sources have proved that these tags are there (src/sixteen.rs), so they are read without a test.
+    (r"u8x16::from_slice\(&tags\[from\.\.\]\)", "u8x16::at(tags, from)"),
+    (r"\btags\[first\]", "crate::sixteen::tag_at(tags, first)"),
     (r"use std::hash::\{BuildHasher, BuildHasherDefault, FoldHasher, Hash\};",
      "use crate::rattle::FoldHasher; use std::hash::{BuildHasher, BuildHasherDefault, Hash};"),
 

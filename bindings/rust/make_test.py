@@ -10,7 +10,7 @@ import tempfile
 
 HERE = os.path.dirname(os.path.realpath(__file__))
 TOP = os.path.dirname(os.path.dirname(HERE))
-CARRY, SLOTS = "src/made/hashbag_slots/slots/carry.rs", "src/made/hashbag_slots/slots.rs"
+CARRY, SLOTS, RESIZE = (f"src/made/{it}.rs" for it in ("hashbag_slots/slots/carry", "hashbag_slots/slots", "hashbag_table/table/resize"))
 
 
 def edit(file, old, new):
@@ -48,16 +48,16 @@ MISTAKES = {
              "fn is_live_at(&self, place: usize) -> bool\n        requires { place < length self.now.slots }\n"),
         [OTHER, "carry: is left, and the prover's: requires"]),
     "a cure is made twice": (
-        edit(CARRY, "let hash = hash_of(state, older.live_at(at).0);\n", "let hash = hash_of(state, older.live_at(at).0);\n" * 2), [OTHER]),
+        edit(RESIZE, "        self.finish_carry();\n        let grown", "        self.finish_carry();\n" * 2 + "        let grown"), [OTHER]),
     "a module of nothing": (add("src/made/hashbag_slots/more.rs", "fn more() {}\n"), ["hashbag_slots/more.rs: is made of nothing"]),
     "a cure of what isn't there": (
-        edit("cures.diff", "-            self.place(state, value, n);", "-            self.places(state, value, n);"),
-        ["carry can't be applied: its lines don't"]),
+        edit("cures.diff", " let grown = grown_slots(", " let grown = grow_slots("),
+        ["resize can't be applied: its lines don't"]),
     "a cure that is the source's by now": (
         edit("cures.diff", "+    tags: Owner,\n     cells: Cells<(T, usize)>,\n", "+    live: usize,\n     removed: usize,\n"),
         ["slots can't be applied: .*; what it puts there does"]),
     "a cure of no module": (
-        edit("cures.diff", "--- hashbag_slots/slots/carry", "--- hashbag_slots/carry"), ["a cure of hashbag_slots/carry, which isn't made"]),
+        edit("cures.diff", "--- hashbag_slots/slots/blank", "--- hashbag_slots/blank"), ["a cure of hashbag_slots/blank, which isn't made"]),
     "a file by hand without a place": (add("src/by_hand/hashbag_slots/no/more.rs", ""), ["by_hand/hashbag_slots/no/more.rs has no module above it"]),
 }
 

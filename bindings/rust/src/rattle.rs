@@ -57,6 +57,10 @@ impl<T> Vec<T> {
         Ok(())
     }
 
+    pub fn truncate(&mut self, n: usize) {
+        self.0.truncate(n);
+    }
+
     #[inline(always)]
     pub fn as_slice(&self) -> &[T] {
         &self.0

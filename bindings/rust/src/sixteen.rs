@@ -3,7 +3,25 @@
 //!
 //! # Why this is sound
 //!
-//! Only `by_sse2::u8x16::from_slice` reads memory: the sixteen bytes of an array to which it has a reference. All other calls are of registers.
+//! Only `by_sse2::u8x16::at` and `tag_at` read memory: the sixteen tags from a place on, and one tag. They don't test that these are there. The
+//! sources slice and index the tags, and have proved that they may. Here is why they may for all types. All other calls are of registers.
+//!
+//! - After the tags of a table's slots come sixteen more, the guards. So each place of a slot will do.
+//! - The place where a probe begins is a hash modulo the number of slots, whatever the hash is. Its later places are below that number, too.
+//! - `Table::quick`, which is that number less 1, belongs to the newer table, also after a panic: `Table::adopt` sets it before it hashes.
+//!   `Table::carried_to` is below the number of the older table's slots, as long as that has slots.
+//! - What has no guards is read by multiples of sixteen within its length: walks, copies, `next_live` and drops.
+
+/// The tag at a place.
+#[inline(always)]
+#[allow(unsafe_code)]
+pub(crate) fn tag_at(tags: &[u8], at: usize) -> u8 {
+    #[cfg(feature = "check")]
+    assert!(at < tags.len(), "READ PAST THE TAGS");
+    debug_assert!(at < tags.len());
+    // SAFETY: the tag is there, as said above.
+    unsafe { *tags.get_unchecked(at) }
+}
 
 /// Which of sixteen tags pass a test: bit i is set if tag i does.
 #[derive(Clone, Copy)]
@@ -27,13 +45,16 @@ pub(crate) mod by_sse2 {
     #[allow(non_camel_case_types)]
     pub(crate) struct u8x16(__m128i);
 
-    // SAFETY of all: SSE2 is there, and only `from_slice` reads memory.
+    // SAFETY of all: SSE2 is there, and only `at` reads memory.
     impl u8x16 {
+        /// The tags from a place on. There must be sixteen.
         #[inline(always)]
-        pub(crate) fn from_slice(bytes: &[u8]) -> u8x16 {
-            let bytes: &[u8; 16] = bytes.first_chunk().expect("sixteen tags");
-            // SAFETY: it reads the sixteen bytes of the array.
-            u8x16(unsafe { _mm_loadu_si128(bytes.as_ptr().cast()) })
+        pub(crate) fn at(tags: &[u8], from: usize) -> u8x16 {
+            #[cfg(feature = "check")]
+            assert!(from + 16 <= tags.len(), "READ PAST THE TAGS");
+            debug_assert!(from + 16 <= tags.len());
+            // SAFETY: sixteen tags follow, as said above.
+            u8x16(unsafe { _mm_loadu_si128(tags.as_ptr().add(from).cast()) })
         }
 
         #[inline(always)]
@@ -85,9 +106,10 @@ pub(crate) mod in_words {
     }
 
     impl u8x16 {
+        /// The tags from a place on. There must be sixteen.
         #[inline(always)]
-        pub(crate) fn from_slice(bytes: &[u8]) -> u8x16 {
-            let (low, high) = (bytes.first_chunk().expect("sixteen tags"), bytes[8..].first_chunk().expect("sixteen tags"));
+        pub(crate) fn at(tags: &[u8], from: usize) -> u8x16 {
+            let ([low, high], _) = tags[from..from + 16].as_chunks() else { unreachable!("two words") };
             u8x16([u64::from_le_bytes(*low), u64::from_le_bytes(*high)])
         }
 

@@ -1,4 +1,5 @@
-//! Both forms of sixteen tags give the bits that a loop over the bytes gives: the one by SSE2, where it is, and the one in two words.
+//! Both forms of sixteen tags give the bits that a loop over the bytes gives: the one by SSE2, where it is, and the one in two words. They are read
+//! from the place 3 of a longer slice.
 #[allow(dead_code, unused_imports)]
 #[path = "../../../rust/src/sixteen.rs"]
 mod sixteen;
@@ -7,7 +8,9 @@ mod sixteen;
 macro_rules! gives {
     ($form:ident, $bytes:expr, $tag:expr, $expected:expr) => {{
         use sixteen::$form::u8x16;
-        let (a, b) = (u8x16::from_slice(&$bytes), u8x16::splat($tag));
+        let mut tags = [$tag; 24];
+        tags[3..19].copy_from_slice(&$bytes);
+        let (a, b) = (u8x16::at(&tags, 3), u8x16::splat($tag));
         let found = [a.simd_eq(b).to_bitmask(), a.simd_ge(b).to_bitmask(), a.simd_lt(b).to_bitmask()];
         assert_eq!(found, $expected, "{:?} {}", $bytes, $tag);
     }};

@@ -87,11 +87,35 @@ impl<T> Cells<T> {
         unsafe { self.room.as_ptr().add(place).read() }
     }
 
+    /// Asks the processor for the memory of `many` cells. Nothing is read. Of larger cells there would be too many lines.
+    #[inline(always)]
+    pub fn prefetch(&self, place: usize, many: usize) {
+        if size_of::<T>() <= 32 {
+            let cells = self.room.as_ptr().cast::<u8>().wrapping_add(place * size_of::<T>());
+            (0..many * size_of::<T>()).step_by(LINE).for_each(|at| prefetch(cells.wrapping_add(at)));
+        }
+    }
+
     /// Leaks all values that are left, after a drop that panicked among theirs.
     pub fn leak(&mut self) {
         #[cfg(feature = "check")]
         self.filled.fill(false);
     }
+}
+
+/// How many bytes the processor's cache reads at once.
+const LINE: usize = 64;
+
+/// Asks the processor for the memory at an address, which may be any.
+#[inline(always)]
+pub fn prefetch(at: *const u8) {
+    #[cfg(all(target_arch = "x86_64", not(miri)))]
+    // SAFETY: nothing is read.
+    unsafe {
+        std::arch::x86_64::_mm_prefetch::<{ std::arch::x86_64::_MM_HINT_T0 }>(at.cast());
+    }
+    #[cfg(not(all(target_arch = "x86_64", not(miri))))]
+    let _ = at;
 }
 
 /// Returns `n` tags of Empty slots. They come zeroed from the allocator, so a growth writes none of them.

@@ -60,21 +60,36 @@ fn block_after(begun: usize, newer: usize, older: usize) -> Option<Block> {
     Some(Block { is_older, from, to: slots.min(from + (1 << bits)) })
 }
 
+/// How many slots a mask has a bit for.
+pub(crate) const MASK_WIDTH: usize = 64;
+
+/// Returns a mask of at most 64 tags, a multiple of 16 of them: bit i is set if the slot is Live.
+///
+/// The end of a loop over the bits of a mask is a branch that the processor seldom predicts. So a loop over 64 is faster than one over 16.
+#[inline(always)]
+pub(crate) fn match_live_wide(tags: &[u8]) -> u64 {
+    let at = |from: usize| match_live(tags, from) << from;
+    if tags.len() == MASK_WIDTH {
+        return at(0) | at(16) | at(32) | at(48);
+    }
+    (0..tags.len()).step_by(GROUP_WIDTH).fold(0, |mask, from| mask | at(from))
+}
+
 /// How far a walk over references is.
 #[derive(Clone)]
 pub(crate) struct Course<'a> {
-    /// The first place of the sixteen slots that are being read, and a bit for each of them that is Live and comes.
+    /// The first place of the slots that are being read, at most 64, and a bit for each of them that is Live and comes.
     at: usize,
     ahead: u64,
     /// The tags of the block that come.
-    groups: slice::Iter<'a, [u8; GROUP_WIDTH]>,
+    groups: slice::Chunks<'a, u8>,
     /// How many blocks were begun.
     begun: usize,
 }
 
 impl Course<'_> {
     pub(crate) fn first() -> Self {
-        Course { at: 0, ahead: 0, groups: [].iter(), begun: 0 }
+        Course { at: 0, ahead: 0, groups: [].chunks(MASK_WIDTH), begun: 0 }
     }
 }
 
@@ -97,7 +112,7 @@ impl<T> TryClone for Walk<'_, T> {
 }
 
 impl<'a, T> Walk<'a, T> {
-    /// Goes on to the next sixteen slots of which one is Live; returns whether there are some.
+    /// Goes on to the next slots of which one is Live; returns whether there are some.
     #[inline(always)]
     fn advance(&mut self) -> bool {
         if self.left == 0 {
@@ -105,8 +120,8 @@ impl<'a, T> Walk<'a, T> {
         }
         loop {
             for tags in self.course.groups.by_ref() {
-                self.course.at = self.course.at.wrapping_add(GROUP_WIDTH);
-                self.course.ahead = match_live(tags, 0);
+                self.course.at = self.course.at.wrapping_add(MASK_WIDTH);
+                self.course.ahead = match_live_wide(tags);
                 if self.course.ahead != 0 {
                     return true;
                 }
@@ -122,8 +137,8 @@ impl<'a, T> Walk<'a, T> {
         let Some(block) = block_after(self.course.begun, self.newer_tags.len(), self.older_tags.len()) else { return false };
         let tags = if block.is_older { self.older_tags } else { self.newer_tags };
         self.cells = if block.is_older { self.older } else { self.newer };
-        self.course.groups = tags[block.from..block.to].as_chunks().0.iter();
-        self.course.at = block.from.wrapping_sub(GROUP_WIDTH);
+        self.course.groups = tags[block.from..block.to].chunks(MASK_WIDTH);
+        self.course.at = block.from.wrapping_sub(MASK_WIDTH);
         self.course.begun += 1;
         true
     }

@@ -60,6 +60,26 @@ impl From<AllocError> for BagError {
     }
 }
 
+// Stores a value itself with the count 1, and returns the count before, 0 if the value was absent. If the total is at its limit, an absent value isn't
+// inserted. One look-up decides both.
+fn put_within<T: Eq + Hash, S: BuildHasher>(
+    table: &mut Table<T, S>,
+    value: T,
+    at_limit: bool,
+) -> Result<usize, BagError>
+{
+    if at_limit {
+        match table.put_present(value) {
+            Some(before) => return Ok(before),
+            None => return Err(BagError::TooMany),
+        }
+    }
+    match table.put_instance(value) {
+        Ok(before) => return Ok(before),
+        Err(_) => return Err(BagError::Memory),
+    }
+}
+
 // The state that hashes the values of a bag if no other is given. Its keys are fixed, so a bag hashes alike in every run of a
 // program.
 //
@@ -329,8 +349,7 @@ impl<T: Eq + Hash, S: BuildHasher> HashBag<T, S> {
     //
     // # Complexity
     //
-    // It hashes the value once, and twice if the value is present and the total is at the limit. It allocates only if the value is absent
-    // and there is no room. If the value is absent, up to 16 slots of an older table are carried, and each value in them is hashed once.
+    // It hashes the value once. It allocates only if the value is absent and there is no room. If the value is absent, up to 16 slots of an older table are carried, and each value in them is hashed once.
     //
     // # Examples
     //
@@ -343,12 +362,14 @@ impl<T: Eq + Hash, S: BuildHasher> HashBag<T, S> {
     // ```
     pub fn replace(&mut self, value: T) -> Result<usize, BagError>
     {
-        if self.len == self.most {
-            return self.replace_present(value);
+        let at_limit = self.len == self.most;
+        match put_within(&mut self.table, value, at_limit) {
+            Ok(before) => {
+                self.len = self.len - before + 1;
+                return Ok(before);
+            }
+            Err(error) => return Err(error),
         }
-        let before = self.table.put_instance(value)?;
-        self.len = self.len - before + 1;
-        Ok(before)
     }
 
     // Inserts `n` occurrences of a value, if the total stays within the limit.

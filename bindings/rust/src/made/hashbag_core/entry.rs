@@ -93,8 +93,10 @@ impl<'a, T: Eq + Hash, S: BuildHasher> Entry<'a, T, S> {
         if n > bag.limit() - (bag.len() - before) {
             return Err(BagError::TooMany);
         }
-        bag.recount(&value, before, n);
-        Ok(Entry { bag, value })
+        match bag.recount(&value, n) {
+            Ok(_) => return Ok(Entry { bag, value }),
+            Err(_) => return Err(BagError::TooMany),
+        }
     }
 
     // Inserts the given value once if the entry is vacant, and returns the count after: [`Entry::or_insert_many`] with 1.

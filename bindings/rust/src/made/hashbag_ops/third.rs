@@ -6,7 +6,7 @@ use crate::made::hashbag_ops::combine::{keep_common, keep_most, merge_ref};
 use crate::made::hashbag_core::{BagError, HashBag};
 use std::hash::{BuildHasher, Hash};
 
-// Returns the sum of two bags: each count is the sum of both. It has the limit of the first.
+// Returns the sum of two bags: each count is the sum of both. It has the limit of the first, and a clone of its hash state.
 //
 // The caller ensures that clones of the values equal them.
 //
@@ -44,13 +44,13 @@ pub fn sum<
     Ok(bag)
 }
 
-// Returns the union of two bags: each count is the greater of both. It has the limit of the first.
+// Returns the union of two bags: each count is the greater of both. It has the limit of the first, and a clone of its hash state.
 //
 // The caller ensures that clones of the values equal them.
 //
 // # Errors
 //
-// - `TooMany` if the total would pass the limit of `a`.
+// - `TooMany` only if the total of the greater counts would pass the limit of `a`.
 // - `Memory` if an allocation fails, or the clone of a value or of a state.
 //
 // # Complexity
@@ -79,7 +79,7 @@ pub fn union<
     Ok(bag)
 }
 
-// Returns what two bags have in common: each count is the lesser of both. It has the limit of the first.
+// Returns what two bags have in common: each count is the lesser of both. It has the limit of the first, and a clone of its hash state.
 //
 // The caller ensures that clones of the values equal them.
 //

@@ -23,7 +23,7 @@ fn first_set(bits: u64) -> usize
 #[inline(always)]
 pub fn first_equal(tags: &[u8], from: usize, tag: u8) -> usize
 {
-    let equal = u8x16::from_slice(&tags[from..]).simd_eq(u8x16::splat(tag));
+    let equal = u8x16::at(tags, from).simd_eq(u8x16::splat(tag));
     first_set(equal.to_bitmask())
 }
 
@@ -31,7 +31,7 @@ pub fn first_equal(tags: &[u8], from: usize, tag: u8) -> usize
 #[inline(always)]
 pub fn first_live(tags: &[u8], from: usize) -> usize
 {
-    let live = u8x16::from_slice(&tags[from..]).simd_ge(u8x16::splat(LEAST_LIVE));
+    let live = u8x16::at(tags, from).simd_ge(u8x16::splat(LEAST_LIVE));
     first_set(live.to_bitmask())
 }
 
@@ -39,7 +39,7 @@ pub fn first_live(tags: &[u8], from: usize) -> usize
 #[inline(always)]
 pub fn first_not_live(tags: &[u8], from: usize) -> usize
 {
-    let free = u8x16::from_slice(&tags[from..]).simd_lt(u8x16::splat(LEAST_LIVE));
+    let free = u8x16::at(tags, from).simd_lt(u8x16::splat(LEAST_LIVE));
     first_set(free.to_bitmask())
 }
 
@@ -47,7 +47,7 @@ pub fn first_not_live(tags: &[u8], from: usize) -> usize
 #[inline(always)]
 pub fn match_tag(tags: &[u8], from: usize, tag: u8) -> u64
 {
-    let equal = u8x16::from_slice(&tags[from..]).simd_eq(u8x16::splat(tag));
+    let equal = u8x16::at(tags, from).simd_eq(u8x16::splat(tag));
     equal.to_bitmask()
 }
 
@@ -55,7 +55,7 @@ pub fn match_tag(tags: &[u8], from: usize, tag: u8) -> u64
 #[inline(always)]
 pub fn match_live(tags: &[u8], from: usize) -> u64
 {
-    let live = u8x16::from_slice(&tags[from..]).simd_ge(u8x16::splat(LEAST_LIVE));
+    let live = u8x16::at(tags, from).simd_ge(u8x16::splat(LEAST_LIVE));
     live.to_bitmask()
 }
 

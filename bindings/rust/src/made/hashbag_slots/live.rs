@@ -63,6 +63,32 @@ impl Course {
     }
 }
 
+// The tags of the table whose turn it is.
+#[inline(always)]
+fn tags_of_turn<'a>(turn: usize, newer: &'a [u8], older: &'a [u8]) -> &'a [u8]
+{
+    if turn % 2 == 1 { newer } else { older }
+}
+
+// Returns the next group of the block of `from`, from the place `from` on, that has a Live slot, as `next_live_group` does. It divides nothing.
+#[inline(always)]
+fn next_in_block(tags: &[u8], from: usize) -> Option<(usize, u64)>
+{
+    let slots = tags.len();
+    let mut at = from;
+    'groups: while at + GROUP_WIDTH <= slots {
+        let ahead = match_live(tags, at);
+        if ahead != 0 {
+            return Some((at, ahead));
+        }
+        at += GROUP_WIDTH;
+        if at % BLOCK_SLOTS == 0 {
+            return None;
+        }
+    }
+    None
+}
+
 // Returns the next group of a pass, from the place `from` on, that has a Live slot: the first place of the group, and a bit for each of its 16 slots.
 // Only groups of the pass are read.
 #[inline(always)]
@@ -94,14 +120,14 @@ fn next_live_group(tags: &[u8], pass: usize, from: usize) -> Option<(usize, u64)
 }
 
 // Returns the first Live slot at or after `from` in this turn, or in a later turn, and the course after it. `next_on_course` calls it if its
-// course has no bit left.
+// block has no Live slot left.
 #[inline(always)]
 fn next_in_turns(newer: &[u8], older: &[u8], turn: usize, from: usize) -> Option<(usize, Course)>
 {
     let mut turn = turn;
     let mut from = from;
     'turns: loop {
-        let tags = if turn % 2 == 1 { newer } else { older };
+        let tags = tags_of_turn(turn, newer, older);
         if let Some((at, ahead)) = next_live_group(tags, turn / 2, from) {
             let (place, rest) = take_lowest(ahead, at);
             let course = Course {
@@ -141,6 +167,20 @@ pub fn next_on_course(newer: &[u8], older: &[u8], course: Course) -> Option<(usi
         };
         return Some((place, course));
     }
+    if until % BLOCK_SLOTS != 0 {
+        // The block goes on, and all of it is of the course's pass.
+        let tags = tags_of_turn(turn, newer, older);
+        if let Some((at, ahead)) = next_in_block(tags, until) {
+            let (place, rest) = take_lowest(ahead, at);
+            let course = Course {
+                turn,
+                next: place + 1,
+                ahead: rest,
+                until: at + GROUP_WIDTH,
+            };
+            return Some((place, course));
+        }
+    }
     next_in_turns(newer, older, turn, until)
 }
 
@@ -149,10 +189,16 @@ pub fn next_on_course(newer: &[u8], older: &[u8], course: Course) -> Option<(usi
 fn drop_group<T>(tags: &[u8], cells: &mut Cells<(T, usize)>, from: usize)
 {
     let mut ahead = match_live(tags, from);
-    'live: while ahead != 0 {
+    // At most 16 steps: then a compiler sees that the loop ends, and leaves it out if a drop does nothing.
+    let mut steps = 0;
+    'live: while steps < GROUP_WIDTH {
+        if ahead == 0 {
+            return;
+        }
         let (place, rest) = take_lowest(ahead, from);
         drop(cells.take(place));
         ahead = rest;
+        steps += 1;
     }
 }
 
@@ -162,10 +208,11 @@ fn drop_group<T>(tags: &[u8], cells: &mut Cells<(T, usize)>, from: usize)
 pub fn drop_live<T>(tags: &[u8], cells: &mut Cells<(T, usize)>)
 {
     let slots = tags.len();
-    let mut from = 0;
-    'groups: while from < slots {
-        drop_group(tags, cells, from);
-        from += GROUP_WIDTH;
+    let groups = slots / GROUP_WIDTH;
+    let mut group = 0;
+    'groups: while group < groups {
+        drop_group(tags, cells, group * GROUP_WIDTH);
+        group += 1;
     }
 }
 

@@ -21,17 +21,17 @@ use crate::made::hashbag_slots::tags::{EMPTY, LEAST_LIVE, fingerprint_of};
 use std::hash::{BuildHasher, Hash};
 
 // In a table with more slots than this, a look-up reads the home slot of the value first: the cells are seldom in the processor's cache.
-const MOST_CACHED: usize = 1 << 16;
+pub const MOST_CACHED: usize = 1 << 18;
 
-// What the first 16 slots of a path show of a value.
+// What a probe along the path of a value shows of it.
 #[derive(Clone, Copy, PartialEq, Eq, Debug)]
-pub enum FirstGroup {
+pub enum Probed {
     // The value is in the slot at this place.
     Found(usize),
     // The value is in no slot of the table. This is the first place on its path whose slot is not Live: an insertion puts the value there.
     Absent(usize),
-    // The 16 slots don't decide: the value may be further along its path.
-    Open,
+    // The value is in no slot of the table, and no slot is free: all are Live, or there are none.
+    Full,
 }
 
 // Returns the place of the slot that a probe for a hash reads after `step` steps, among `slots` slots. The path begins at the hash modulo `slots`,
@@ -50,44 +50,32 @@ fn is_named<T: Eq + Hash, Q: Key<T>>(cells: &Cells<(T, usize)>, place: usize, ke
     key.names(&entry.0)
 }
 
-// Probes for a value until it finds the value or an Empty slot, or has read all slots. It reads 16 tags at once if there are as many before
-// the end of the table.
-#[inline(never)]
-fn find_probing<T: Eq + Hash, S: BuildHasher, Q: Key<T>>(
+// Probes on for a value after the first 16 slots of its path, of which none is Empty and none has the value. It reads 16 tags at once: past the last
+// slot they are those of no slot.
+#[inline(always)]
+fn find_on<T: Eq + Hash, Q: Key<T>>(
     tags: &[u8],
+    slots: usize,
     cells: &Cells<(T, usize)>,
-    state: &S,
     hash: u64,
     key: Q,
 ) -> Option<usize>
 {
-    let slots = tags.len();
     let fingerprint = fingerprint_of(hash);
-    let mut step = 0;
-    'steps: while step < slots {
-        let place = path_slot(hash, step, slots);
-        if place + GROUP_WIDTH <= slots {
-            let lane = first_equal(tags, place, fingerprint);
-            if lane < GROUP_WIDTH {
-                if is_named(cells, place + lane, key) {
-                    return Some(place + lane);
-                }
-                step += lane + 1;
-            } else if first_equal(tags, place, EMPTY) < GROUP_WIDTH {
-                return None;
-            } else {
-                step += GROUP_WIDTH;
-            }
-        } else {
-            let tag = tags[place];
-            if tag == fingerprint {
-                if is_named(cells, place, key) {
-                    return Some(place);
-                }
-            } else if tag == EMPTY {
-                return None;
-            }
-            step += 1;
+    let mut at = path_slot(hash, 0, slots);
+    let mut left = slots;
+    'sixteens: while left >= GROUP_WIDTH {
+        left -= GROUP_WIDTH;
+        at += GROUP_WIDTH;
+        if at >= slots {
+            at = 0;
+        }
+        let tagged = match_tag(tags, at, fingerprint);
+        if let Some(place) = find_tagged(tags, slots, cells, at, tagged, fingerprint, key) {
+            return Some(place);
+        }
+        if first_equal(tags, at, EMPTY) < GROUP_WIDTH {
+            return None;
         }
     }
     None
@@ -98,6 +86,7 @@ fn find_probing<T: Eq + Hash, S: BuildHasher, Q: Key<T>>(
 #[inline(always)]
 fn find_tagged<T: Eq + Hash, Q: Key<T>>(
     tags: &[u8],
+    slots: usize,
     cells: &Cells<(T, usize)>,
     from: usize,
     bits: u64,
@@ -118,71 +107,97 @@ fn find_tagged<T: Eq + Hash, Q: Key<T>>(
     None
 }
 
-// Returns whether it found an Empty slot between the first slot of a hash's path and a later place. A probe ends at an Empty slot.
-//
-// It reads sixteen tags at once, from the place backwards, and may miss an Empty slot that is less than sixteen after the first slot.
+// Returns what a probe along a key's path shows. Mostly the first 16 slots decide: one of them has the value, or one is Empty.
 #[inline(always)]
-pub fn is_empty_before(tags: &[u8], hash: u64, place: usize) -> bool
-{
-    let slots = tags.len();
-    if slots == 0 {
-        return false;
-    }
-    let first = path_slot(hash, 0, slots);
-    let mut at = place;
-    'sixteens: while at >= first + GROUP_WIDTH {
-        at -= GROUP_WIDTH;
-        if first_equal(tags, at, EMPTY) < GROUP_WIDTH {
-            return true;
-        }
-    }
-    false
-}
-
-// Returns what the first 16 slots of a key's path show. It also returns `Open` if the table has no slots, or ends before the sixteenth.
-#[inline(always)]
-pub fn probe_first_group<T: Eq + Hash, S: BuildHasher, Q: Key<T>>(
+pub fn probe_path<T: Eq + Hash, S: BuildHasher, Q: Key<T>>(
     tags: &[u8],
+    slots: usize,
     cells: &Cells<(T, usize)>,
     state: &S,
     hash: u64,
     key: Q,
-) -> FirstGroup
+) -> Probed
 {
-    let slots = tags.len();
     if slots == 0 {
-        return FirstGroup::Open;
+        return Probed::Full;
     }
     let first = path_slot(hash, 0, slots);
-    if first + GROUP_WIDTH > slots {
-        return FirstGroup::Open;
-    }
     let fingerprint = fingerprint_of(hash);
     let tagged = match_tag(tags, first, fingerprint);
-    if let Some(place) = find_tagged(tags, cells, first, tagged, fingerprint, key) {
-        return FirstGroup::Found(place);
+    if let Some(place) = find_tagged(tags, slots, cells, first, tagged, fingerprint, key) {
+        return Probed::Found(place);
     }
     if first_equal(tags, first, EMPTY) < GROUP_WIDTH {
-        return FirstGroup::Absent(first + first_not_live(tags, first));
+        return Probed::Absent(first + first_not_live(tags, first));
     }
-    FirstGroup::Open
+    probe_on(tags, slots, cells, hash, key)
+}
+
+// Returns the first place among the 16 from `at` on whose slot isn't Live, or `slots` if there is none in the table.
+#[inline(always)]
+fn free_among(tags: &[u8], slots: usize, at: usize) -> usize
+{
+    let free = at + first_not_live(tags, at);
+    if free < at + GROUP_WIDTH && free < slots {
+        return free;
+    }
+    slots
+}
+
+// Probes on after the first 16 slots of a path, of which none is Empty and none has the value. It also finds the first slot of the whole path that isn't
+// Live.
+#[inline(never)]
+fn probe_on<T: Eq + Hash, Q: Key<T>>(
+    tags: &[u8],
+    slots: usize,
+    cells: &Cells<(T, usize)>,
+    hash: u64,
+    key: Q,
+) -> Probed
+{
+    let fingerprint = fingerprint_of(hash);
+    let mut at = path_slot(hash, 0, slots);
+    let mut free = free_among(tags, slots, at);
+    let mut left = slots;
+    'sixteens: while left >= GROUP_WIDTH {
+        left -= GROUP_WIDTH;
+        at += GROUP_WIDTH;
+        if at >= slots {
+            at = 0;
+        }
+        let tagged = match_tag(tags, at, fingerprint);
+        if let Some(place) = find_tagged(tags, slots, cells, at, tagged, fingerprint, key) {
+            return Probed::Found(place);
+        }
+        if free == slots {
+            free = free_among(tags, slots, at);
+        }
+        let stop = first_equal(tags, at, EMPTY);
+        if stop < GROUP_WIDTH {
+            return Probed::Absent(free);
+        }
+    }
+    if free == slots {
+        return Probed::Full;
+    }
+    Probed::Absent(free)
 }
 
 // Returns the first place on the path of a hash, if its slot has the value that the key names. `None` doesn't mean that the value is absent.
 #[inline(always)]
 fn find_at_home<T: Eq + Hash, Q: Key<T>>(
     tags: &[u8],
+    slots: usize,
     cells: &Cells<(T, usize)>,
     hash: u64,
     key: Q,
 ) -> Option<usize>
 {
-    let slots = tags.len();
     if slots == 0 {
         return None;
     }
     let first = path_slot(hash, 0, slots);
-    if tags[first] == fingerprint_of(hash) && is_named(cells, first, key) {
+    if crate::sixteen::tag_at(tags, first) == fingerprint_of(hash) && is_named(cells, first, key) {
         return Some(first);
     }
     None
@@ -197,36 +212,69 @@ fn find_at_home<T: Eq + Hash, Q: Key<T>>(
 // Of the first 16 slots only the slots before the first Empty one are read. The value can't be after the Empty slot, so a cell there with the same
 // fingerprint would be read for nothing.
 #[inline(always)]
-pub fn find_place<T: Eq + Hash, S: BuildHasher, Q: Key<T>>(
+pub fn find_place<T: Eq + Hash, Q: Key<T>>(
     tags: &[u8],
+    slots: usize,
     cells: &Cells<(T, usize)>,
-    state: &S,
     hash: u64,
     key: Q,
 ) -> Option<usize>
 {
-    let slots = tags.len();
-    if slots > MOST_CACHED
-        && let Some(place) = find_at_home(tags, cells, hash, key)
-    {
-        return Some(place);
+    let mask = slots.wrapping_sub(1);
+    if mask < MOST_CACHED {
+        return find_small(tags, mask, cells, hash, key);
     }
+    find_large(tags, slots, cells, hash, key)
+}
+
+// Returns the same, as it is best in a large table.
+#[inline(always)]
+pub fn find_large<T: Eq + Hash, Q: Key<T>>(
+    tags: &[u8],
+    slots: usize,
+    cells: &Cells<(T, usize)>,
+    hash: u64,
+    key: Q,
+) -> Option<usize>
+{
     if slots == 0 {
         return None;
     }
-    let first = path_slot(hash, 0, slots);
-    if first + GROUP_WIDTH > slots {
-        return find_probing(tags, cells, state, hash, key);
+    if let Some(place) = find_at_home(tags, slots, cells, hash, key) {
+        return Some(place);
     }
+    let first = path_slot(hash, 0, slots);
     let fingerprint = fingerprint_of(hash);
     let (tagged, ends) = match_tag_before_empty(tags, first, fingerprint);
-    if let Some(place) = find_tagged(tags, cells, first, tagged, fingerprint, key) {
+    if let Some(place) = find_tagged(tags, slots, cells, first, tagged, fingerprint, key) {
         return Some(place);
     }
     if ends {
         return None;
     }
-    find_probing(tags, cells, state, hash, key)
+    find_on(tags, slots, cells, hash, key)
+}
+
+// Returns the same in a table of `mask + 1` slots.
+#[inline(always)]
+pub fn find_small<T: Eq + Hash, Q: Key<T>>(
+    tags: &[u8],
+    mask: usize,
+    cells: &Cells<(T, usize)>,
+    hash: u64,
+    key: Q,
+) -> Option<usize>
+{
+    let first = hash as usize & mask;
+    let fingerprint = fingerprint_of(hash);
+    let tagged = match_tag(tags, first, fingerprint);
+    if let Some(place) = find_tagged(tags, mask + 1, cells, first, tagged, fingerprint, key) {
+        return Some(place);
+    }
+    if match_tag(tags, first, EMPTY) != 0 {
+        return None;
+    }
+    find_on(tags, mask + 1, cells, hash, key)
 }
 
 // Returns the first place on the path of a hash whose slot is not Live.

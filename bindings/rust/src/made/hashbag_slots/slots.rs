@@ -14,18 +14,20 @@ use crate::rattle::prelude::*;
 //
 // Contracts here also say in which slot a value is. Contracts of public calls in the crates above don't.
 
+#[path = "../../by_hand/hashbag_slots/slots/carried.rs"]
+mod carried;
 #[path = "../../by_hand/hashbag_slots/slots/copy.rs"]
 mod copy;
 #[path = "../../by_hand/hashbag_slots/slots/drops.rs"]
 mod drops;
 pub mod blank;
 mod carry;
-mod find;
+pub mod find;
 
 use crate::made::hashbag_slots::cells::{Cells, Owner};
 use crate::made::hashbag_slots::live::{drop_if_live, next_live};
 use self::drops::MadeEmpty;
-pub use crate::made::hashbag_slots::probe::FirstGroup;
+pub use crate::made::hashbag_slots::probe::Probed;
 use crate::made::hashbag_slots::probe::first_free;
 use crate::made::hashbag_slots::tags::{LEAST_LIVE, REMOVED, empty_tags, fingerprint_of, make_all_empty};
 use crate::made::hashbag_slots::walk::{Course, IntoWalk, OwnedCourse, Walk};
@@ -56,8 +58,10 @@ pub fn hash_of<Q: Hash + Copy, S: BuildHasher>(state: &S, key: Q) -> u64
 // Contracts see its slots in the order of their places, and their tags. `IsReached`, which says that values are found under a hash, depends on the
 // tags. Each call requires and ensures `IsReached`. A table that is dropped drops each of its values once.
 pub struct Slots<T> {
+    // The tags of the slots, and the guards.
     tags: Owner,
     cells: Cells<(T, usize)>,
+    slots: usize,
     live: usize,
     removed: usize,
 }
@@ -79,6 +83,7 @@ impl<T> Slots<T> {
         Ok(Slots {
             tags: Owner::over(tags, &mut cells),
             cells,
+            slots: n,
             live: 0,
             removed: 0,
         })
@@ -88,7 +93,7 @@ impl<T> Slots<T> {
     #[inline]
     pub fn slots(&self) -> usize
     {
-        self.tags.len()
+        self.slots
     }
 
     // Returns the number of Live slots, and so of values.
@@ -126,7 +131,7 @@ impl<T> Slots<T> {
     #[inline(always)]
     pub fn next_live(&self, from: usize) -> Option<usize>
     {
-        next_live(self.tags.as_slice(), from)
+        next_live(&self.tags.as_slice()[..self.slots], from)
     }
 
     // Sets the count of the value at a place to `n`. The slot must be Live.
@@ -179,13 +184,17 @@ impl<T> Slots<T> {
     pub fn clear(&mut self)
     {
         let all = MadeEmpty(self);
-        drop_if_live(all.0.tags.as_slice(), &mut all.0.cells, all.0.live);
+        drop_if_live(
+            &all.0.tags.as_slice()[..all.0.slots],
+            &mut all.0.cells,
+            all.0.live,
+        );
     }
 
     // Makes each slot Empty, after its value was dropped.
     fn make_empty(&mut self)
     {
-        make_all_empty(self.tags.as_mut_slice());
+        make_all_empty(self.tags.as_mut_slice(), self.slots);
         self.live = 0;
         self.removed = 0;
     }
@@ -194,9 +203,9 @@ impl<T> Slots<T> {
     pub fn walk<'a>(&'a self, older: &'a Slots<T>) -> Walk<'a, T>
     {
         Walk {
-            newer_tags: self.tags.as_slice(),
+            newer_tags: &self.tags.as_slice()[..self.slots],
             newer: &self.cells,
-            older_tags: older.tags.as_slice(),
+            older_tags: &older.tags.as_slice()[..older.slots],
             older: &older.cells,
             cells: &self.cells,
             course: Course::first(),
@@ -209,17 +218,21 @@ impl<T> Slots<T> {
     pub fn into_walk(self, older: Slots<T>) -> IntoWalk<T>
     {
         let Slots {
-            tags: newer_tags,
+            tags: mut newer_tags,
             cells: newer,
+            slots: newer_slots,
             live: newer_live,
             removed: _,
         } = self;
         let Slots {
-            tags: older_tags,
+            tags: mut older_tags,
             cells: older,
+            slots: older_slots,
             live: older_live,
             removed: _,
         } = older;
+        newer_tags.truncate(newer_slots);
+        older_tags.truncate(older_slots);
         IntoWalk {
             newer_tags,
             newer,
@@ -249,7 +262,15 @@ impl<T: Hash> Slots<T> {
     #[inline(always)]
     pub fn first_free(&self, hash: u64) -> usize
     {
-        first_free(self.tags.as_slice(), hash)
+        first_free(&self.tags.as_slice()[..self.slots], hash)
+    }
+
+    // Returns the first place from `place` on, along the path, whose slot is not Live. At least one slot must not be Live.
+    #[inline(always)]
+    pub fn free_from(&self, place: usize) -> usize
+    {
+        // The path that begins at `place`.
+        self.first_free(place as u64)
     }
 
     // Places a value as [`Slots::place`] does, with its hash under the state. It hashes nothing.

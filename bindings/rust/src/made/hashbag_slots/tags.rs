@@ -20,6 +20,9 @@ pub const REMOVED: u8 = 1;
 // The tag of a Moved slot.
 pub const MOVED: u8 = 2;
 
+// How many tags of no slot, all `MOVED`, come after the tags of the slots. So sixteen tags can be read from each slot on.
+pub const GUARDS: usize = 16;
+
 // The least tag of a Live slot.
 pub const LEAST_LIVE: u8 = 128;
 
@@ -30,19 +33,23 @@ pub fn fingerprint_of(hash: u64) -> u8
     (hash >> 57) as u8 + LEAST_LIVE
 }
 
-// Returns the tags of `slots` Empty slots.
+// Returns the tags of `slots` Empty slots, and the guards after them.
 //
 // # Errors
 //
 // `AllocError` if the allocation fails. With `slots` 0 it can't fail.
 pub fn empty_tags(alloc: Global, slots: usize) -> Result<Vec<u8>, AllocError>
 {
-    let tags = crate::made::hashbag_slots::cells::empty_tags(slots)?;
+    if slots == 0 {
+        return Vec::with_capacity(alloc, 0);
+    }
+    let mut tags = crate::made::hashbag_slots::cells::empty_tags(slots + GUARDS)?;
+    tags[slots..].fill(MOVED);
     Ok(tags)
 }
 
-// Makes each tag Empty.
-pub fn make_all_empty(tags: &mut [u8])
+// Makes each of the first `slots` tags Empty.
+pub fn make_all_empty(tags: &mut [u8], slots: usize)
 {
-    tags.fill(EMPTY);
+    tags[..slots].fill(EMPTY);
 }

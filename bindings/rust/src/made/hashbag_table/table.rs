@@ -22,16 +22,38 @@ use crate::made::hashbag_table::capacity::{MOST_SLOTS, clear_slots, most_used, n
 use crate::made::hashbag_table::key::Key;
 use crate::made::hashbag_table::retain::retain_slots;
 use crate::made::hashbag_table::walk::{DrainWalk, IntoWalk, Walk};
-use crate::made::hashbag_slots::slots::{FirstGroup, Slot, Slots};
+use crate::made::hashbag_slots::slots::find::MOST_CACHED;
+use crate::made::hashbag_slots::slots::{Probed, Slot, Slots};
 use crate::rattle::{AllocError, Global};
 use std::hash::{BuildHasher, Hash};
-use std::marker::PhantomData;
 use std::mem;
 
 // The greatest number of distinct values for which room can be made on request, 3 * 2^57.
 pub const MOST_VALUES: usize = MOST_SLOTS / 4 * 3;
 
 const _: () = assert!(MOST_VALUES == 432_345_564_227_567_616);
+
+// No number of slots less 1.
+const NOT_QUICK: usize = usize::MAX;
+
+// Returns `quick` for a newer and an older table with these numbers of slots.
+fn quick_of(newer: usize, older: usize) -> usize
+{
+    let mask = newer.wrapping_sub(1);
+    if older == 0 && mask < MOST_CACHED {
+        return mask;
+    }
+    NOT_QUICK
+}
+
+// Returns `at_once` for two tables: how many absent values can be placed in the newer one, if no slot waits in the older one. Else 0.
+fn at_once_of<T>(newer: &Slots<T>, older: &Slots<T>) -> usize
+{
+    if older.slots() > 0 {
+        return 0;
+    }
+    most_used(newer.slots()).saturating_sub(newer.live() + newer.removed())
+}
 
 // Where a value is: the place of its slot in the newer table, or among the waiting slots of the older one.
 #[derive(Clone, Copy)]
@@ -52,11 +74,20 @@ pub struct Table<T, S> {
     older: Slots<T>,
     // The number of slots of the older table that were carried: its first ones.
     carried_to: usize,
+    // A value whose home in the older table is before this place isn't in that table: the slot before it is Empty, and all slots before `carried_to`
+    // were carried.
+    edge: usize,
+    // The number of slots less 1, if there are at most `MOST_CACHED`, and none waits in the older table. Else `NOT_QUICK`.
+    quick: usize,
+    // At least as many absent values can be placed without a carry or a growth. It may be too low. If it isn't 0, no slot waits.
+    at_once: usize,
     hasher: S,
     // The allocator of the table and of its copies.
     alloc: Global,
     // How many slots were ever built: the slots of all tables that were the newer one, together. For contracts only.
     built: Built,
+    // A drain borrows this empty field: while the drain lives, the table is borrowed.
+    lent: [usize; 0],
 }
 
 impl<T, S> Table<T, S> {
@@ -120,19 +151,28 @@ impl<T, S> Table<T, S> {
 }
 
 impl<T: Eq + Hash, S: BuildHasher> Table<T, S> {
-    // Returns whether an absent value can be placed without a carry or a growth: no slot waits, and there is room.
+    // Returns whether it is known that an absent value can be placed without a carry or a growth: no slot waits, and there is room.
     #[inline(always)]
     fn can_place_at_once(&self) -> bool
     {
-        self.older.slots() == 0 && self.room() > 0
+        self.at_once > 0
     }
 
     // Places an absent value at `place`, the first slot on its path that isn't Live. The caller has carried or grown before, if that was
     // needed. It doesn't allocate.
+    #[inline(always)]
+    fn place_at_once(&mut self, place: usize, hash: u64, value: T, count: usize)
+    {
+        self.at_once = self.at_once.saturating_sub(1);
+        self.newer.place_at(place, &self.hasher, hash, value, count);
+    }
+
+    // Places a value as `place_at_once` does, and counts anew how many more can be placed at once.
     #[inline(never)]
     fn place_absent(&mut self, place: usize, hash: u64, value: T, count: usize)
     {
-        self.newer.place_at(place, &self.hasher, hash, value, count);
+        self.place_at_once(place, hash, value, count);
+        self.at_once = at_once_of(&self.newer, &self.older);
     }
 
     // Inserts an absent value with a count.
@@ -160,13 +200,72 @@ impl<T: Eq + Hash, S: BuildHasher> Table<T, S> {
         Ok(())
     }
 
-    // Sets the count of a present value. It hashes the value once and doesn't allocate.
-    pub fn set_count(&mut self, value: &T, n: usize)
+    // Inserts an absent value as `insert_hashed` does. `first` is what a probe of the newer table showed: if that was a free slot, a carry goes on from
+    // there, and nothing is probed from the home slot again.
+    fn insert_probed(
+        &mut self,
+        hash: u64,
+        value: T,
+        n: usize,
+        first: Probed,
+    ) -> Result<(), AllocError>
+    {
+        if let Probed::Absent(place) = first {
+            if self.room() > 0 {
+                let free = self.carry_past(place);
+                self.place_absent(free, hash, value, n);
+                return Ok(());
+            }
+        }
+        self.insert_hashed(hash, value, n)
+    }
+
+    // Inserts an absent value with a count. The table must have room, and no slot may wait. The call is inlined into the loop that clones: it hashes the
+    // value once and probes only for a free slot.
+    #[inline(always)]
+    fn place_new(&mut self, value: T, count: usize)
+    {
+        let hash = self.hash(&value);
+        let place = self.newer.first_free(hash);
+        self.place_at_once(place, hash, value, count);
+    }
+
+    // Sets the count of a present value, if the count rises by at most `more`, and returns the count before in `Ok`. Else nothing changes, and the count
+    // is returned in `Err`, which is no failure; 0 means that the value is absent. One look-up finds what is compared and what is set.
+    //
+    // # Complexity
+    //
+    // It hashes the value once and doesn't allocate.
+    pub fn set_count(&mut self, value: &T, n: usize, more: usize) -> Result<usize, usize>
     {
         let hash = self.hash(value);
         if let Some(spot) = self.spot_of(hash, value) {
+            let before = self.count_at(spot);
+            if n.saturating_sub(before) > more {
+                return Err(before);
+            }
             self.set_spot(spot, n);
+            return Ok(before);
         }
+        Err(0)
+    }
+
+    // Stores a value itself with the count 1, if it is present, and returns the count before. The instance that was stored is dropped. `None`: the value
+    // is absent, and nothing changes; the given value is dropped.
+    //
+    // # Complexity
+    //
+    // It hashes the value once and doesn't allocate.
+    pub fn put_present(&mut self, value: T) -> Option<usize>
+    {
+        let hash = self.hash(&value);
+        if let Some(spot) = self.spot_of(hash, &value) {
+            let before = self.count_at(spot);
+            let replaced = self.put_spot(spot, value);
+            drop(replaced);
+            return Some(before);
+        }
+        None
     }
 
     // Removes the value that a key names, and returns its stored instance and its count, or `None` if it is absent. Its slot, in whichever
@@ -230,23 +329,23 @@ impl<T: Eq + Hash, S: BuildHasher> Table<T, S> {
         Err(0)
     }
 
-    // The slow path of `add`, if the first group of the value's path in the newer table doesn't have the value. `first` says whether that group shows
-    // that the value is absent there. This function is out of line, so that the fast path is short.
+    // The slow path of `add`, if the newer table doesn't have the value. `first` is what a probe of that table showed. This function is out of line, so that
+    // the fast path is short.
     #[inline(never)]
     fn add_slow(
         &mut self,
         hash: u64,
         value: T,
         n: usize,
-        first: FirstGroup,
+        first: Probed,
     ) -> Result<usize, AllocError>
     {
         self.show_invariant();
-        if let Some(spot) = self.spot_after_first_group(hash, &value, first) {
+        if let Some(spot) = self.spot_after_probe(hash, &value, first) {
             let before = self.raise_spot(spot, n);
             return Ok(before);
         }
-        self.insert_hashed(hash, value, n)?;
+        self.insert_probed(hash, value, n, first)?;
         Ok(0)
     }
 
@@ -265,14 +364,14 @@ impl<T: Eq + Hash, S: BuildHasher> Table<T, S> {
     pub fn add(&mut self, value: T, n: usize) -> Result<usize, AllocError>
     {
         let hash = self.hash(&value);
-        let first = self.probe_first_group(hash, &value);
-        if let FirstGroup::Found(place) = first {
+        let first = self.probe_path(hash, &value);
+        if let Probed::Found(place) = first {
             let before = self.raise_spot(Spot::Newer(place), n);
             return Ok(before);
         }
-        if let FirstGroup::Absent(place) = first {
+        if let Probed::Absent(place) = first {
             if self.can_place_at_once() {
-                self.place_absent(place, hash, value, n);
+                self.place_at_once(place, hash, value, n);
                 return Ok(0);
             }
         }
@@ -316,6 +415,9 @@ impl<T, S> Table<T, S> {
         clear_slots(&mut self.newer);
         let _freed = mem::replace(&mut self.older, no_slots(self.alloc));
         self.carried_to = 0;
+        self.edge = 0;
+        self.quick = quick_of(self.newer.slots(), 0);
+        self.at_once = 0;
     }
 }
 
@@ -330,6 +432,7 @@ impl<T: Eq + Hash, S: BuildHasher> Table<T, S> {
     // is no value it reads no tag, however many slots there are.
     pub fn retain<F: FnMut(&T, usize) -> usize>(&mut self, mut f: F) -> usize
     {
+        self.at_once = 0;
         let newer = retain_slots(&mut self.newer, 0, &mut f);
         let waiting = retain_slots(&mut self.older, self.carried_to, &mut f);
         newer + waiting
@@ -351,9 +454,13 @@ impl<T, S> Table<T, S> {
             newer,
             older,
             carried_to: _,
+            edge: _,
+            quick: _,
+            at_once: _,
             hasher: _,
             alloc: _,
             built: _,
+            lent: _,
         } = self;
         newer.into_walk(older)
     }
@@ -367,9 +474,12 @@ impl<T, S> Table<T, S> {
         let newer = mem::replace(&mut self.newer, no_slots(self.alloc));
         let older = mem::replace(&mut self.older, no_slots(self.alloc));
         self.carried_to = 0;
+        self.edge = 0;
+        self.quick = NOT_QUICK;
+        self.at_once = 0;
         DrainWalk {
             taken: newer.into_walk(older),
-            table: PhantomData,
+            table: &mut self.lent,
         }
     }
 }

@@ -8,15 +8,14 @@ use crate::rattle::prelude::*;
 
 pub use crate::made::hashbag_slots::walk::{IntoWalk, Walk};
 use std::iter::ExactSizeIterator;
-use std::marker::PhantomData;
 
 // The entries that were removed from a table, by value. The table is empty from the start. Unread entries are dropped with the walk.
 //
 // Contracts see the list of the entries that are left as `drain_rest`.
 pub struct DrainWalk<'a, T> {
     pub(crate) taken: IntoWalk<T>,
-    // While it lasts, the table can't be used.
-    pub(crate) table: PhantomData<&'a ()>,
+    // The borrow of the table's empty field `lent`. While it lasts, the table can't be used.
+    pub(crate) table: &'a mut [usize; 0],
 }
 
 impl<'a, T> Iterator for DrainWalk<'a, T> {

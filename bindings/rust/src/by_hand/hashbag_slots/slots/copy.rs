@@ -1,6 +1,7 @@
 //! Copies of tables, slot by slot. By hand: the source's clone hashes each value, and so does `Table::copy` if it has to.
 use super::Slots;
-use crate::made::hashbag_slots::group::{GROUP_WIDTH, match_live, take_lowest};
+use crate::made::hashbag_slots::group::take_lowest;
+use crate::made::hashbag_slots::walk::{MASK_WIDTH, match_live_wide};
 use crate::rattle::{AllocError, Global};
 use std::mem;
 
@@ -13,7 +14,7 @@ impl<T: Clone> Slots<T> {
         let mut copy = Slots::with_slots(alloc, self.slots())?;
         let mut from = 0;
         while from < self.slots() {
-            let mut ahead = match_live(self.tags.as_slice(), from);
+            let mut ahead = match_live_wide(&self.tags[from..self.slots().min(from + MASK_WIDTH)]);
             while ahead != 0 {
                 let (place, rest) = take_lowest(ahead, from);
                 let (value, count) = self.live_at(place);
@@ -23,7 +24,7 @@ impl<T: Clone> Slots<T> {
                 }
                 ahead = rest;
             }
-            from += GROUP_WIDTH;
+            from += MASK_WIDTH;
         }
         copy.tags.as_mut_slice().copy_from_slice(self.tags.as_slice());
         copy.live = self.live;

@@ -1,4 +1,4 @@
-//! Copies of a table, and changes of a count by one look-up. By hand: the source's clone hashes each value, and its look-ups trust `==`.
+//! Copies of a table. By hand: the source's clone hashes each value.
 use super::Table;
 use crate::made::hashbag_table::built::Built;
 use crate::rattle::AllocError;
@@ -41,34 +41,5 @@ impl<T, S> Table<T, S> {
     /// Returns the sum of all counts.
     pub(crate) fn total(&self) -> usize {
         self.walk().fold(0, |sum: usize, (_, count)| sum.saturating_add(count))
-    }
-}
-
-impl<T: Eq + Hash, S: BuildHasher> Table<T, S> {
-    /// Sets the count of a value, and returns the count before and the count after. If the value is absent, or the count would rise by more than
-    /// `more`, nothing changes, and it returns 0 and 0.
-    pub(crate) fn recount(&mut self, value: &T, n: usize, more: usize) -> (usize, usize) {
-        let hash = self.hash(value);
-        let Some(spot) = self.spot_of(hash, value) else { return (0, 0) };
-        let before = self.count_at(spot);
-        if n.saturating_sub(before) > more {
-            return (0, 0);
-        }
-        self.set_spot(spot, n);
-        (before, n)
-    }
-
-    /// Removes a value, and returns its count and 0.
-    pub(crate) fn take_all_of(&mut self, value: &T) -> (usize, usize) {
-        self.remove(value).map_or((0, 0), |(_, count)| (count, 0))
-    }
-
-    /// Stores this instance with the count 1 if the value is present, and returns the count before. If it is absent, nothing changes.
-    pub(crate) fn put_present(&mut self, value: T) -> Option<usize> {
-        let hash = self.hash(&value);
-        let spot = self.spot_of(hash, &value)?;
-        let before = self.count_at(spot);
-        drop(self.put_spot(spot, value));
-        Some(before)
     }
 }

@@ -117,7 +117,7 @@ impl<T: Eq + Hash, S: BuildHasher> HashBag<T, S> {
     // # Complexity
     //
     // If there is enough room, it does nothing. Else it allocates the least table of slots that has the room, and is not smaller than the
-    // newer one. Every value is moved into that table and hashed once, and the former tables are freed.
+    // newer one. Every value is moved into that table and hashed once, a waiting one twice. The former tables are freed.
     //
     // # Examples
     //
@@ -144,7 +144,7 @@ impl<T: Eq + Hash, S: BuildHasher> HashBag<T, S> {
     // # Complexity
     //
     // If the least table that has room for the values is smaller than the newer one, it is allocated. Every value is moved into it and
-    // hashed once, and the former tables are freed. Else the call does nothing. An empty bag allocates nothing.
+    // hashed once, a waiting one twice, and the former tables are freed. Else the call does nothing. An empty bag allocates nothing.
     //
     // # Examples
     //

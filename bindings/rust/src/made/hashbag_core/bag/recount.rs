@@ -6,18 +6,28 @@ use crate::made::hashbag_core::bag::{BagError, HashBag};
 use crate::made::hashbag_table::Table;
 use std::hash::{BuildHasher, Hash};
 
-// Sets the count of a present value, or removes it if the count is 0.
+// Sets the count of a present value, or removes it if the new count is 0, and returns the count before in `Ok`. If the value is absent, or its count
+// would rise by more than `more`, nothing changes, and the count is returned in `Err`: 0 if the value is absent.
 fn set_or_remove<T: Eq + Hash, S: BuildHasher>(
     table: &mut Table<T, S>,
     value: &T,
     n: usize,
     more: usize,
-) -> (usize, usize)
+) -> Result<usize, usize>
 {
-    if n == 0 {
-        return table.take_all_of(value);
+    if n > 0 {
+        match table.set_count(value, n, more) {
+            Ok(before) => return Ok(before),
+            Err(before) => return Err(before),
+        }
     }
-    table.recount(value, n, more)
+    match table.remove(value) {
+        Some((former, before)) => {
+            drop(former);
+            return Ok(before);
+        }
+        None => return Err(0),
+    }
 }
 
 impl<T: Eq + Hash, S: BuildHasher> HashBag<T, S> {
@@ -56,14 +66,22 @@ impl<T: Eq + Hash, S: BuildHasher> HashBag<T, S> {
         if n > self.most - (self.len - before) {
             return Err(BagError::TooMany);
         }
-        self.recount(&value, before, n);
-        Ok(before)
+        match self.recount(&value, n) {
+            Ok(count) => return Ok(count),
+            Err(_) => return Err(BagError::TooMany),
+        }
     }
 
-    // Sets the count of a present value, whose count is `before`, or removes it if the new count is 0.
-    pub(crate) fn recount(&mut self, value: &T, before: usize, n: usize)
+    // Sets the count of a present value, or removes it if the new count is 0, and returns the count before in `Ok`. One look-up finds what is compared
+    // with the limit and what is changed. `Err`: nothing changed, since the value is absent (0), or the total would pass the limit.
+    pub(crate) fn recount(&mut self, value: &T, n: usize) -> Result<usize, usize>
     {
-        let (before, n) = set_or_remove(&mut self.table, value, n, self.most - self.len);
-        self.len = self.len - before + n;
+        match set_or_remove(&mut self.table, value, n, self.most - self.len) {
+            Ok(before) => {
+                self.len = self.len - before + n;
+                return Ok(before);
+            }
+            Err(before) => return Err(before),
+        }
     }
 }

@@ -40,7 +40,7 @@ impl<T: Eq + Hash, S: BuildHasher> HashBag<T, S> {
     //
     // # Complexity
     //
-    // Every distinct value is moved and hashed once. It doesn't allocate.
+    // Every distinct value is moved and hashed once, a waiting one twice. It doesn't allocate.
     //
     // # Examples
     //

@@ -29,9 +29,12 @@ impl<T: Eq + Hash> Slots<T> {
     fn carry_slot<S: BuildHasher>(&mut self, state: &S, older: &mut Slots<T>, at: usize)
     {
         if older.is_live_at(at) {
-            let hash = hash_of(state, older.live_at(at).0);
+            // The value is hashed before it is taken: no code of its type runs while it is in neither table.
+            let (key, _) = older.live_at(at);
+            let hash = hash_of(state, key);
             let (value, n) = older.take_leaving(at, MOVED);
-            self.place_hashed(state, hash, value, n);
+            let place = self.first_free_wide(hash);
+            self.place_at(place, state, hash, value, n);
         }
     }
 

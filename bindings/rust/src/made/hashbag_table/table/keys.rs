@@ -4,28 +4,28 @@ use crate::rattle::prelude::*;
 
 use crate::made::hashbag_table::key::{Key, ToValue};
 use crate::made::hashbag_table::table::{Spot, Table};
-use crate::made::hashbag_slots::slots::{FirstGroup, Slot};
+use crate::made::hashbag_slots::slots::{Probed, Slot};
 use crate::rattle::AllocError;
 use std::hash::{BuildHasher, Hash};
 
 impl<T: Eq + Hash, S: BuildHasher> Table<T, S> {
-    // The slow path of `add_key`, if the first group of the key's path in the newer table doesn't have a value that the key names.
+    // The slow path of `add_key`, if the newer table doesn't have a value that the key names. `first` is what a probe of that table showed.
     #[inline(never)]
     fn add_key_slow<Q: ToValue<T>>(
         &mut self,
         hash: u64,
         key: Q,
         n: usize,
-        first: FirstGroup,
+        first: Probed,
     ) -> Result<usize, AllocError>
     {
         self.show_invariant();
-        if let Some(spot) = self.spot_after_first_group(hash, key, first) {
+        if let Some(spot) = self.spot_after_probe(hash, key, first) {
             let before = self.raise_spot(spot, n);
             return Ok(before);
         }
         let value = key.to_value(self.alloc)?;
-        self.insert_hashed(hash, value, n)?;
+        self.insert_probed(hash, value, n, first)?;
         Ok(0)
     }
 
@@ -43,8 +43,8 @@ impl<T: Eq + Hash, S: BuildHasher> Table<T, S> {
     pub fn add_key<Q: ToValue<T>>(&mut self, key: Q, n: usize) -> Result<usize, AllocError>
     {
         let hash = self.hash(key);
-        let first = self.probe_first_group(hash, key);
-        if let FirstGroup::Found(place) = first {
+        let first = self.probe_path(hash, key);
+        if let Probed::Found(place) = first {
             let before = self.raise_spot(Spot::Newer(place), n);
             return Ok(before);
         }

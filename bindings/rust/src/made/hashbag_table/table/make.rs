@@ -4,7 +4,7 @@ use crate::rattle::prelude::*;
 
 use crate::made::hashbag_table::built::Built;
 use crate::made::hashbag_table::capacity::{least_slots, no_slots};
-use crate::made::hashbag_table::table::{MOST_VALUES, Table};
+use crate::made::hashbag_table::table::{MOST_VALUES, NOT_QUICK, Table, quick_of};
 use crate::made::hashbag_slots::slots::{Slot, Slots};
 use crate::rattle::{AllocError, Global};
 use std::hash::{BuildHasher, Hash};
@@ -20,9 +20,13 @@ impl<T: Eq + Hash, S: BuildHasher> Table<T, S> {
             newer,
             older,
             carried_to: 0,
+            edge: 0,
+            quick: NOT_QUICK,
+            at_once: 0,
             hasher,
             alloc,
             built: Built::first(0),
+            lent: [],
         }
     }
 
@@ -43,9 +47,13 @@ impl<T, S> Table<T, S> {
             newer,
             older,
             carried_to: 0,
+            edge: 0,
+            quick: quick_of(slots, 0),
+            at_once: 0,
             hasher,
             alloc,
             built: Built::first(slots),
+            lent: [],
         })
     }
 }
@@ -69,7 +77,7 @@ impl<T: Eq + Hash, S: BuildHasher> Table<T, S> {
         let mut table = Table::with_room(self.alloc, hasher, self.set_len())?;
         for (value, count) in self.walk() {
             let clone = value.try_clone()?;
-            table.insert_new(clone, count)?;
+            table.place_new(clone, count);
         }
         Ok(table)
     }

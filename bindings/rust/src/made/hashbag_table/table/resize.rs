@@ -3,7 +3,7 @@ use crate::rattle::prelude::*;
 // Room: a table that grows, carries what waits, or gets other slots on request.
 
 use crate::made::hashbag_table::capacity::{grown_slots, least_slots, no_slots};
-use crate::made::hashbag_table::table::{MOST_VALUES, Table};
+use crate::made::hashbag_table::table::{MOST_VALUES, NOT_QUICK, Table, quick_of};
 use crate::made::hashbag_slots::slots::{Slot, Slots};
 use crate::rattle::{AllocError, Global};
 use std::hash::{BuildHasher, Hash};
@@ -40,11 +40,25 @@ fn carry_next<T: Eq + Hash, S: BuildHasher>(
     carried_to + many
 }
 
+// Returns `edge` after a carry. `last` is the place after the last Empty slot among those that were carried, 0 if none of them is Empty.
+#[inline(always)]
+fn edge_after(edge: usize, last: usize, carried_to: usize) -> usize
+{
+    if carried_to == 0 {
+        return 0;
+    }
+    if last > 0 {
+        return last;
+    }
+    edge
+}
+
 impl<T: Eq + Hash, S: BuildHasher> Table<T, S> {
     // Carries the next 16 waiting slots. It doesn't allocate.
     #[inline(never)]
     fn carry(&mut self)
     {
+        let last = self.older.after_last_empty(self.carried_to);
         self.carried_to = carry_next(
             &mut self.newer,
             &mut self.older,
@@ -53,6 +67,20 @@ impl<T: Eq + Hash, S: BuildHasher> Table<T, S> {
             &self.hasher,
             self.alloc,
         );
+        self.edge = edge_after(self.edge, last, self.carried_to);
+        self.newer.prefetch_carry(&self.older, self.carried_to);
+        self.quick = quick_of(self.newer.slots(), self.older.slots());
+    }
+
+    // Carries the next 16 waiting slots, if some wait. `place` is the first place on some path whose slot isn't Live; the first such place after the carry
+    // is returned. It doesn't allocate.
+    pub(super) fn carry_past(&mut self, place: usize) -> usize
+    {
+        if self.older.slots() == 0 {
+            return place;
+        }
+        self.carry();
+        self.newer.free_from(place)
     }
 
     // Carries all slots that wait. A look-up then probes one table alone. The entries stay. If no slot waits, it does nothing.
@@ -71,6 +99,9 @@ impl<T: Eq + Hash, S: BuildHasher> Table<T, S> {
             &self.hasher,
             self.alloc,
         );
+        self.edge = 0;
+        self.quick = quick_of(self.newer.slots(), self.older.slots());
+        self.at_once = 0;
     }
 
     // Makes `newer` the newer table. No other method gives an existing `Table` new slots. The former newer table becomes the older one: its first
@@ -79,6 +110,10 @@ impl<T: Eq + Hash, S: BuildHasher> Table<T, S> {
     fn adopt(&mut self, newer: Slots<T>, many: usize)
     {
         self.built.raise(newer.slots());
+        // First, since these numbers are of the former tables: if a hash panics in the carry, where a type allows that, they are right all the same.
+        self.edge = 0;
+        self.quick = NOT_QUICK;
+        self.at_once = 0;
         let former = mem::replace(&mut self.newer, newer);
         let _freed = mem::replace(&mut self.older, former);
         self.carried_to = carry_next(
@@ -89,6 +124,7 @@ impl<T: Eq + Hash, S: BuildHasher> Table<T, S> {
             &self.hasher,
             self.alloc,
         );
+        self.quick = quick_of(self.newer.slots(), self.older.slots());
     }
 
     // Grows, if there is no room left: makes a new table, and carries the first 16 slots into it. If an allocation fails, the table is unchanged.
@@ -116,11 +152,11 @@ impl<T: Eq + Hash, S: BuildHasher> Table<T, S> {
     }
 
     // Moves every value into `newer`, and makes it the newer table. All slots of `newer` must be Empty, with room for all values. It frees both
-    // former tables, hashes each value once, and doesn't allocate.
+    // former tables, and doesn't allocate. It hashes each value once, and once more if it waited: while values move, each is in one of the two tables.
     pub(super) fn move_all_into(&mut self, newer: Slots<T>)
     {
         self.finish_carry();
-        let many = self.newer.slots();
+        let many = self.slots();
         self.adopt(newer, many);
     }
 
@@ -133,7 +169,7 @@ impl<T: Eq + Hash, S: BuildHasher> Table<T, S> {
     // # Complexity
     //
     // If there is enough room, it does nothing. Else it allocates the least table of slots that has the room, and is not smaller than the
-    // newer one. Every value is moved into that table and hashed once, and the former tables are freed.
+    // newer one. Every value is moved into that table and hashed once, a waiting one twice. The former tables are freed.
     pub fn reserve(&mut self, n: usize) -> Result<(), AllocError>
     {
         let slots = self.newer.slots();
@@ -159,7 +195,7 @@ impl<T: Eq + Hash, S: BuildHasher> Table<T, S> {
     // # Complexity
     //
     // If the least table of slots in which the entries have room is smaller than the newer one, that least table is allocated. Every value is moved
-    // into it and hashed once, and the former tables are freed. Else the call does nothing. Without entries it allocates nothing.
+    // into it and hashed once, a waiting one twice, and the former tables are freed. Else the call does nothing. Without entries it allocates nothing.
     pub fn shrink_to_fit(&mut self) -> Result<(), AllocError>
     {
         let least = least_slots(0, self.set_len())?;

@@ -31,7 +31,7 @@ impl<T: Eq + Hash, S: BuildHasher> Table<T, S> {
     //
     // # Complexity
     //
-    // Every value is moved and hashed once. It doesn't allocate.
+    // Every value is moved and hashed once, a waiting one twice. It doesn't allocate.
     pub fn use_spare(&mut self, spare: Spare<T>)
     {
         let Spare { blank } = spare;

@@ -4,7 +4,8 @@ use crate::rattle::prelude::*;
 
 use crate::made::hashbag_table::table::{Spot, Table};
 use crate::made::hashbag_slots::key::Key;
-use crate::made::hashbag_slots::slots::{FirstGroup, Slot, Slots, hash_of};
+use crate::made::hashbag_slots::slots::find::MOST_CACHED;
+use crate::made::hashbag_slots::slots::{Probed, Slot, Slots, hash_of};
 use std::hash::{BuildHasher, Hash};
 
 // Stores another equal instance at a place, with the count 1, and returns the former one.
@@ -15,20 +16,20 @@ fn store_once<T>(slots: &mut Slots<T>, place: usize, value: T) -> T
     former
 }
 
-// Returns the place in the older table of the value that a key names. The first `carried_to` slots of that table were carried.
+// Returns the place in the older table of the value that a key names, if its home isn't before `edge`.
 #[inline(always)]
 fn find_waiting<T: Eq + Hash, S: BuildHasher, Q: Key<T>>(
     older: &Slots<T>,
-    carried_to: usize,
+    edge: usize,
     state: &S,
     hash: u64,
     key: Q,
 ) -> Option<usize>
 {
-    if older.slots() == 0 {
+    if older.slots() == 0 || older.home(hash) < edge {
         return None;
     }
-    older.find_uncarried(state, hash, key, carried_to)
+    older.find_hashed(state, hash, key)
 }
 
 impl<T: Eq + Hash, S: BuildHasher> Table<T, S> {
@@ -48,11 +49,41 @@ impl<T: Eq + Hash, S: BuildHasher> Table<T, S> {
     pub fn get<Q: Key<T>>(&self, key: Q) -> Option<(&T, usize)>
     {
         let hash = self.hash(key);
-        if let Some(place) = self.newer.find_hashed(&self.hasher, hash, key) {
-            return Some(self.newer.live_at(place));
+        let mask = self.quick;
+        if mask < MOST_CACHED {
+            match self.newer.find_small(mask, hash, key) {
+                Some(place) => return Some(self.newer.live_at(place)),
+                None => return None,
+            }
         }
-        match find_waiting(&self.older, self.carried_to, &self.hasher, hash, key) {
-            Some(place) => Some(self.older.live_at(place)),
+        if self.older.slots() == 0 {
+            match self.newer.find_large(hash, key) {
+                Some(place) => return Some(self.newer.live_at(place)),
+                None => return None,
+            }
+        }
+        match self.spot_slow(hash, key) {
+            Some(Spot::Newer(place)) => Some(self.newer.live_at(place)),
+            Some(Spot::Waiting(place)) => {
+                // Only for the proof: it uses the clauses `value` and `bound` of `Slots::slots`.
+                let _slots = self.older.slots();
+                Some(self.older.live_at(self.carried_to + place))
+            }
+            None => None,
+        }
+    }
+
+    // Returns the spot of the value that a key names, in tables of any size. While slots wait, most values are in the older table, if it still has those
+    // of their home.
+    #[cold]
+    #[inline]
+    fn spot_slow<Q: Key<T>>(&self, hash: u64, key: Q) -> Option<Spot>
+    {
+        if let Some(place) = find_waiting(&self.older, self.edge, &self.hasher, hash, key) {
+            return Some(Spot::Waiting(place - self.carried_to));
+        }
+        match self.newer.find_hashed(&self.hasher, hash, key) {
+            Some(place) => Some(Spot::Newer(place)),
             None => None,
         }
     }
@@ -61,7 +92,7 @@ impl<T: Eq + Hash, S: BuildHasher> Table<T, S> {
     #[inline(always)]
     fn waiting_spot<Q: Key<T>>(&self, hash: u64, key: Q) -> Option<Spot>
     {
-        match find_waiting(&self.older, self.carried_to, &self.hasher, hash, key) {
+        match find_waiting(&self.older, self.edge, &self.hasher, hash, key) {
             Some(place) => Some(Spot::Waiting(place - self.carried_to)),
             None => None,
         }
@@ -71,35 +102,45 @@ impl<T: Eq + Hash, S: BuildHasher> Table<T, S> {
     #[inline(always)]
     pub(super) fn spot_of<Q: Key<T>>(&self, hash: u64, key: Q) -> Option<Spot>
     {
-        self.show_invariant();
-        if let Some(place) = self.newer.find_hashed(&self.hasher, hash, key) {
-            return Some(Spot::Newer(place));
+        let mask = self.quick;
+        if mask < MOST_CACHED {
+            match self.newer.find_small(mask, hash, key) {
+                Some(place) => return Some(Spot::Newer(place)),
+                None => return None,
+            }
         }
-        self.waiting_spot(hash, key)
+        if self.older.slots() == 0 {
+            match self.newer.find_large(hash, key) {
+                Some(place) => return Some(Spot::Newer(place)),
+                None => return None,
+            }
+        }
+        self.spot_slow(hash, key)
     }
 
-    // Returns the spot of the value that a key names. `first` is what the first group of the key's path in the newer table showed. If `first` is
-    // `Absent`, the newer table isn't probed again.
+    // Returns the spot of the value that a key names. `first` is what a probe of the newer table showed. Unless that was the value, the newer table isn't
+    // probed again.
     #[inline(always)]
-    pub(super) fn spot_after_first_group<Q: Key<T>>(
+    pub(super) fn spot_after_probe<Q: Key<T>>(
         &self,
         hash: u64,
         key: Q,
-        first: FirstGroup,
+        first: Probed,
     ) -> Option<Spot>
     {
-        if let FirstGroup::Absent(_) = first {
-            return self.waiting_spot(hash, key);
+        match first {
+            Probed::Found(_) => return self.spot_of(hash, key),
+            Probed::Absent(_) => return self.waiting_spot(hash, key),
+            Probed::Full => return self.waiting_spot(hash, key),
         }
-        self.spot_of(hash, key)
     }
 
-    // Returns what the first 16 slots of a key's path in the newer table show.
+    // Returns what a probe of the newer table along a key's path shows.
     #[inline(always)]
-    pub(super) fn probe_first_group<Q: Key<T>>(&self, hash: u64, key: Q) -> FirstGroup
+    pub(super) fn probe_path<Q: Key<T>>(&self, hash: u64, key: Q) -> Probed
     {
         self.show_invariant();
-        self.newer.probe_first_group(&self.hasher, hash, key)
+        self.newer.probe_path(&self.hasher, hash, key)
     }
 
     // Sets the count of the value at a spot.
