@@ -1,4 +1,4 @@
-"""Counted multisets of texts, over the proved library `libhashbag.so`.
+"""A counted multiset of any hashable objects: `HashBag`, with the calls of `collections.Counter`, and counts that are never below 0.
 
     >>> from hashbag import HashBag
     >>> words = HashBag("the cat and the hat".split())
@@ -7,421 +7,457 @@
     >>> words.most_common(1)
     [('the', 2)]
 
-A `HashBag` has the calls of `collections.Counter`, where these make sense for counts that are never below 0. What is proved is the library; this
-module isn't. It keeps what `hashbag.h` asks of a caller: a handle belongs to one object, is freed with it, and never leaves it; each buffer lives and
-stays where it is during its call; the interpreter's lock is held during a call, and a bag is used by the thread that made it, or an error is raised.
+If an allocation fails, a call raises `MemoryError`. Calls for one key, operators, and `update`, `+=`, `|=`, `&=` with another bag then leave the
+bag as it was; `update` and `subtract` with anything else keep what they did so far. `clear`, and the end of a bag, allocate nothing.
 """
 
 from __future__ import annotations
 
-import ctypes
-import operator
-import secrets
-import threading
-from array import array
-from collections.abc import Callable, Iterable, Iterator, Mapping
-from itertools import accumulate, repeat
-from typing import Any, Generic, TypeVar, Union
+from collections import Counter
+from collections.abc import ItemsView, KeysView, Mapping, MutableMapping, ValuesView
+from itertools import chain, repeat, starmap
+from operator import index as _index
+from types import GenericAlias, MappingProxyType
+from typing import Any
 
-from ._library import bytes_of as _bytes
-from ._library import count as _count_of
-from ._library import exactly as _exactly
-from ._library import insert as _insert
-from ._library import is_fast as _is_fast
-from ._library import library as _library
-from ._library import remove as _remove
-from ._library import set_count as _set_count
-from ._library import take_all as _take_all
+from ._hashbag import Bag as _Bag
+from ._hashbag import BagError
 
-__all__ = ["BagError", "HashBag", "JsonError", "NO_LIMIT", "is_fast"]
+__all__ = ["BagError", "HashBag", "NO_LIMIT"]
 
-#: Whether calls on one key go by `_fast.c`, and not by ctypes.
-is_fast: bool = _is_fast
-
-#: The limit of a bag for which none is given: no total can be greater.
+#: The limit of a bag for which none is set.
 NO_LIMIT = 2**64 - 1
+_absent: Any = object()
 
-Key = Union[str, bytes]
-K = TypeVar("K", str, bytes)
-
-
-class BagError(Exception):
-    """Why a call failed: the total would pass the limit, or the limit be below the total. `number` is the library's."""
-
-    TEXTS = {2: "the total would pass the limit", 9: "the limit would be below the total"}
-
-    def __init__(self, number: int) -> None:
-        super().__init__(self.TEXTS.get(number, f"error {number}"))
-        self.number = number
+# What `_walk` gives: keys, counts or pairs, and with 4 more from the last to the first.
+_KEYS, _COUNTS, _PAIRS, _BACK = 0, 1, 2, 4
 
 
-class JsonError(BagError, ValueError):
-    """Why a text can't be read as a bag. `place` is the number of the pair at fault, counted from 0, or of a text that isn't JSON how many of its bytes
-    had been read; it is None if there is no place."""
+class _Keys(KeysView):
+    __slots__ = ()
+    _kind = _KEYS
 
-    TEXTS = {3: "not an array", 4: "not a pair", 5: "bad count", 6: "bad item", 7: "the total would pass the limit", 10: "bad limit", 24: "not JSON"}
+    def __iter__(self):
+        return self._mapping._walk(self._kind)
 
-    def __init__(self, number: int, place: int) -> None:
-        super().__init__(number)
-        self.place = None if number in (3, 10) else place
-
-    def __str__(self) -> str:
-        where = "" if self.place is None else f"after {self.place} bytes: " if self.number == 24 else f"pair {self.place}: "
-        return where + super().__str__()
-
-
-def _done(number: int) -> None:
-    if number == 1:
-        raise MemoryError
-    if number:
-        raise BagError(number)
-
-
-def _whole(n: int) -> int:
-    """n as an object of `int` itself: a subclass may compare and multiply as it likes."""
-    # Before Python 3.10 `index` may return one of a subclass.
-    return int.__index__(operator.index(n))
-
-
-def _count(n: int) -> int:
-    if not isinstance(n, int):
-        raise TypeError(f"a count is an int, not {type(n).__name__}")
-    n = _whole(n)
-    if not 0 <= n <= NO_LIMIT:
-        raise ValueError("a count is from 0 to 2**64 - 1")
-    return n
-
-
-def _read(n: int, size: int, lists: int, call: Callable[..., int]) -> list[Any]:
-    """What a call writes that is given places for `size` bytes, n ends, and n numbers in each of some lists: the texts, and these lists."""
-    text, words = bytearray(size + 1), [array("Q", bytes(8 * n + 8)) for _ in range(lists + 1)]
-    at = ctypes.addressof(ctypes.c_char.from_buffer(text))
-    n = call(at, size, *(place for numbers in words for place in (numbers.buffer_info()[0], n)))
-    stops = words[0][:n].tolist()
-    raw = bytes(memoryview(text)[: stops[-1]]) if stops else b""
-    return [[raw[a:b] for a, b in zip([0, *stops], stops)], *(numbers[:n].tolist() for numbers in words[1:])]
-
-
-def _restored(limit: int, decode: Callable[[bytes], Any] | None, keys: list[bytes], counts: list[int]) -> HashBag[Any]:
-    """The bag that was pickled."""
-    made: HashBag[Any] = HashBag(limit=limit, decode=decode)
-    for key, n in zip(keys, counts):
-        made.insert(key, n)
-    return made
-
-
-class HashBag(Generic[K]):
-    """A counted multiset of `str`, which are kept as UTF-8, or of `bytes` if it is made with `decode=None`.
-
-    `items` is an iterable of keys, each inserted once, or a mapping from keys to counts. The total of all counts is at most `limit`.
-    """
-
-    __slots__ = ("_word", "_handle", "_decode", "_thread", "__weakref__")
-    __hash__ = None  # type: ignore[assignment]
-
-    def __init__(self, items: Iterable[Any] | Mapping[Any, int] = (), *, limit: int = NO_LIMIT, decode: Callable[[bytes], Any] | None = bytes.decode) -> None:
-        # Once: a call that has begun may still use it.
-        if not hasattr(self, "_word"):
-            self._word = ctypes.c_void_p(0)
-        self._decode = decode
-        self._thread = threading.get_ident()
-        self._handle = ctypes.addressof(self._word)
-        _done(_library.hashbag_texts_new_keyed(self._handle, _count(limit), secrets.randbits(64), secrets.randbits(64)))
-        self.update(items)
-
-    def __del__(self) -> None:
-        handle = getattr(self, "_handle", None)
-        if handle and _library is not None:
-            _library.hashbag_free(handle)
-
-    def _at(self) -> int:
-        """The handle, for one call, on the thread that made it."""
-        if threading.get_ident() != self._thread:
-            raise RuntimeError("a HashBag is used by the thread that made it")
-        return self._handle
-
-    # ---- one key
-
-    def insert(self, key: Key, n: int = 1) -> int:
-        """Inserts n occurrences of a key, and returns the count before.
-
-        Raises BagError if the total would pass the limit. The bag is then unchanged.
-        """
-        before = _insert(self._at(), key, _count(n))
-        if before < 0:
-            _done(-before)
-        return before
-
-    def remove(self, key: Key, n: int = 1) -> int:
-        """Removes n occurrences of a key, or all if there are fewer, and returns the count after."""
-        return _remove(self._at(), key, _count(n))
-
-    def __getitem__(self, key: Key) -> int:
-        return _count_of(self._at(), key)
-
-    def __setitem__(self, key: Key, n: int) -> None:
-        before = _set_count(self._at(), key, _count(n))
-        if before < 0:
-            _done(-before)
-
-    def __delitem__(self, key: Key) -> None:
-        """Removes all occurrences of a key. As of a Counter, an absent key is no error."""
-        _take_all(self._at(), key)
-
-    def __contains__(self, key: object) -> bool:
-        return isinstance(key, (str, bytes)) and self[key] > 0
-
-    def get(self, key: Key, default: int = 0) -> int:
-        """Returns the count of a key, `default` if it is absent."""
-        return self[key] or default
-
-    def pop(self, key: Key) -> int:
-        """Removes all occurrences of a key, and returns how many there were."""
-        return _take_all(self._at(), key)
-
-    # ---- the whole
-
-    def __len__(self) -> int:
-        """Returns the number of distinct keys."""
-        return _library.hashbag_set_len(self._at())
-
-    def __bool__(self) -> bool:
-        return len(self) > 0
-
-    def total(self) -> int:
-        """Returns the sum of all counts."""
-        return _library.hashbag_len(self._at())
+    def __reversed__(self):
+        return self._mapping._walk(self._kind + _BACK)
 
     @property
-    def limit(self) -> int:
-        """The greatest total that the bag may have. Setting it below the total raises BagError."""
-        return _library.hashbag_limit(self._at())
+    def mapping(self):
+        return MappingProxyType(self._mapping)
 
-    @limit.setter
-    def limit(self, most: int) -> None:
-        _done(_library.hashbag_set_limit(self._at(), _count(most)))
 
-    def clear(self) -> None:
-        """Removes everything."""
-        _library.hashbag_clear(self._at())
+class _Values(ValuesView):
+    __slots__ = ()
+    _kind = _COUNTS
+    __iter__, __reversed__, mapping = _Keys.__iter__, _Keys.__reversed__, _Keys.mapping
 
-    def reserve(self, n: int) -> None:
-        """Makes room for n more distinct keys."""
-        _done(_library.hashbag_reserve(self._at(), _count(n)))
+    def __contains__(self, n):
+        return any(m is n or m == n for m in self)
 
-    def shrink_to_fit(self) -> None:
-        """Frees memory that the bag doesn't need."""
-        _done(_library.hashbag_shrink_to_fit(self._at()))
 
-    def _sizes(self) -> tuple[int, int]:
-        """How many distinct keys there are, and how many bytes these have."""
-        return len(self), _library.hashbag_texts_bytes(self._at())
+class _Items(ItemsView):
+    __slots__ = ()
+    _kind = _PAIRS
+    __iter__, __reversed__, mapping = _Keys.__iter__, _Keys.__reversed__, _Keys.mapping
 
-    def _pairs(self) -> tuple[list[bytes], list[int]]:
-        """The keys as bytes, and their counts."""
-        n, size = self._sizes()
-        keys, counts = _read(n, size, 1, lambda *places: _library.hashbag_texts_read(self._at(), *places))
-        return keys, counts
+    def __contains__(self, item):
+        if not isinstance(item, tuple) or len(item) != 2:
+            return False
+        n = self._mapping.get(item[0], 0)
+        return n > 0 and n == item[1]
 
-    def items(self) -> list[tuple[K, int]]:
-        """Returns each distinct key with its count, in no particular order."""
-        return self._decoded(*self._pairs())
 
-    def _decoded(self, keys: list[bytes], counts: list[int]) -> list[tuple[K, int]]:
-        """Keys with their counts."""
-        return list(zip(map(self._decode, keys) if self._decode else keys, counts))  # type: ignore[arg-type]
+class HashBag(_Bag):
+    """A mapping from hashable objects to how often each occurs. A key that is absent counts 0, and a count of 0 removes its key.
 
-    def keys(self) -> list[K]:
-        """Returns the distinct keys, in no particular order."""
-        return [key for key, _ in self.items()]
+    `items` is an iterable of keys, each inserted once, or a mapping from keys to counts. Keyword arguments are counts too.
+    Keys are listed in the order of their first insertion.
 
-    def values(self) -> list[int]:
-        """Returns the counts, in no particular order."""
-        return self._pairs()[1]
+        >>> bag = HashBag("abca")
+        >>> bag["b"] += 2
+        >>> bag
+        HashBag({'b': 3, 'a': 2, 'c': 1})
+        >>> bag.insert("c"), bag.remove("a", 5), bag.take("b"), list(bag.items())
+        (1, 0, 3, [('c', 2)])
+    """
 
-    def __iter__(self) -> Iterator[K]:
-        return iter(self.keys())
+    __slots__ = ("__weakref__",)
+    __hash__ = None  # type: ignore[assignment]
+    __class_getitem__ = classmethod(GenericAlias)
 
-    def elements(self) -> Iterator[K]:
-        """Gives each key as often as it occurs."""
-        for key, n in self.items():
-            yield from repeat(key, n)
+    def __init__(self, items=None, /, **counts):
+        if items is not None:
+            self.update(items)
+        if counts:
+            self.update(counts)
 
-    def most_common(self, n: int | None = None) -> list[tuple[K, int]]:
-        """Returns the n most common keys with their counts, or all keys, in descending order of counts. Keys with equal counts are in ascending order.
+    @classmethod
+    def with_limit(cls, limit, items=None, /):
+        """Returns a bag whose total is never above the limit.
 
-        Keys are compared by their bytes.
+        >>> few = HashBag.with_limit(3, "ab")
+        >>> few.insert("c", 2)
+        Traceback (most recent call last):
+            ...
+        hashbag.BagError: the total would pass the limit
         """
-        distinct, size = self._sizes()
-        most = distinct if n is None else min(max(_whole(n), 0), distinct)
-        written = ctypes.c_size_t(0)
+        made = cls()
+        made.limit = limit
+        made.update(items)
+        return made
 
-        def call(*places: int) -> int:
-            _done(_library.hashbag_texts_most_common(self._at(), *places, ctypes.addressof(written)))
-            return written.value
+    @classmethod
+    def fromkeys(cls, keys, value=None):
+        """Isn't defined, as with Counter."""
+        raise NotImplementedError("HashBag.fromkeys() is undefined. Use HashBag(keys) instead.")
 
-        keys, counts = _read(most, size, 1, call)
-        return self._decoded(keys, counts)
+    #: The greatest total that the bag may have.
+    limit = property(_Bag._limit, _Bag._set_limit, doc="The greatest total that the bag may have.")
 
     # ---- many at once
 
-    def update(self, items: Iterable[Any] | Mapping[Any, int] = ()) -> None:
+    def update(self, items=None, /, **counts):
         """Inserts each key of an iterable once, or each of a mapping as often as it says.
 
-        Raises BagError at the first that fails. Those before it stay; if `items` is a HashBag, nothing is inserted.
+        >>> bag = HashBag("ab")
+        >>> bag.update("bc")
+        >>> bag.update({"a": 3}, c=1)
+        >>> dict(bag)
+        {'a': 4, 'b': 2, 'c': 2}
         """
-        if isinstance(items, HashBag):
-            other = self._other(items)
-            _done(_library.hashbag_merge(self._at(), other._at()))
-        elif isinstance(items, Mapping):
-            for key, n in items.items():
-                self.insert(key, n)
-        else:
-            self._insert_all([_bytes(key) for key in items])
+        if items is not None:
+            if _is_bag(items):
+                self._merge(items)
+            elif type(items) is dict or type(items) is Counter:
+                self._insert_dict(items)
+            elif isinstance(items, Mapping):
+                self._insert_pairs(items.items())
+            else:
+                self._insert_each(items)
+        if counts:
+            self._insert_dict(counts)
 
-    def _insert_all(self, texts: list[bytes]) -> None:
-        joined, ends, inserted = b"".join(texts), array("Q", accumulate(map(len, texts))), ctypes.c_size_t(0)
-        if texts:
-            at = ends.buffer_info()[0]
-            _done(_library.hashbag_texts_insert_all(self._at(), joined, len(joined), at, len(ends), ctypes.addressof(inserted)))
+    def update_split(self, data, separator, /):
+        """Inserts each piece of some bytes once: `update(data.split(separator))`, for a separator of one byte, without a list of the pieces.
 
-    def update_split(self, data: bytes, separator: bytes = b"\n") -> int:
-        """Inserts each piece of `data` between separators once, in one call, and returns how many there were. As of `bytes.split`, some may be empty.
-
-        Raises BagError at the first that fails. Those before it stay.
+        >>> bag = HashBag()
+        >>> bag.update_split(b"a,b,,a", b",")
+        >>> dict(bag)
+        {b'a': 2, b'b': 1, b'': 1}
         """
-        if isinstance(data, (str, int)):
-            raise TypeError(f"the data are bytes, not {type(data).__name__}")
-        raw, by, inserted = _exactly(data), _exactly(separator), ctypes.c_size_t(0)
-        if len(by) != 1:
+        if len(separator) != 1:
             raise ValueError("a separator is one byte")
-        _done(_library.hashbag_texts_insert_split(self._at(), raw, len(raw), by[0], ctypes.addressof(inserted)))
-        return inserted.value
+        self._insert_split(bytes(data), separator[0])
 
-    def subtract(self, items: Iterable[Any] | Mapping[Any, int] = ()) -> None:
-        """Removes each key of an iterable once, or each of a mapping as often as it says. No count gets below 0."""
-        if isinstance(items, HashBag):
-            other = self._other(items)
-            _done(_library.hashbag_take_away(self._at(), other._at()))
-        elif isinstance(items, Mapping):
-            for key, n in items.items():
-                self.remove(key, n)
-        else:
-            for key in items:
-                self.remove(key)
+    def subtract(self, items=None, /, **counts):
+        """Removes each key of an iterable once, or each of a mapping as often as it says. No count gets below 0.
 
-    def copy(self) -> HashBag[K]:
-        """Returns a bag with the same counts, limit and decoder."""
-        made: HashBag[K] = HashBag(decode=self._decode)
-        _done(_library.hashbag_clone(self._at(), made._at()))
+        >>> bag = HashBag("aaab")
+        >>> bag.subtract("abb")
+        >>> dict(bag)
+        {'a': 2}
+        """
+        if items is not None:
+            if _is_bag(items):
+                self._less(items)
+            elif isinstance(items, Mapping):
+                self._remove_pairs(items.items())
+            else:
+                self._remove_each(items)
+        if counts:
+            self._remove_pairs(counts.items())
+
+    # ---- the mapping
+
+    def items(self):
+        """A view of the keys with their counts."""
+        return _Items(self)
+
+    def keys(self):
+        """A view of the keys."""
+        return _Keys(self)
+
+    def values(self):
+        """A view of the counts."""
+        return _Values(self)
+
+    def __reversed__(self):
+        """Gives the keys, the last first."""
+        return self._walk(_KEYS + _BACK)
+
+    def elements(self):
+        """Returns an iterator that gives each key as often as it occurs.
+
+        >>> list(HashBag("abca").elements())
+        ['a', 'a', 'b', 'c']
+        """
+        return chain.from_iterable(starmap(repeat, self.items()))
+
+    def __missing__(self, key):
+        return 0
+
+    def pop(self, key, default=_absent, /):
+        """Removes a key and returns its count, or the default, or raises KeyError if there is none.
+
+        >>> HashBag("aab").pop("a")
+        2
+        """
+        n = self.take(key)
+        if n == 0:
+            if default is _absent:
+                raise KeyError(key)
+            return default
+        return n
+
+    def setdefault(self, key, default=0, /):
+        """Returns the count of a key. If it is absent, it is first set to the default."""
+        n = self[key]
+        if n == 0:
+            self[key] = n = default
+        return n
+
+    def most_common(self, n=None):
+        """Returns the n most common keys with their counts, or all. Keys with equal counts are in the order of their insertion.
+
+        >>> HashBag("abracadabra").most_common(2)
+        [('a', 5), ('b', 2)]
+        """
+        return self._most(len(self) if n is None else min(max(_index(n), 0), len(self)))
+
+    def copy(self):
+        """Returns a bag of the same class with the same counts and limit."""
+        made = self.__class__(self)
+        made.limit = self.limit
         return made
 
     __copy__ = copy
 
-    def __deepcopy__(self, memo: dict[int, Any]) -> HashBag[K]:
-        return self.copy()
+    def __deepcopy__(self, memo):
+        from copy import deepcopy
 
-    def __reduce__(self) -> tuple[Any, ...]:
-        return _restored, (self.limit, self._decode, *self._pairs())
+        made = self.__class__()
+        memo[id(self)] = made
+        made.limit = self.limit
+        for key, n in list(self.items()):
+            made.insert(deepcopy(key, memo), n)
+        return made
 
-    def _other(self, other: HashBag[K]) -> HashBag[K]:
-        """Another bag, or a copy if it is this one: the two handles of a call have to be two. The caller keeps it in a variable during the call."""
-        if not isinstance(other, HashBag):
-            raise TypeError(f"the other one is a HashBag, not {type(other).__name__}")
-        return self.copy() if self is other else other
+    def __reduce__(self):
+        state = getattr(self, "__dict__", None) or None
+        check = iter(self)
+        keys, counts = list(self), list(self.values())
+        next(check, None)  # raises RuntimeError if the keys changed meanwhile
+        return _restored, (self.__class__, self.limit, keys, counts), state
+
+    def __repr__(self):
+        name = self.__class__.__name__
+        if not self:
+            return f"{name}()"
+        try:
+            return f"{name}({dict(self.most_common())!r})"
+        except RecursionError:
+            return f"{name}(...)"
 
     # ---- two bags
 
-    def __eq__(self, other: object) -> bool:
-        if not isinstance(other, HashBag):
+    def __eq__(self, other):
+        other = _comparable(other)
+        if other is None:
             return NotImplemented
-        # The two handles of a call have to be two.
-        return self is other or _library.hashbag_equal(self._at(), other._at())
+        return self.total() == other.total() and len(self) == len(other) and self._within(other)
 
-    def __add__(self, other: HashBag[K]) -> HashBag[K]:
-        if not isinstance(other, HashBag):
-            return NotImplemented
-        made = self.copy()
-        made.update(other)
-        return made
+    def __ne__(self, other):
+        same = self.__eq__(other)
+        return same if same is NotImplemented else not same
 
-    def __sub__(self, other: HashBag[K]) -> HashBag[K]:
-        if not isinstance(other, HashBag):
-            return NotImplemented
-        made = self.copy()
-        made.subtract(other)
-        return made
+    def __le__(self, other):
+        other = _as_bag(other)
+        return NotImplemented if other is None else self._within(other)
 
-    def __and__(self, other: HashBag[K]) -> HashBag[K]:
-        if not isinstance(other, HashBag):
-            return NotImplemented
-        made = self.copy()
-        _done(_library.hashbag_keep_common(made._at(), other._at()))
-        return made
+    def __ge__(self, other):
+        other = _as_bag(other)
+        return NotImplemented if other is None else other._within(self)
 
-    def __or__(self, other: HashBag[K]) -> HashBag[K]:
-        if not isinstance(other, HashBag):
-            return NotImplemented
-        made = self.copy()
-        _done(_library.hashbag_keep_most(made._at(), other._at()))
-        return made
+    def __lt__(self, other):
+        other = _as_bag(other)
+        return NotImplemented if other is None else self.total() < other.total() and self._within(other)
 
-    def outer_join(self, other: HashBag[K]) -> list[tuple[K, int, int]]:
-        """Returns each key of either bag once, with its count here and there, keys of this bag first."""
-        decode: Callable[[bytes], Any] = self._decode or bytes
-        other = self._other(other)
-        (n, size), (m, more) = self._sizes(), other._sizes()
-        joined = _read(n + m, size + more, 2, lambda *places: _library.hashbag_texts_outer_join(self._at(), other._at(), *places))
-        return [(decode(text), first, second) for text, first, second in zip(*joined)]
+    def __gt__(self, other):
+        other = _as_bag(other)
+        return NotImplemented if other is None else other.total() < self.total() and other._within(self)
 
-    def difference(self, other: HashBag[K]) -> list[tuple[K, int]]:
-        """Returns each key that this bag has more often than the other, with how many more."""
-        return self._left(other, _library.hashbag_texts_difference)
+    def __add__(self, other):
+        """The sums of the counts.
 
-    def not_in(self, other: HashBag[K]) -> list[tuple[K, int]]:
-        """Returns each key of this bag that the other lacks, with its count."""
-        return self._left(other, _library.hashbag_texts_not_in)
-
-    def _left(self, other: HashBag[K], call: Callable[..., int]) -> list[tuple[K, int]]:
-        """What a call on two bags writes of the keys of this one."""
-        other = self._other(other)
-        keys, counts = _read(*self._sizes(), 1, lambda *places: call(self._at(), other._at(), *places))
-        return self._decoded(keys, counts)
-
-    # ---- JSON
-
-    def to_json(self) -> str:
-        """Returns the bag as JSON: a list of [key, count], keys in ascending order by their bytes.
-
-        A bag with a limit is an object with the members `limit` and `pairs`. A key that isn't UTF-8 is a list of its bytes.
+        >>> HashBag("ab") + HashBag("bc")
+        HashBag({'b': 2, 'a': 1, 'c': 1})
         """
-        n, size = self._sizes()
-        places, code, needed = size + 32 * n + 64, 23, ctypes.c_size_t(0)
-        while code == 23:
-            text = bytearray(places)
-            at = ctypes.addressof(ctypes.c_char.from_buffer(text))
-            code = _library.hashbag_texts_to_json(self._at(), at, places, ctypes.addressof(needed))
-            places = needed.value
-        _done(code)
-        return bytes(memoryview(text)[:places]).decode()
+        return _made(self, other, _Bag._merge)
 
-    @classmethod
-    def from_json(cls, text: str | bytes, *, limit: int = NO_LIMIT, decode: Callable[[bytes], Any] | None = bytes.decode) -> HashBag[Any]:
-        """Returns the bag that a text is, as `to_json` writes it; spaces are allowed, and equal keys add up.
+    def __sub__(self, other):
+        """The differences of the counts, where they are above 0.
 
-        Its limit is the lesser of `limit` and the text's.
-        Raises JsonError if the text isn't that of a bag. A key that is a list of bytes that aren't UTF-8 can be read only with `decode=None`.
+        >>> HashBag("aab") - HashBag("abb")
+        HashBag({'a': 1})
         """
-        made: HashBag[Any] = cls(decode=decode)
-        raw, place = str.encode(text) if isinstance(text, str) else _exactly(text), ctypes.c_size_t(0)
-        keys = secrets.randbits(64), secrets.randbits(64)
-        code = _library.hashbag_texts_from_json_keyed(made._at(), _count(limit), *keys, raw, len(raw), ctypes.addressof(place))
-        if code == 1:
-            raise MemoryError
-        if code:
-            raise JsonError(code, place.value)
+        return _made(self, other, _Bag._less)
+
+    def __or__(self, other):
+        """The greater of the counts.
+
+        >>> HashBag("aab") | HashBag("abb")
+        HashBag({'a': 2, 'b': 2})
+        """
+        return _made(self, other, _Bag._most_of)
+
+    def __and__(self, other):
+        """The lesser of the counts.
+
+        >>> HashBag("aab") & HashBag("abb")
+        HashBag({'a': 1, 'b': 1})
+        """
+        return _made(self, other, _Bag._keep)
+
+    def __radd__(self, other):
+        other = _as_bag(other)
+        return NotImplemented if other is None else other + self
+
+    def __rsub__(self, other):
+        other = _as_bag(other)
+        return NotImplemented if other is None else other - self
+
+    def __rand__(self, other):
+        other = _as_bag(other)
+        return NotImplemented if other is None else other & self
+
+    def __ror__(self, other):
+        other = _as_bag(other)
+        return NotImplemented if other is None else other | self
+
+    def __iadd__(self, other):
+        self.update(_counted(other))
+        return self
+
+    def __isub__(self, other):
+        self.subtract(_counted(other))
+        return self
+
+    def __ior__(self, other):
+        self._most_of(_sure_bag(other))
+        return self
+
+    def __iand__(self, other):
+        self._keep(_sure_bag(other))
+        return self
+
+    def __pos__(self):
+        made = HashBag()
+        made._merge(self)
         return made
 
-    def __repr__(self) -> str:
-        shown = ", ".join(f"{key!r}: {n}" for key, n in self.most_common(10))
-        return f"HashBag({{{shown}{', ..' if len(self) > 10 else ''}}})"
+    # ---- joins
+
+    def outer_join(self, other):
+        """Gives each key of either bag once, with its count here and there, keys of this bag first.
+
+        >>> list(HashBag("aab").outer_join(HashBag("bc")))
+        [('a', 2, 0), ('b', 1, 1), ('c', 0, 1)]
+        """
+        other = _sure_bag(other)
+        for key, n in list(self.items()):
+            yield key, n, other[key]
+        for key, n in list(other.items()):
+            if key not in self:
+                yield key, 0, n
+
+    def difference(self, other):
+        """Gives each key that this bag has more often than the other, with how many more.
+
+        >>> list(HashBag("aab").difference(HashBag("abb")))
+        [('a', 1)]
+        """
+        return iter((self - other).items())
+
+    def signed_difference(self, other):
+        """Gives each key of either bag once, with its count here less its count there.
+
+        >>> list(HashBag("aab").signed_difference(HashBag("bcc")))
+        [('a', 2), ('b', 0), ('c', -2)]
+        """
+        return ((key, here - there) for key, here, there in self.outer_join(other))
+
+    def not_in(self, other):
+        """Gives each key of this bag that the other lacks, with its count.
+
+        >>> list(HashBag("aab").not_in(HashBag("bc")))
+        [('a', 2)]
+        """
+        return ((key, n) for key, n in list(self.items()) if key not in other)
+
+
+def _restored(kind, limit, keys, counts):
+    made = kind()
+    made.limit = limit
+    made._insert_pairs(zip(keys, counts))
+    return made
+
+
+def _is_bag(other):
+    """Whether it is a bag itself, and not a proxy for one."""
+    return issubclass(type(other), _Bag)
+
+
+def _as_bag(other):
+    """A bag of a dict's, a Counter's or a proxy's counts; None of what is no bag and no dict."""
+    if _is_bag(other):
+        return other
+    if isinstance(other, (dict, _Bag)):
+        made = HashBag()
+        made._insert_pairs(other.items())
+        return made
+    return None
+
+
+def _comparable(other):
+    """The same for `==`, and None also of counts that no bag has: below 0, no integers, or too many."""
+    if _is_bag(other) or not isinstance(other, (dict, _Bag)):
+        return _as_bag(other)
+    pairs, total = [], 0
+    for key, n in other.items():
+        if not hasattr(type(n), "__index__"):
+            return None
+        n = _index(n)
+        total += n
+        if n < 0 or total > NO_LIMIT:
+            return None
+        pairs.append((key, n))
+    made = HashBag()
+    made._insert_pairs(pairs)
+    return made
+
+
+def _sure_bag(other):
+    made = _as_bag(other)
+    if made is None:
+        raise TypeError(f"expected a bag or a mapping to counts, not {type(other).__name__}")
+    return made
+
+
+def _counted(other):
+    return other if isinstance(other, (_Bag, Mapping)) else _sure_bag(other)
+
+
+def _made(left, right, call):
+    right = _as_bag(right)
+    if right is None:
+        return NotImplemented
+    made = HashBag()
+    made.limit = left.limit
+    made._merge(left)
+    call(made, right)
+    return made
+
+
+MutableMapping.register(HashBag)

@@ -1,8 +1,9 @@
-//! Times the crate of bindings/rust, the original crate, and std's `HashMap<T, usize>` with a total, in turns, under one hash: ns of processor time for
-//! each value, and the ratios. `peers SIZE..`, or at 1,000, 10,000, 80,000, 100,000 and a million. A bag of 100,000 is in a carry.
+//! Times the crate of bindings/rust, the original crate, and std's `HashMap<T, usize>` with a total, in turns, under one hash: ns of processor time
+//! for each value, and the ratios. `peers [SIZE..] [WORK..]`; else at 1,000, 10,000, 80,000, 100,000 and a million, and all works. A bag of 100,000
+//! is in a carry.
 //!
-//! Each loop is a function of its own, so that no loop's registers depend on the others. Turns are short and close together: on a busy machine
-//! neighbours in time are alike. What is printed are medians, the ratios those of neighbours.
+//! Each loop is a function of its own, so that no loop's registers depend on the others. What is printed is the least of many short turns: other work
+//! on the machine can only add to it.
 use std::collections::HashMap;
 use std::hash::{BuildHasher, BuildHasherDefault, Hash, Hasher};
 use std::hint::black_box;
@@ -280,48 +281,51 @@ works!(ours, hashbag);
 works!(theirs, original);
 works!(of_map, map);
 
-fn median(mut list: Vec<f64>) -> f64 {
-    list.sort_by(f64::total_cmp);
-    list[list.len() / 2]
-}
-
 /// Times a work in turns, and prints a line.
 fn compare(work: usize, n: usize, ours: &mut ours::All, theirs: &mut theirs::All, of_map: &mut of_map::All) {
-    let (times, turns) = ((40_000 / n).max(1), if n > 200_000 { 9 } else { 41 });
-    let turns = if WORKS[work] == "slowest insertion" { 5 } else { turns };
+    let (times, turns) = ((20_000 / n).max(1), if n > 200_000 { 15 } else { 101 });
+    let turns = if WORKS[work] == "slowest insertion" { 15 } else { turns };
     let values = match WORKS[work] {
         "words" => WORDS,
         "slowest insertion" => 1,
         _ => n,
     };
-    let mut all: Vec<[f64; 3]> = vec![];
+    let mut least = [f64::INFINITY; 3];
     for turn in 0..turns {
-        let mut taken = [0.0; 3];
         for i in 0..3 {
             let which = (turn + i) % 3;
-            taken[which] = match which {
+            let taken = match which {
                 0 => ours.run(work, times),
                 1 => theirs.run(work, times),
                 _ => of_map.run(work, times),
-            } / values as f64;
+            };
+            least[which] = least[which].min(taken / values as f64);
         }
-        all.push(taken);
     }
-    let of = |f: fn(&[f64; 3]) -> f64| median(all.iter().map(f).collect());
-    let (ns, original, map) = (of(|t| t[0]), of(|t| t[0] / t[1]), of(|t| t[0] / t[2]));
-    println!("{n:>8} {:18} {ns:>12.2} ns  {original:6.2} of the original's  {map:6.2} of the map's", WORKS[work]);
+    let [ns, original, map] = least;
+    let (of_original, of_map) = (ns / original, ns / map);
+    println!("{n:>8} {:18} {ns:>12.2} ns  {of_original:6.2} of the original's  {of_map:6.2} of the map's", WORKS[work]);
 }
 
 fn main() {
-    let mut sizes: Vec<usize> = std::env::args().skip(1).map(|word| word.parse().expect("a size")).collect();
+    let (mut sizes, mut works) = (vec![], vec![]);
+    for word in std::env::args().skip(1) {
+        match word.parse::<usize>() {
+            Ok(size) => sizes.push(size),
+            Err(_) => works.push(WORKS.iter().position(|it| *it == word).expect("a size, or a work")),
+        }
+    }
     if sizes.is_empty() {
         sizes = vec![1_000, 10_000, 80_000, 100_000, 1_000_000];
+    }
+    if works.is_empty() {
+        works = (0..WORKS.len()).collect();
     }
     for n in sizes {
         let given = Given::new(n);
         let (mut ours, mut theirs, mut of_map) = (ours::All::new(&given), theirs::All::new(&given), of_map::All::new(&given));
-        for work in 0..WORKS.len() {
-            compare(work, n, &mut ours, &mut theirs, &mut of_map);
+        for work in &works {
+            compare(*work, n, &mut ours, &mut theirs, &mut of_map);
         }
     }
 }
