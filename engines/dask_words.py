@@ -2,7 +2,7 @@
 """dask_words.py SCHEDULER OUTPUT FILE.. [-- WORD..]: counts files of text on the workers of a Dask scheduler.
 
 Each block of a file, which ends at a line end, is counted by `hashbag_words WORD..`, and the counts are merged as a tree by
-`hashbag_words merge --sorted`. A task writes its counts into the folder OUTPUT.parts as a whole or not at all, under a name that its block
+`sort` and `hashbag_words merge --sorted`. A task writes its counts into the folder OUTPUT.parts as a whole or not at all, under a name that its block
 decides. So a task that runs again, since its worker was lost or failed, writes the same file again. At the end OUTPUT has all counts, and
 the folder is removed.
 
@@ -50,8 +50,11 @@ def count_block(program, words, file, start, end, output):
 
 
 def merge_files(program, files, output):
-    """Merges files of counts, whose tokens rise, into `output`."""
-    subprocess.run([program, "merge", "--sorted", *files, "-o", output], check=True)
+    """Adds up files of counts into `output`."""
+    rows = f"{output}.{os.uname().nodename}.{os.getpid()}"
+    subprocess.run(["sort", "-o", rows, "/dev/null", *files], check=True, env={**os.environ, "LC_ALL": "C"})
+    subprocess.run([program, "merge", "--sorted", rows, "-o", output], check=True)
+    os.remove(rows)
     return output
 
 

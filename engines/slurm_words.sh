@@ -3,8 +3,8 @@
 #
 # An array of TASKS tasks: each counts its part of the text, which ends at a line end, by `hashbag_words WORD..` into a new folder, OUTPUT.parts. and
 # six letters. A task writes its counts as a whole or not at all. So a task that is requeued writes the same file again. A job that waits for all
-# of them merges the files 1 to TASKS into OUTPUT and removes the folder. Prints the number of that job. If a task fails, the folder stays, for its
-# logs; no later run reads it.
+# of them sorts the files 1 to TASKS, adds up the sorted rows into OUTPUT and removes the folder. Prints the number of that job. If a task fails, the
+# folder stays, for its logs; no later run reads it.
 #
 # All nodes see TEXT and the folder of OUTPUT by the same names, and have `hashbag_words` on their PATH, or where HASHBAG_WORDS says.
 set -eu
@@ -26,6 +26,7 @@ sbatch --parsable --requeue --dependency="afterok:$array" --kill-on-invalid-dep=
 set -euo pipefail
 files=()
 for ((task = 1; task <= $tasks; task++)); do files+=($(printf '%q' "$parts")/"\$task".tsv); done
-$(printf '%q' "$program") merge --sorted "\${files[@]}" -o $(printf '%q' "$output")
+LC_ALL=C sort -T $(printf '%q' "$parts") -o $(printf '%q' "$parts")/sorted "\${files[@]}"
+$(printf '%q' "$program") merge --sorted $(printf '%q' "$parts")/sorted -o $(printf '%q' "$output")
 rm -rf $(printf '%q' "$parts")
 JOB

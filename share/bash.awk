@@ -1,4 +1,4 @@
-# awk -v name=NAME -f share/records.awk -f share/bash.awk: writes the completions of a program for bash, from the records of help.awk.
+# awk -v name=NAME -f share/records.awk -f share/bash.awk: writes the completions of a program for bash, from the records of paragraphs.awk.
 
 # A word of a script, without quotes if it needs none.
 function word(text) {
@@ -50,7 +50,7 @@ function print_words(i) {
 }
 
 END {
-  print "# Completions of " name " for bash. `bash install` made them from its --help."
+  print "# Completions of " name " for bash. `bash install` made them."
   print "_" name "() {"
   print "  local word=${COMP_WORDS[COMP_CWORD]} before=${COMP_WORDS[COMP_CWORD - 1]} command='' value values=()"
   print "  # `--to=json` is three words."

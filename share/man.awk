@@ -1,5 +1,6 @@
-# awk -v name=NAME -v page=COMMAND -v version=V -v date=D -v others=NAMES -f share/records.awk -f share/roff.awk -f share/man.awk: writes the manual page
-# of a program (COMMAND is empty) or of one of its commands, in roff, from the records of help.awk. OTHERS are the programs that it names at the end.
+# awk -v name=NAME -v page=COMMAND -v version=V -v date=D -v others=NAMES -f share/records.awk -f share/roff.awk -f share/man.awk: writes the manual
+# page of a program (COMMAND is empty) or of one of its commands, in roff, from the records of paragraphs.awk. OTHERS are the programs that it names
+# at its end.
 
 # A word of a usage: a name that is to be replaced is italic, any other bold; brackets and dots are neither.
 function styled(word, before, after) {

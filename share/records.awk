@@ -1,4 +1,4 @@
-# Read before man.awk, bash.awk and zsh.awk: keeps the records that help.awk writes, and finds those of a command ("": the program).
+# Read before man.awk, bash.awk and zsh.awk: keeps the records of paragraphs.awk, and finds those of a command ("": the program).
 BEGIN { FS = "\t" }
 {
   records++

@@ -1,4 +1,4 @@
-# awk -v name=NAME -f share/records.awk -f share/zsh.awk: writes the completions of a program for zsh, from the records of help.awk.
+# awk -v name=NAME -f share/records.awk -f share/zsh.awk: writes the completions of a program for zsh, from the records of paragraphs.awk.
 
 # What `_arguments` knows of an option under one of its names.
 function spec(i, option, mark, text, value, many, parts, k, list) {
@@ -33,7 +33,7 @@ function print_arguments(command, indent, i, seen) {
 
 END {
   print "#compdef " name
-  print "# Completions of " name " for zsh. `bash install` made them from its --help."
+  print "# Completions of " name " for zsh. `bash install` made them."
   if (!many_commands) {
     print_arguments("", "")
     exit

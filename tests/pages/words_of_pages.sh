@@ -20,7 +20,6 @@ docs/use/LEDGER.md: refuses
 crates/hashbag_ledger_lib/src/ledger/booking.rt: were refused
 crates/hashbag_ledger_lib/src/once.rt: were refused
 crates/hashbag_ledger_lib/src/verifying.rt: is refused
-crates/hashbag_stock/src/writing.rt: are refused
 '
 
 if [ $# = 0 ]; then

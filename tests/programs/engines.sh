@@ -1,9 +1,10 @@
 #!/usr/bin/env bash
-# bash tests/programs/engines.sh [PROGRAM]: counts a text by `engines/slurm_words.sh`, over the program `hashbag_words` and a stand-in for `sbatch`.
-# Runs that failed come before good ones, also of more tasks. Other programs count the text. The program is proved and compiled first, unless it is
-# named. The last line is 'engines: ok' or says what is wrong.
+# bash tests/programs/engines.sh [PROGRAM]: counts a text by `engines/slurm_words.sh` and `engines/dask_words.py`, over the program `hashbag_words` and
+# stand-ins for `sbatch` and for the module `distributed`. Runs that failed come before good ones, also of more tasks. Other programs count the text.
+# The program is proved and compiled first, unless it is named. The last line is 'engines: ok' or says what is wrong.
 . "$(dirname "$0")/lib.sh"
-script=$(cd "$(dirname "$0")/../../engines" && pwd)/slurm_words.sh || exit 1
+engines=$(cd "$(dirname "$0")/../../engines" && pwd) || exit 1
+script=$engines/slurm_words.sh
 begin hashbag_words "$@"
 
 # `sbatch` as far as the script uses it: runs the job, or each task of its array in turn, and prints the number of the job: ten times as many as its
@@ -74,5 +75,50 @@ LOST=2 counts 1 4 "a part that isn't there"
 : > text
 counts 0 3 "a text without a line"
 is_counted "a text without a line"
-folders 2 "at the end"
+folders 2 "at the end of Slurm"
+
+# `distributed` as far as the script uses it: a task runs at once, and each third one twice, as if its worker had been lost at the end
+mkdir ../modules
+cat > ../modules/distributed.py << 'END'
+class Future:
+    def __init__(self, value):
+        self.value = value
+
+    def result(self):
+        return self.value
+
+
+def value_of(given):
+    if isinstance(given, list):
+        return [value_of(one) for one in given]
+    return given.result() if isinstance(given, Future) else given
+
+
+class Client:
+    def __init__(self, scheduler):
+        assert scheduler == "tcp://127.0.0.1:8786"
+        self.tasks = 0
+
+    def submit(self, function, *given, retries, pure):
+        assert retries > 0 and not pure
+        self.tasks += 1
+        given = [value_of(one) for one in given]
+        if self.tasks % 3 == 0:
+            function(*given)
+        return Future(function(*given))
+
+    def close(self):
+        pass
+END
+dask() { PYTHONPATH=$scratch/modules BLOCK=$1 FAN=$2 python3 "$engines/dask_words.py" tcp://127.0.0.1:8786 counts.tsv text > ../dask 2>&1; }
+awk 'BEGIN { for (i = 0; i < 4000; i++) { for (j = 0; j < 6; j++) printf "w%d ", (i * i + 7 * j) % 1000; print "" } }' > text
+for how in "10000 3" "1000000 16" "5000 16"; do
+  dask $how || { cat ../dask; fail "dask_words.py: status $?: $how"; }
+  is_counted "Dask: $how"
+done
+{ head -n 1500 text; printf 'M\374he\n'; tail -n +1501 text; } > bad && mv bad text
+! dask 10000 3 && [ ! -e counts.tsv ] || fail "Dask: a failed run wrote its output"
+: > text
+dask 10000 3 || fail "Dask: a text without a line"
+is_counted "Dask: a text without a line"
 echo "engines: ok"

@@ -44,7 +44,7 @@ files() {
   [ "$(cd "$folder" && echo *)" = "$*" ] || fail "not the files $* of $folder: $(ls -A "$folder")"
 }
 
-# stand_in NAME: a program that prints the file of `helps` with its name as its help, and those of its commands
+# stand_in NAME: a program that prints the file of `helps` with its name as its help, and those of its commands, if there is one
 stand_in() {
   cat > "$scratch/copy/crates/$1/out/$1" << END
 #!/bin/sh
@@ -83,6 +83,9 @@ mkdir "$scratch/copy/crates/hashbag_shell/proofs"
 cp "$top/crates/hashbag_shell/src/lib.rt" "$scratch/copy/crates/hashbag_shell/src/lib.rt"
 cp -r "$top/share" "$scratch/copy"
 cp -r "$top/tests/programs/installed/help" "$scratch/helps"
+for crate in hashbag_words_lib hashbag_match; do
+  cp "$top/tests/programs/installed/table/$crate.rs" "$scratch/copy/crates/$crate/src/options.rt"
+done
 find "$scratch/copy" -exec touch -d 2026-01-01 {} +
 for name in $programs; do stand_in "$name"; done
 # hashbag_run says nothing of itself: a page does.
@@ -130,7 +133,7 @@ offers "chair leg" hashbag_words text c
 offers "chair leg" hashbag_words count c
 offers "-h --help -V --version --by -o --output -n --top" hashbag_words -
 offers "--by -o --output -h --help -n --top" hashbag_words count -
-offers "--fold" hashbag_words merge --
+offers "--fold --help" hashbag_words merge --
 offers "--output" hashbag_words --o
 offers "word line" hashbag_words --by ""
 offers "line" hashbag_words count --by l
@@ -142,7 +145,8 @@ offers "" hashbag_words merge --by
 offers ". \\, tab \\\\t" hashbag_ledger --mark ""
 offers "enter" hashbag_ledger e
 offers "chair leg" hashbag_ledger undo --db ""
-offers "--to -h --help" hashbag_match -
+offers "--to --mark -h --help -V --version" hashbag_match -
+offers ". \\\\ \\  \\\\t" hashbag_match --mark ""
 offers "chair leg" hashbag_run c
 cd ..
 grep -qF "$scratch/a prefix/bin is not on your PATH" out || fail "nothing said of PATH"
@@ -185,18 +189,23 @@ ends 1 "install: hashbag_ledger  --help failed" other && proved
 [ -z "$(find other -type f)" ] || fail "files after a program that fails"
 stand_in hashbag_ledger
 
-# A help that isn't one of the program, or of a command that it names
-sed -i 's/^Usage: hashbag_match /Usage: match /' helps/hashbag_match
-ends 1 "install: the help of hashbag_match has no usage of it" other && proved
-cp "$top/tests/programs/installed/help/hashbag_match" helps
+# A help that isn't one of the command; and a table with a line that can't be read
 cp helps/hashbag_ledger-undo helps/hashbag_ledger-enter
 ends 1 "install: the help of hashbag_ledger enter has no usage of it" other && proved
-[ -z "$(find other -type f)" ] || fail "files after a help that can't be read"
 cp "$top/tests/programs/installed/help/hashbag_ledger-enter" helps
+for edit in 's/| of x y/| off x y/ no note' 's/| A form |/| A form | not --tu |/ no such name' 's/"A.csv/"@ a/ no job' 's/ | A list// no help'; do
+  sed -i "${edit% no *}" copy/crates/hashbag_match/src/options.rt
+  touch copy/crates/hashbag_match/out/hashbag_match
+  ends 1 "no ${edit##* no }: " other && proved
+  grep -q "^install: the table of hashbag_match can't be read" err || { cat err; fail "a table is read: $edit"; }
+  cp "$top/tests/programs/installed/table/hashbag_match.rs" copy/crates/hashbag_match/src/options.rt
+done
+touch copy/crates/*/out/hashbag_match
+[ -z "$(find other -type f)" ] || fail "files after a table that can't be read"
 
 # No page of hashbag_run
 mv copy/docs/use/hashbag_run.txt page
-ends 1 "install: docs/use/hashbag_run.txt can't be read" other && proved
+ends 1 "install: the table of hashbag_run can't be read" other && proved
 [ -z "$(find other -type f)" ] || fail "files without a page"
 mv page copy/docs/use/hashbag_run.txt
 
@@ -265,10 +274,10 @@ if [ "${1-}" = built ]; then
   jobs="balance batches close count enter history put show take undo verify"
   # shellcheck disable=SC2046,SC2086
   files real/share/man/man1 $(printf 'hashbag_ledger-%s.1 ' $jobs) hashbag_ledger.1 hashbag_match.1 hashbag_run.1 \
-    hashbag_words-{common,count,less,merge}.1 hashbag_words.1
+    hashbag_words-{common,count,less,merge,tokens}.1 hashbag_words.1
   for name in $programs; do holds "$name"; done
   for name in $jobs; do holds hashbag_ledger "$name"; done
-  for name in common count less merge; do holds hashbag_words "$name"; done
+  for name in common count less merge tokens; do holds hashbag_words "$name"; done
   # The examples of share/examples run, in turn.
   cd at && cp "$top"/crates/hashbag_ledger/data/* .
   printf 'cat\t1\n' | tee monday.tsv > tuesday.tsv
@@ -297,6 +306,6 @@ if [ "${1-}" = built ]; then
   offers "table csv json" hashbag_match --to ""
   offers "enter" hashbag_ledger en
   offers "--files-from" hashbag_words --fil
-  offers "json" hashbag_words merge --from j
+  offers "uniq" hashbag_words merge --from u
 fi
 echo "install: ok"

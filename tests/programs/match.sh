@@ -129,7 +129,7 @@ ends 2 'hashbag_match: empty.txt:1: no header' empty.txt list.txt
 ends 2 'hashbag_match: pairs.csv:1: no column `3`; there are: `1`, `2`' pairs.csv pairs.csv --no-header --key 3
 ends 2 'hashbag_match: pairs.csv:1: no column `article`; there are: `1`, `2`' pairs.csv pairs.csv --no-header --key article --each-line
 printf 'bolt,8\nnut\nnail,"x\n' > short.txt
-ends 2 'hashbag_match: short.txt:2: 2 fields wanted, 1 found; `--allow-short` reads missing fields as empty'$'\n''hashbag_match: short.txt:3: quote never closed' short.txt pairs.csv --no-header
+ends 2 'hashbag_match: short.txt:2: 2 fields wanted, 1 found'$'\n''hashbag_match: short.txt:3: quote never closed' short.txt pairs.csv --no-header
 ends 1 "" list.txt pairs.csv --each-line --no-header --only missing --to csv
 rm list.txt headed.txt other.txt places.csv pairs.csv empty.txt short.txt
 
@@ -143,21 +143,16 @@ has ../out '[]\n' "empty numbers at a scale"
 ends 2 $'hashbag_match: blank.csv:2: no number: ``; `--blank-is-zero` reads it as 0\nhashbag_match: blank.csv:3: no number: ``; `--blank-is-zero` reads it as 0' blank.csv blank.csv
 ends 2 'hashbag_match: space.csv:2: no number: ` `' blank.csv space.csv --blank-is-zero
 
-# Fields that are missing at the end of a record are empty, if that is asked for; more fields than the header has are a bad line
+# A record with fewer or more fields than the header is a bad line
 printf 'article,number,note\nnut,1\nbolt\n' > short.csv
 printf 'article,number,note\nnut,1,x,y\n' > long.csv
-ends 0 "" short.csv short.csv --allow-short --blank-is-zero --to csv
-has ../out 'article,ordered,delivered,missing,surplus\nbolt,0,0,0,0\nnut,1,1,0,0\n' "short records"
-ends 2 $'hashbag_match: short.csv:2: 3 fields wanted, 2 found; `--allow-short` reads missing fields as empty\nhashbag_match: short.csv:3: 3 fields wanted, 1 found; `--allow-short` reads missing fields as empty' short.csv short.csv --blank-is-zero
-ends 2 'hashbag_match: short.csv:3: no number: ``; `--blank-is-zero` reads it as 0' short.csv short.csv --allow-short
-ends 2 'hashbag_match: long.csv:2: 3 fields wanted, 4 found' short.csv long.csv --allow-short --blank-is-zero
-ends 0 "" short.csv short.csv --allow-short --each-line --key note --to csv
-has ../out 'note,ordered,delivered,missing,surplus\n,2,2,0,0\n' "missing key fields"
+ends 2 $'hashbag_match: short.csv:2: 3 fields wanted, 2 found\nhashbag_match: short.csv:3: 3 fields wanted, 1 found' short.csv short.csv --blank-is-zero
+ends 2 'hashbag_match: long.csv:2: 3 fields wanted, 4 found' long.csv long.csv --each-line
 
 # All bad lines are named, up to as many as are asked for, of the first file that has one; a total that is too large is named alone
 printf 'article,number\nbolt,x\nnut,1\ntube\nbolt,2,3\n"pin" b,1\nnut,-1\n' > bads.csv
 line2='hashbag_match: bads.csv:2: no number: `x`'
-line4='hashbag_match: bads.csv:4: 2 fields wanted, 1 found; `--allow-short` reads missing fields as empty'
+line4='hashbag_match: bads.csv:4: 2 fields wanted, 1 found'
 line5='hashbag_match: bads.csv:5: 2 fields wanted, 3 found'
 line6='hashbag_match: bads.csv:6: text after a closing quote'
 line7='hashbag_match: bads.csv:7: no number: `-1`'
@@ -316,7 +311,7 @@ for option in --version -V; do
 done
 ends 0 "" --help
 for heading in Columns: 'Numbers and fields:' Output:; do grep -qx "$heading" ../out || fail "no heading $heading in the help"; done
-for name in --key --number --delivered-key --delivered-number --each-line --no-header --blank-is-zero --group-mark --allow-short --trim --fold --delimiter --scale --mark --delivered-delimiter --delivered-mark --encoding --delivered-encoding --only --to --carry --max-errors --progress --quiet --output; do
+for name in --key --number --delivered-key --delivered-number --each-line --no-header --blank-is-zero --group-mark --trim --fold --delimiter --scale --mark --delivered-delimiter --delivered-mark --encoding --delivered-encoding --only --to --carry --max-errors --progress --quiet --output; do
   grep -q -e "$name" ../out || fail "no $name in the help"
 done
 echo "match: ok"

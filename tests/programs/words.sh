@@ -51,10 +51,9 @@ ls -d parts/* | "$program" --files-from - > found && is found wanted "files of t
 find parts -type f -print0 | "$program" --null --files-from - > found && is found wanted "files of text from names that end in NUL bytes"
 
 # mapper, sort by key, combiner on each half, sort, reducer
-for part in parts/*; do "$program" --unsorted "$part"; done | sort -k1,1 > mapped
-split -n l/2 mapped half. && for half in half.??; do "$program" merge --unsorted "$half"; done | sort -k1,1 | "$program" merge > reduced
+for part in parts/*; do "$program" "$part"; done | sort -k1,1 > mapped
+split -n l/2 mapped half. && for half in half.??; do "$program" merge "$half"; done | sort -k1,1 | "$program" merge > reduced
 is reduced wanted "mapper, sort, combiner, sort, reducer"
-"$program" --to json text | "$program" merge --from json > merged && is merged wanted "a tree, read again"
 "$program" --to uniq --by lines parts/aa > found && sort parts/aa | uniq -c > sorted && is found sorted "the form of uniq"
 "$program" merge --from uniq found sorted > merged && sort parts/aa | uniq -c | awk '{ n = 2 * $1; sub(/^ *[0-9]* /, ""); print $0 "\t" n }' > doubled
 is merged doubled "what uniq -c writes, read"
@@ -107,7 +106,6 @@ done
 printf 'a\nb \377\n' > bytes && ends 2 "hashbag_words: bytes:2: $not_utf8" --encoding UTF-8 bytes && ends 2 "hashbag_words: bytes:2: $not_utf8" --encoding UTF-8 text bytes
 printf 'a\tb\0\n' > bytes && ends 0 "hashbag_words: bytes: it has NUL bytes; if it is UTF-16, \`--encoding UTF-16LE\` reads it" --encoding Latin-1 bytes
 shows whole "a text in UTF-8 by name" --encoding UTF-8 text
-iconv -t UTF-16LE text > wide && shows whole "UTF-16 in a bound of memory" --encoding UTF-16LE --memory 1K wide
 : > empty && for name in UTF-16 UTF-16LE Latin-1; do shows empty "an empty text in $name" --encoding $name empty; done
 printf 'a\0\n\0b\0' > wide.txt
 ends 2 "hashbag_words: wide.txt:1: not UTF-16: no byte order mark; UTF-16LE and UTF-16BE need none" --encoding UTF-16 wide.txt
@@ -138,8 +136,8 @@ shows shown "the file of --except is UTF-8" --encoding UTF-16LE --except list.tx
 seq 100000 299999 | awk '{ print $1 "\t" 2 }' > long.tsv
 "$program" merge long.tsv long.tsv | awk '{ s += $2 } END { print NR, s }' > found && echo 200000 800000 > sum && is found sum "a long file of counts"
 seq 100000 299999 | "$program" --by lines | awk '{ s += $2 } END { print NR, s }' > found && echo 200000 200000 > sum && is found sum "a long text"
-"$program" --to json text > text.json && "$program" merge --from json text.json text.json > merged && awk '{ print $1 "\t" 2 * $2 }' wanted > doubled
-is merged doubled "two trees"
+awk '{ print $1 "\t" 2 * $2 }' wanted > doubled && "$program" merge wanted wanted > merged && is merged doubled "two files of counts"
+python3 -c 'import json, sys; print(json.dumps([[row[0], int(row[1])] for row in (line.split() for line in open("wanted"))], separators=(",", ":")))' > shown && shows shown "a tree" --to json text
 
 # rows are in the order of the tokens; join wants that of the lines
 printf 'a\tb\na b\na b\n' > tabs && "$program" --by lines tabs > found && printf 'a\\tb\t1\na b\t2\n' > shown && is found shown "tokens with a tab"
@@ -210,14 +208,14 @@ ends 2 "hashbag_words: bad.txt:1: $not_utf8" bad.txt
 # folders: all files in them, in the order of their paths, but no hidden ones and no links
 mkdir -p tree/b/c tree/.hidden tree/b-c tree/empty && cp parts/aa tree/b/c/one && cp parts/ab tree/b-c/two && cp parts/ac tree/three && cp parts/ad 'tree/b/ four'
 cp text tree/.hidden/text && cp text tree/b/.text && ln -s ../text tree/link && ln -s ../parts tree/links && mkfifo tree/pipe
-for how in "" "--memory 1K"; do shows wanted "a folder: $how" $how -r tree && shows wanted "a folder: $how" $how --recursive tree/; done
+shows wanted "a folder" -r tree && shows wanted "a folder" --recursive tree/
 counted parts/a[abc] > shown && shows shown "folders and a file" -r tree/b/c tree/b-c tree/three
 counted parts/a[abd] > shown && shows shown "a folder and standard input" -r tree/b - < parts/ab
 counted parts/a[ad] > shown && (cd tree/b && "$program" -r < /dev/null) > found || fail "no status 0 in a folder"
 is found shown "the folder that it runs in"
 shows wanted "a hidden folder that is named" -r tree/.hidden && ln -s parts named && shows wanted "a link to a folder that is named" -r named
 printf 'tree/b\ntree/three\ntree/b-c\n' > list && shows wanted "folders from a list" -r --files-from list
-shows wanted "a folder of counts" merge -r counts && shows wanted "a folder of counts, sorted" merge --sorted -r counts
+shows wanted "a folder of counts" merge -r counts
 shows /dev/null "an empty folder" -r tree/empty
 cp bad.txt tree/b/c/zz && cp bad.txt tree/b-c/bad && cp bad.txt tree/bad
 ends 2 "hashbag_words: tree/b-c/bad:1: $not_utf8" -r tree && rm tree/b-c/bad
@@ -226,11 +224,11 @@ ends 2 "hashbag_words: tree/bad:1: $not_utf8" -r tree && rm tree/bad
 cp parts/ad kept && cp -r tree trees && ends 2 "hashbag_words: trees/three: the output is one of the inputs" -r trees -o trees/three
 ends 2 "hashbag_words: --except: trees/three: it is one of the inputs" -r trees --except trees/three
 printf 'text\ntree\n' > list
-for how in "tree" "text tree -o none/out" "--memory 1K --encoding UTF-16 tree/" "--files-from list" "merge whole tree" "merge --sorted tree" "merge --from json tree"; do
+for how in "tree" "text tree -o none/out" "--encoding UTF-16 tree/" "--files-from list" "merge whole tree"; do
   case $how in *tree/) folder=tree/ ;; *) folder=tree ;; esac
   ends 4 "hashbag_words: $folder: a folder; \`-r\` reads the files in it" $how && [ ! -s out ] || fail "an output of a folder: $how"
 done
-for how in "less tree whole" "common whole tree -o none/out"; do ends 4 "hashbag_words: tree: a folder" $how; done
+for how in "less tree whole" "common whole tree -o none/out" "merge --sorted tree"; do ends 4 "hashbag_words: tree: a folder" $how; done
 "$program" -r no_such_folder > out 2> err
 [ $? = 4 ] && [ ! -s out ] && grep -q '^hashbag_words: no_such_folder: ' err || fail "no name of a folder"
 "$program" less -r tree tree > out 2> err
@@ -252,17 +250,7 @@ printf 'dog\t3\ncat\t1' > cut.tsv
 ends 2 "hashbag_words: cut.tsv:2: no line feed" merge cut.tsv
 ends 0 "hashbag_words: cut.tsv: 1 bad line skipped" merge --skip-bad cut.tsv
 printf '\357\273\277cat\t1\ncat\t2\n' > marked.tsv && "$program" merge marked.tsv > found && printf 'cat\t3\n' > shown && is found shown "a byte order mark"
-printf '[["a",18446744073709551615],["b",1]]' > many.json
-printf '{"limit":5,"pairs":[["a",9]]}' > limited.json
-ends 5 "hashbag_words: limited.json: total past its limit, 5" merge --from json limited.json
-printf '{"limit":18446744073709551615,"pairs":[["a",18446744073709551615],["b",1]]}' > most.json
-ends 5 "hashbag_words: most.json: total past 2^64-1" merge --from json most.json
-printf '["a\377"]' > bad.json
-ends 5 "hashbag_words: many.json: total past 2^64-1" merge --from json many.json
 ends 2 "hashbag_words: an argument is not UTF-8" $'\377'
-"$program" merge --from json bad.json > out 2> err
-[ $? = 2 ] || fail "no status 2 for JSON that isn't UTF-8"
-grep -q '^hashbag_words: bad.json: ' err || fail "no name of the JSON"
 awk '$2 >= 100' wanted > some && [ -s some ] && "$program" --least 100 text > found && is found some "counts from the least on"
 "$program" --pattern '[0-9]+' text > found && sed 's/^w//' wanted | sort > numbers && is found numbers "matches of a pattern"
 # groups of a pattern: of each match what Python's has in the group, if it took part
@@ -278,7 +266,7 @@ found = [m.group(group) for line in open("pairs", encoding="utf-8") for m in pat
 for token, count in sorted(collections.Counter(t for t in found if t).items(), key=lambda row: row[0].encode()):
     print(token, count, sep="\t")
 END
-  for how in "" "--memory 1K"; do shows shown "group $group: $how" $how --pattern '([a-zä]*)=(?:([0-9é]+)|( ))?' --group $group pairs; done
+  shows shown "group $group" --pattern '([a-zä]*)=(?:([0-9é]+)|( ))?' --group $group pairs
 done
 sed 's/^w//' wanted | sort > numbers && shows numbers "a group of each match" --pattern 'w([0-9]+)' --group 1 text
 printf 'A b\na C\n' > cases && printf 'a\t2\n' > shown && shows shown "a group, folded" --fold --pattern '([aA]) ?' --group 1 cases
@@ -320,7 +308,7 @@ printf 'b;A\nA;a\n' > fields && printf 'a\t2\n' > shown && shows shown "short op
 printf 'A\t2\n' > shown && shows shown "short options" -e '[A-Z]' fields
 printf 'fields\0' | "$program" -q -0 -b lines --files-from - > found && printf 'A;a\t1\nb;A\t1\n' > shown && is found shown "short options"
 "$program" --help > out || fail "no help"
-"$program" count --help > out && for heading in 'What is counted:' Inputs: Memory: 'What is shown:' Output:; do grep -qx "$heading" out || fail "no heading $heading in the help"; done
+"$program" count --help > out && for heading in 'What is counted:' Inputs: 'What is shown:' Output:; do grep -qx "$heading" out || fail "no heading $heading in the help"; done
 # progress of what takes longer than two seconds: the bytes and the rate, and of a pipe neither a percent nor the time that is left
 { echo a && sleep 2.5 && echo a; } | "$program" -b lines --progress > out 2> err
 [ "$(tail -n 1 err)" = 'standard input: 0.0 MB, 0.0 MB/s' ] || fail "progress of a pipe"
@@ -331,98 +319,82 @@ for option in --version -V; do
   "$program" $option > out && grep -Eqx 'hashbag_words 0\.1\.13-[0-9]+ \(Unicode [0-9.]+\)' out || fail "no version"
 done
 
-# counts that don't fit in the bound: some hundred runs, and some thousand, which are merged in passes
-seq 1 40000 | awk '{ print "W" ($1 * 7919) % 30011, "w" $1 % 97, "\xc3\x89" $1 % 3 }' > big && printf 'a \357\273\277b\n' >> big && mkdir tmp
-sort big | uniq -c > sorted && shows sorted "lines in a bound, and those of sort" --by lines --to uniq --memory 1K --tmp tmp big
-shows sorted "more than one part of the output" --by lines --to uniq big
+# more than one part of an output
+seq 1 40000 | awk '{ print "W" ($1 * 7919) % 30011, "w" $1 % 97, "\xc3\x89" $1 % 3 }' > big && printf 'a \357\273\277b\n' >> big
+sort big | uniq -c > sorted && shows sorted "more than one part of the output" --by lines --to uniq big
 "$program" --by lines big -o shown && "$program" merge --to uniq shown -o found && is found sorted "outputs of more than one part"
 "$program" big > big.tsv || fail "no status 0"
 # each of these bytes is six of JSON, and one part of the output ends with the whole token
 (head -c 70000 /dev/zero | tr '\0' '\1' && echo && echo a) > wide && "$program" --by lines --to json wide > found
 python3 -c 'import json; print(json.dumps([["\x01" * 70000, 1], ["a", 1]], separators=(",", ":")))' > shown && is found shown "a wide token as JSON"
-for how in "" "--top 7" "--least 400" "--to json" "--by unicode --fold" "--pattern [0-9]+ --top 50" "--least 50000"; do
-  "$program" big $how > shown || fail "no status 0: $how"
-  for size in 1K 100K 1G; do shows shown "a bound of $size: $how" big $how --memory $size --tmp tmp; done
-done
-for how in "" "--top 3 --to uniq"; do
-  "$program" merge big.tsv whole $how > shown || fail "no status 0: $how"
-  for size in 1K 100K; do shows shown "merged in a bound of $size: $how" merge big.tsv whole $how --memory $size --tmp tmp; done
-done
-shows doubled "two trees in a bound" merge --from json --memory 1K text.json text.json
-TMPDIR=tmp "$program" big --unsorted --memory 20k | sort > found && sort big.tsv > shown && is found shown "a bound, in no order"
-"$program" big --memory 20k -o bounded && is bounded big.tsv "a bound, and an output"
-ends 1 "" --memory 1K --fail-empty --least 50000 big
-printf 'a\t18446744073709551614\nb\t1\nc\t1\n' > most.tsv && ends 5 "hashbag_words: most.tsv:3: total past 2^64-1" merge --memory 1 most.tsv
-(seq 20 | awk '{ print "a" $1 "\t1" }' && printf 'a\t18446744073709551595\nb\t1\n') > most.tsv
-ends 5 "hashbag_words: most.tsv:22: total past 2^64-1" merge --memory 1 most.tsv
-(seq 100 && printf 'a \377\n') > bad.txt && cp old kept && ends 2 "hashbag_words: bad.txt:101: $not_utf8" --memory 1 bad.txt -o kept && is kept old "an output after a bad line and some runs"
-for size in x 1.5M -1 K 99999999999999999999 99999999T 18014398509481984K 17592186044416M 17179869184G 16777216T; do ends 2 "hashbag_words: --memory: $size: no size" "--memory=$size" big; done
-# the greatest number of each unit: a unit is 2^10, 2^20, 2^30 or 2^40, and a size less than 2^64
-for size in 18446744073709551615 18014398509481983k 17592186044415m 17179869183g 16777215t; do ends 0 "" "--memory=$size" --tmp none bad.tsv; done
-"$program" --memory 1K --tmp none big > out 2> err
-[ $? = 4 ] && [ ! -s out ] && grep -q '^hashbag_words: none: ' err || fail "no status 4 without the folder of temporary files"
-# eight words take 1,848 bytes, however often they come: 16 slots, and 32 at the next growth, of 33 bytes each, and 8 texts of 32 and 1. No
-# run is made of less than seven eighths of a bound
-awk 'BEGIN { for (i = 0; i < 20000; i++) print "a b c d e f g h" }' > few && printf '%s\t20000\n' a b c d e f g h > shown
-shows shown "few words in a bound" --memory 2200 --tmp none few
-"$program" --memory 2048 --tmp none few > out 2> err
-[ $? = 4 ] && grep -q '^hashbag_words: none: ' err || fail "no run of few words"
-# 2,000 words count as 331,812 bytes at most: at the 769th, three times 2,048 new slots and 1,024 that wait, of 33 bytes each, since there is
-# room for few more, and 32 bytes and a text of 4 for each word. With 4,096 slots there is room for many more, and they count once
-seq 1000 2999 > many_more && sed 's/$/\t1/' many_more > shown && shows shown "words in a bound, with room for more" --memory 400000 --tmp none many_more
-for how in "--memory 1K" "--memory 200K --to json"; do
-  (trap '' XFSZ; ulimit -f 8; exec "$program" $how --tmp tmp big -o kept) > out 2> err
-  [ $? = 4 ] && grep -Eq '^hashbag_words: (tmp|kept): ' err || fail "no status 4 on a disk that is full of runs"
-  is kept old "an output on a disk that is full of runs"
-done
-mkfifo pipe && { "$program" --memory 1K --tmp tmp < pipe > out & } && exec 7> pipe && seq 5000 >&7
-# it has made runs, and waits for more input
-for i in $(seq 300); do
-  ls -l /proc/$!/fd | grep -q 'tmp/hashbag.*(deleted)' && [ "$(cut -d ' ' -f 3 /proc/$!/stat)" = S ] && waits=$((${waits:-0} + 1)) || waits=0
-  [ "$waits" -lt 5 ] || break
-  sleep 0.1
-done
-[ "$waits" = 5 ] || fail "no run"
-# of 312 runs, each of 16 lines, 8 are left of the first kind, 3 of the second and 1 of the third
-[ "$(ls -l /proc/$!/fd | grep -c 'tmp/hashbag.*(deleted)')" = 12 ] || fail "the runs that are open"
-kill -TERM $! && wait $!
-[ $? = 143 ] && exec 7>&- || fail "the status after a signal"
-[ "$(ls -A tmp)$(echo ./*.tmp*)" = './*.tmp*' ] || fail "temporary files of runs are left"
 
-# files whose rows are in ascending order
-shows wanted "sorted files, merged" merge --sorted counts/*.tsv
-seq 100000 299999 | awk '{ print $1 "\t" 4 }' > shown && shows shown "sorted files of many blocks, whose lines go across them" merge --sorted long.tsv long.tsv
-mkdir many && split -n l/70 text many/ && for part in many/*; do "$program" "$part" -o "$part.tsv" && rm "$part"; done
-for how in "" "--top 9" "--least 100" "--to json" "--unsorted"; do
-  "$program" merge $how many/* | sort > shown && "$program" merge --sorted $how many/* | sort > found && is found shown "70 sorted files, merged: $how"
+# tokens, a line each, which sort and uniq count: they are the counts of `count`, also of tokens with a backslash, a tab and a space in front
+printf 'a\\b\n\\\n\\tn\n\ta\n a\n  a\na\n\n\t\n\na\rb\nw1 w2\n5 w1\n\\ta\n  a\n\ta' > odd
+sums() { sort -S 1G | uniq -c | sed -E 's/^ *([0-9]+) (.*)$/\2\t\1/'; }
+for how in "" "--by unicode --fold" "--by lines" "--by lines --fold" "--pattern w([0-9]+) --group 1" "--pattern .+" "--field 2" "--field 2 --delimiter w" "--lossy --skip-bad"; do
+  "$program" tokens $how odd text big | sums > found && "$program" $how odd text big | sort > shown && [ -s shown ] && is found shown "tokens that sort and uniq count: $how"
+  "$program" merge --sorted < found > merged && is merged found "sums of sums: $how" && "$program" merge found | sort > merged && is merged found "sums that are merged: $how"
+  for part in odd text big; do "$program" tokens $how $part | sums > sums.$part; done
+  sort -m sums.odd sums.text sums.big | "$program" merge --sorted > merged && is merged found "sums of parts: $how"
+  "$program" tokens $how -o tokens odd text big && sums < tokens > merged && is merged found "tokens in a file: $how"
 done
-ls -d many/* > list && shows wanted "sorted files from a list" merge --sorted --files-from list
-"$program" merge --sorted counts/aa.tsv - counts/ac.tsv counts/ad.tsv < counts/ab.tsv > found && is found wanted "sorted files and standard input"
-sort parts/aa | uniq -c > lines && shows lines "the form of uniq, sorted" merge --sorted --from uniq --to uniq lines
-printf 'b\t1\na\t2\nc\t3\n' > falls && ends 2 "hashbag_words: falls:2: not in order" merge --sorted whole falls -o kept && is kept old "an output after a row that falls"
-printf 'b\t1\nb\t2\n' > falls && ends 2 "hashbag_words: falls:2: not in order" merge --sorted falls && [ ! -s out ] || fail "an output of a row that falls"
-ends 0 "hashbag_words: falls: 1 bad line skipped" merge --sorted --skip-bad falls && printf 'b\t1\n' > shown && is out shown "a row that falls, skipped"
+# a byte below the tab: the lines of tsv are in another order than the tokens
+printf 'a\na\001\n\001\na\001\n' > low && "$program" --by lines low | sort > shown && "$program" tokens --by lines low | sums | sort | "$program" merge --sorted > found
+is found shown "sums of tokens with a byte below the tab"
+printf ' A b\n\nc\n' > few && printf 'a\nb\nc\n' > shown && shows shown "tokens in order" tokens --fold few && printf 'few\n' > list && shows shown "tokens of files from a list" tokens --fold --files-from list
+printf ' A b\n\nc\n' > shown && shows shown "lines in order" tokens --by lines few && "$program" tokens --by lines < few > found && is found shown "lines of standard input"
+shows /dev/null "no tokens" tokens /dev/null && shows wanted "tokens, counted" --by lines <("$program" tokens text)
+"$program" tokens -r tree | sums > found && is found wanted "tokens of folders"
+iconv -t UTF-16LE few > wide && shows shown "lines in UTF-16" tokens --by lines --encoding UTF-16LE wide
+printf 'a\nb \377\nc\n' > bad.txt && cp old kept && ends 2 "hashbag_words: bad.txt:2: $not_utf8" tokens bad.txt -o kept && is kept old "tokens after a bad line"
+ends 0 "hashbag_words: bad.txt: 1 bad line skipped" tokens --skip-bad bad.txt && printf 'a\nc\n' > shown && is out shown "tokens without a bad line"
+ends 0 "hashbag_words: bad.txt: 1 bad line skipped" --skip-bad bad.txt && printf 'a\t1\nc\t1\n' > shown && is out shown "counts without a bad line"
+ends 0 "hashbag_words: bad.txt: bytes replaced in 1 line" tokens --lossy bad.txt && printf 'a\nb\n\357\277\275\nc\n' > shown && is out shown "tokens with bytes replaced"
+for how in "--column a" "--top 3" "--to json" "--share" "--except few" "--field 0" "--shard 1/2"; do
+  "$program" tokens $how few > out 2> err
+  [ $? = 2 ] && [ ! -s out ] || fail "no status 2: tokens $how"
+done
+for how in "tokens big" "merge --sorted sums.big"; do
+  (trap '' XFSZ; ulimit -f 8; exec "$program" $how -o kept) > out 2> err
+  [ $? = 4 ] && grep -q '^hashbag_words: kept: ' err && is kept old "an output on a full disk: $how" || fail "no name of a full disk: $how"
+  "$program" $how > /dev/full 2> err
+  [ $? = 4 ] && grep -q '^hashbag_words: standard output: ' err || fail "a full disk: $how"
+  { "$program" $how 2> err; } | head -n 1 > out && [ ! -s err ] || fail "a pipe that nobody reads: $how"
+done
+# 60 MB of text, and 20 MB of rows of different tokens, in 40 MB of memory with the program
+yes 'some words of a line that is repeated' | head -c 60000000 > repeated && (ulimit -v 40000; exec "$program" tokens repeated) | tail -n 1 > found
+tail -n 1 repeated | tr ' ' '\n' | tail -n 1 > shown && is found shown "tokens in little memory" && rm repeated
+seq 1000000 2999999 | sed 's/$/\t1/' | (ulimit -v 40000; exec "$program" merge --sorted) | tail -n 1 > found && printf '2999999\t1\n' > shown && is found shown "sums in little memory"
+
+# sums of neighbours in one text, which is in the order of sort
+printf 'a\t1\na\t2\nb\t3\n' > near && printf 'a\t3\nb\t3\n' > shown && shows shown "sums of neighbours" merge --sorted near && "$program" merge --sorted - < near > found && is found shown "sums of standard input"
+printf '[["a",3],["b",3]]\n' > shown && shows shown "sums as JSON" merge --sorted --to json near && printf '      3 a\n      3 b\n' > shown && shows shown "sums as uniq" merge --sorted --to uniq near
+printf '[]\n' > shown && shows shown "no sums as JSON" merge --sorted --to json /dev/null && shows /dev/null "no sums" merge --sorted /dev/null
+printf 'a\t3\n' > shown && printf 'b\n' > stop && shows shown "sums of others" merge --sorted --except stop near && printf 'a\t2\nb\t3\n' > most && printf 'b\t3\n' > shown && shows shown "the least sum" merge --sorted --least 3 most
+printf '\357\273\277a\t0\na\t0\nb\t0\nb\t2\nc\t0\n' > zeros && printf 'b\t2\n' > shown && shows shown "sums of nothing" merge --sorted zeros
+seq 100000 299999 | awk '{ print $1 "\t" 2; print $1 "\t2" }' > twice && seq 100000 299999 | awk '{ print $1 "\t" 4 }' > shown && shows shown "sums of many blocks, whose lines go across them" merge --sorted twice
+sort -m counts/*.tsv | "$program" merge --sorted > found && is found wanted "files of counts, merged by sort"
+for falls in 'b\t1\na\t2\nc\t3\n' 'a\t1\nb\t1\na\t1\n' 'a\\tb\t1\na b\t1\n' 'aa\t1\na\t1\n' 'a\t1\na\001\t1\n' 'b\t1\n\t1\n'; do
+  printf "$falls" > falls && n=$(sort -c falls 2>&1 | sed -E 's/^[^:]*: falls:([0-9]+): .*/\1/')
+  for how in "" "--skip-bad"; do ends 2 "hashbag_words: falls:$n: not in order" merge --sorted $how falls -o kept && is kept old "an output after a row that falls"; done
+  sort falls | "$program" merge --sorted > found && "$program" merge falls | sort > shown && is found shown "sums of rows that were sorted"
+done
 printf 'a\t1\nb 2\nc\t3\n' > mid && printf 'a\t1\nc\t3\n' > shown
 ends 0 "hashbag_words: mid: 1 bad line skipped" merge --sorted --skip-bad mid && is out shown "the rows behind a bad line"
-printf 'b 2\na\t1\n\nc\t3\n' > mid && ends 0 "hashbag_words: mid: 2 bad lines skipped" merge --sorted --skip-bad mid && is out shown "the rows behind two bad lines"
-printf '      1 a\nb\n      3 c\n' > mid && ends 0 "hashbag_words: mid: 1 bad line skipped" merge --sorted --skip-bad --from uniq mid && is out shown "the rows of uniq behind a bad line"
-printf '      1 a\n      0 b\n      3 c\n' > mid && for how in "" --sorted; do ends 0 "" merge $how --from uniq mid && is out shown "a row of uniq that counts nothing: $how"; done
+ends 2 "hashbag_words: mid:2: no tab" merge --sorted mid -o kept && is kept old "an output after a bad row"
 printf 'a\t1\nb' > cut && ends 2 "hashbag_words: cut:2: no line feed" merge --sorted cut
 printf 'a\t1\nb\t18446744073709551615\n' > past && ends 5 "hashbag_words: past:2: total past 2^64-1" merge --sorted past
-ends 2 "hashbag_words: --sorted: JSON has no lines" merge --sorted --from json text.json
-ends 1 "" merge --sorted --fail-empty /dev/null
-"$program" merge --sorted --memory 1K whole > out 2> err
-[ $? = 2 ] || fail "no status 2 for a bound of sorted files"
-# a failed write of what is merged names where it is written
-(trap '' XFSZ; ulimit -f 8; exec "$program" merge --sorted --tmp tmp big.tsv -o kept) > out 2> err
-[ $? = 4 ] && grep -q '^hashbag_words: tmp: ' err && is kept old "an output on a full disk, of sorted files" || fail "no name of a full disk"
-# the most common tokens of up to 16 files are merged at once, and those of more files through runs
-mkdir split && split -n l/17 whole split/ && sixteen=$(ls -d split/* | head -n 16)
-cat $sixteen | sort -t "$(printf '\t')" -k2,2nr -k1,1 | head -n 3 > shown && shows shown "16 sorted files, without runs" merge --sorted --top 3 --tmp none $sixteen
-"$program" merge --sorted --top 3 --tmp none split/* > out 2> err
-[ $? = 4 ] && grep -q '^hashbag_words: none: ' err || fail "no run of 16 sorted files"
-"$program" merge --sorted whole no_such_file > out 2> err
+printf 'a\t1\na\t18446744073709551615\n' > past && ends 5 "hashbag_words: past:2: total past 2^64-1" merge --sorted past
+ends 1 "" merge --sorted --fail-empty /dev/null && ends 0 "" merge --sorted --fail-empty near && ends 1 "" merge --sorted --fail-empty --least 4 near
+ends 2 'hashbag_words: --sorted: one text; `LC_ALL=C sort -m FILE.. | hashbag_words merge --sorted` merges files' merge --sorted near most
+for how in "merge --from json" "less --from json whole" "merge --unsorted" "--unsorted" "--min-length 3" "--memory 1K" "--tmp ." "merge --memory 1K" \
+  "merge --sorted --from uniq" "merge --sorted --top 3" "merge --sorted --share" "merge --sorted --bars --top 3" "merge --sorted -r" "merge --sorted --files-from list"; do
+  "$program" $how whole > out 2> err < /dev/null
+  [ $? = 2 ] && [ ! -s out ] || fail "no status 2: $how"
+done
+"$program" merge --sorted no_such_file > out 2> err
 [ $? = 4 ] && [ ! -s out ] && grep -q '^hashbag_words: no_such_file: ' err || fail "no name of a sorted file"
+ends 2 "hashbag_words: near: the output is one of the inputs" merge --sorted near -o near
 
 # bytes that aren't UTF-8, replaced as Python replaces them
 python3 - << 'END' || fail "no lines of bytes"
@@ -437,7 +409,6 @@ open("said", "w").write("hashbag_words: bytes: it has NUL bytes; if it is UTF-16
     "hashbag_words: bytes: bytes replaced in %d lines\n" % sum(line.decode("utf-8", "replace").encode() != line for line in lines))
 END
 ends 0 "$(cat said)" --by lines --lossy bytes && is out replaced "bytes that are replaced"
-ends 0 "$(cat said)" --by lines --lossy --memory 1K bytes && is out replaced "bytes that are replaced, in a bound"
 ends 0 "" --lossy text && is out wanted "a text without bytes to replace"
 ends 0 "hashbag_words: bad.txt: bytes replaced in 1 line" --lossy --skip-bad bad.txt
 
@@ -460,17 +431,15 @@ printf '  b\ta \303\244\303\266 \ncd e\n\n \t\nb\tb  \303\244\303\266\tb\nb\302\
 printf ',x,\n\nx y,x\na,,b\n,\n' > commas && tr ',' '\t' < commas > tabs
 for n in 1 2 3 4 9; do
   awk -v n=$n 'NF >= n { print $n }' fields | sort | uniq -c > shown
-  for how in "" "--memory 1K"; do shows shown "field $n: $how" $how --to uniq --field $n fields; done
+  shows shown "field $n" --to uniq --field $n fields
   python3 -c 'import sys; print(*[it[int(sys.argv[1])] for it in (line.split(",") for line in open("commas").read().splitlines()) if len(it) > int(sys.argv[1])], sep="\n")' $((n - 1)) |
     if [ $n -lt 4 ]; then sort | uniq -c; else cat > /dev/null; fi > shown
-  for how in "" "--memory 1K"; do
-    shows shown "field $n between commas: $how" $how --to uniq --field $n --delimiter , commas
-    shows shown "field $n between tabs: $how" $how --to uniq --field $n --delimiter '\t' tabs
-  done
+  shows shown "field $n between commas" --to uniq --field $n --delimiter , commas
+  shows shown "field $n between tabs" --to uniq --field $n --delimiter '\t' tabs
 done
 "$program" --field 1 --delimiter '	' tabs > shown && shows shown "a tab as it is" --field 1 --delimiter '\t' tabs
 printf 'a B\na b\n' > fields && printf 'b\t2\n' > shown && shows shown "fields, folded" --fold --field 2 fields
-awk '{ print $5 }' text | sort | uniq -c > shown && for how in "" "--memory 1K"; do shows shown "the fifth field: $how" $how --to uniq --field 5 text; done
+awk '{ print $5 }' text | sort | uniq -c > shown && shows shown "the fifth field" --to uniq --field 5 text
 ends 2 "hashbag_words: --field: 0: the first field is 1" --field 0 -o none/out none
 for delimiter in '' ',,' é '\n' '\t\t' tabs; do
   ends 2 "hashbag_words: --delimiter: $delimiter: neither one ASCII character nor tab" --field 1 --delimiter "$delimiter" -o none/out none
@@ -488,8 +457,8 @@ printf 'Bonn\t1\nULM\t1\nulm\t1\n' > shown && "$program" --column city < more.cs
 printf '\t1\nbonn\t1\nsay "hi"\t1\ntwo\\nlines\t1\nulm\t4\nulm, alt\t1\n' > shown && shows shown "a column of two files, folded" --fold --column city people.csv more.csv
 printf 'ulm\t4\t44.44\n' > shown && shows shown "the share of a column" --fold --column city --top 1 --share people.csv more.csv
 printf 'ulm 2 %034d\n' 0 | tr 0 '#' > shown && COLUMNS=40 "$program" --fold --column city --top 1 --bars more.csv > found && is found shown "a bar of a column"
-printf 'Bonn\n' > except.txt && printf '[["say \\"hi\\"",1],["two\\nlines",1],["ulm, alt",1]]\n' > shown
-shows shown "what is shown of a column" --fold --column city --min-length 4 --except except.txt --to json people.csv more.csv
+printf 'Bonn\n' > except.txt && printf '[["",1],["say \\"hi\\"",1],["two\\nlines",1],["ulm",4],["ulm, alt",1]]\n' > shown
+shows shown "what is shown of a column" --fold --column city --except except.txt --to json people.csv more.csv
 printf 'city;id\nULM;7\nBonn, 2;8\n' > others.csv && printf 'Bonn, 2\t1\nULM\t1\n' > shown && shows shown "a column between semicolons" --column city --delimiter ';' others.csv
 printf 'city\tid\nULM\t7\n"Bonn\t2"\t8\n' > tabbed && printf 'Bonn\\t2\t1\nULM\t1\n' > shown && shows shown "a column between tabs" --column city -d '\t' tabbed
 printf 'a,b\n\334,1\n' > latin.csv && printf '1\t1\n' > shown && shows shown "a column next to one that isn't UTF-8" --column b latin.csv
@@ -504,19 +473,11 @@ for bad in '1,2\n1,2,3\n:3: 2 fields wanted, 3 found' '1\n:2: 2 fields wanted, 1
   cp whole held && ends 2 "hashbag_words: bad.csv:${bad#*:}" --column a -o held bad.csv && is held whole "an output after a bad record"
 done
 printf 'a,a\n1,2\n' > bad.csv && ends 2 'hashbag_words: bad.csv:1: more than one column `a`' --column a bad.csv
-for how in "--memory 1K" "--lossy" "--skip-bad" "--by lines" "--field 1" "--pattern a"; do
+for how in "--lossy" "--skip-bad" "--by lines" "--field 1" "--pattern a"; do
   "$program" --column a $how -o none/out none > out 2> err
   [ $? = 2 ] && [ ! -s out ] && grep -q "cannot be used with" err || fail "no status 2: --column a $how"
 done
 ends 2 "hashbag_words: --delimiter: |: none of , ; and tab, as --column needs" --column a --delimiter '|' -o none/out none
-
-# tokens of N characters and more, in each job
-printf 'ä äb\nabc äöü é\n' > lengths
-printf 'äb\t1\nabc\t1\näöü\t1\n' | LC_ALL=C sort > two
-shows two "tokens of two characters" --min-length 2 lengths
-printf 'abc\t1\näöü\t1\n' | LC_ALL=C sort > three
-for how in "" "--memory 1K"; do shows three "tokens of three characters $how" $how --min-length 3 lengths; done
-"$program" lengths > lengths.tsv && for how in "" "--sorted"; do shows three "merged: tokens of three characters $how" merge $how --min-length 3 lengths.tsv; done
 
 # shares of all occurrences, whatever is shown: by exact decimals of Python, half up
 python3 - << 'END' || fail "no shares"
@@ -529,18 +490,13 @@ with open("shares", "w") as file:
         print(token, count, (Decimal(100 * int(count)) / total).quantize(Decimal("0.01"), ROUND_HALF_UP), sep="\t", file=file)
 END
 grep -v '^w1	' shares > others && sort -t "$(printf '\t')" -k2,2nr -k1,1 shares | head -n 5 > top && printf 'w1\n' > stop
-for how in "" "--memory 1K"; do
-  shows shares "shares: $how" $how --share text && shows top "shares of the most common: $how" $how --share --top 5 text
-  shows others "shares of the others: $how" $how --share --except stop text
-done
-for how in "" "--sorted" "--memory 1K"; do
-  shows shares "shares of counts: $how" merge $how --share whole && shows top "shares of the most common counts: $how" merge $how --share --top 5 whole
-  shows shares "shares of counts in parts: $how" merge $how --share counts/*.tsv
-done
+shows shares "shares" --share text && shows top "shares of the most common" --share --top 5 text && shows others "shares of the others" --share --except stop text
+shows shares "shares of counts" merge --share whole && shows top "shares of the most common counts" merge --share --top 5 whole
+shows shares "shares of counts in parts" merge --share counts/*.tsv
 for part in 1 2 3; do "$program" --share --shard $part/3 text; done | sort > found && is found shares "shares of shards"
 shows shares "shares of a difference" less --share whole /dev/null && shows shares "shares of lesser counts" common --share whole whole
 printf 'a\t18446744073709551614\nb\t1\n' > greatest && printf 'a\t18446744073709551614\t100.00\nb\t1\t0.00\n' > shown
-for how in "" "--sorted" "--memory 1K"; do shows shown "shares of a total that is as large as may be: $how" merge $how --share greatest; done
+shows shown "shares of a total that is as large as may be" merge --share greatest
 shows /dev/null "shares of nothing" --share /dev/null
 for form in json uniq; do ends 2 "hashbag_words: --share: $form has no column for it; leave out --to $form" --share --to $form -o none/out none; done
 ends 2 "hashbag_words: shares:1: no count" merge shares
@@ -585,8 +541,8 @@ unset COLUMNS
 for width in 80 40 41 132 1000; do
   python3 bars.py $width 700 wanted > bars || fail "no bars"
   [ "$(awk '{ if (length > most) most = length } END { print most }' bars)" = $width ] || fail "a longest bar that isn't at the edge: $width"
-  for how in "" "--memory 1K" "--fold"; do COLUMNS=$width shows bars "bars in $width columns: $how" $how --bars --top 700 text; done
-  for how in "" "--sorted" "--memory 1K"; do COLUMNS=$width shows bars "bars of counts in $width columns: $how" merge $how --bars --top 700 whole; done
+  for how in "" "--fold"; do COLUMNS=$width shows bars "bars in $width columns: $how" $how --bars --top 700 text; done
+  COLUMNS=$width shows bars "bars of counts in $width columns" merge --bars --top 700 whole
 done
 python3 bars.py 80 3 wanted > bars
 for columns in "" x -1 " 90" 1e2 99999999999999999999; do COLUMNS=$columns shows bars "bars in $columns columns" --bars --top 3 text; done
@@ -597,7 +553,7 @@ python3 bars.py 1000 3 wanted > bars && COLUMNS=70000 shows bars "bars in 70,000
 # one of 1, 3 and 1000; a greatest count of 20 digits; wide and narrow characters, and such as are cut
 printf 'a\t1000\nb\t333\nc\t1\nd\t2\n' > few && python3 bars.py 80 9 few > bars && shows bars "bars of few counts" merge --bars --top 9 few
 printf 'a\t18446744073709551614\nb\t1\n' > greatest && python3 bars.py 80 9 greatest > bars
-for how in "" "--sorted" "--memory 1K"; do shows bars "bars of a total that is as large as may be: $how" merge $how --bars --top 9 greatest; done
+shows bars "bars of a total that is as large as may be" merge --bars --top 9 greatest
 printf '猫\t9\nä\t8\nsämtliche\t7\n猫猫猫猫猫猫猫猫猫猫猫猫猫猫猫\t6\nabcdefghijklmnopqrstuvwxyzab\t5\nabcdefghijklmnopqrstuvwxyz\t4\nabcdefghijklmnopqrstuvwxyza\t3\na猫猫猫猫猫猫猫猫猫猫猫猫猫猫猫\t2\ne\314\201\t1\n' > wide
 for width in 80 60 40; do python3 bars.py $width 9 wide > bars && COLUMNS=$width shows bars "bars of wide tokens in $width columns" merge --bars --top 9 wide; done
 printf '\ta\n\ta\n\033[31mb\n\n' | COLUMNS=40 "$program" --by lines --bars --top 9 > found
@@ -608,21 +564,19 @@ COLUMNS=40 shows bars "the bars of the page" --fold --top 3 --bars monday
 shows /dev/null "bars of nothing" --bars --top 9 /dev/null && shows /dev/null "no bars" --bars --top 0 text
 ends 1 "" --fail-empty --bars --top 0 parts/aa && ends 1 "" --fail-empty --bars --top 9 /dev/null
 for form in json uniq; do ends 2 "hashbag_words: --bars: $form has no column for it; leave out --to $form" --bars --top 3 --to $form -o none/out none; done
-for how in "--bars" "--bars --share --top 3" "--bars --unsorted"; do
+for how in "--bars" "--bars --share --top 3"; do
   "$program" $how none > out 2> err
   [ $? = 2 ] && [ ! -s out ] || fail "no status 2: $how"
 done
 
 # tokens that aren't shown, in each job: the lines of a file, of which no other one is shown more or less often
 printf 'w1\n\nw22\r\nw333\nw4444\nw5 \nW6' > stop && awk '$1 != "w1" && $1 != "w22" && $1 != "w333"' wanted > others
-for how in "" "--memory 1K" "--fold"; do
+for how in "" "--fold"; do
   if [ "$how" = --fold ]; then grep -v '^w6	' others; else cat others; fi > shown && shows shown "other tokens: $how" $how --except stop text
   sort -t "$(printf '\t')" -k2,2nr -k1,1 shown | head -n 5 > top && shows top "the most common of the others: $how" $how --top 5 --except stop text
 done
-for how in "" "--sorted" "--memory 1K"; do
-  shows others "merged: other tokens: $how" merge $how --except stop whole
-  sort -t "$(printf '\t')" -k2,2nr -k1,1 others | head -n 5 > top && shows top "merged: the most common of the others: $how" merge $how --top 5 --except stop whole
-done
+for how in "" "--sorted"; do shows others "merged: other tokens: $how" merge $how --except stop whole; done
+sort -t "$(printf '\t')" -k2,2nr -k1,1 others | head -n 5 > top && shows top "merged: the most common of the others" merge --top 5 --except stop whole
 shows others "the counts of other tokens, less none" less --except stop whole /dev/null
 shows others "the lesser counts of other tokens" common --except stop whole whole
 "$program" --except - text < stop > found && is found others "other tokens than those of standard input"
@@ -661,15 +615,13 @@ for parts in (1, 3, 8):
 END
 for shard in 1.1 1.3 2.3 3.3 1.8 5.8 8.8; do
   [ -s shard.$shard ] || fail "an empty shard: $shard"
-  for how in "" "--memory 1K"; do shows shard.$shard "shard $shard: $how" big $how --shard "${shard/./\/}"; done
+  shows shard.$shard "shard $shard" big --shard "${shard/./\/}"
   for how in "" "--sorted"; do shows shard.$shard "merged: shard $shard: $how" merge $how --shard "${shard/./\/}" big.tsv; done
 done
-"$program" big --top 5 --shard 2/3 > shown && shows shown "the most common of a shard, in a bound" big --top 5 --shard 2/3 --memory 1K
-sort -t "$(printf '\t')" -k2,2nr -k1,1 shard.2.3 | head -n 5 > found && is found shown "the most common of a shard"
+sort -t "$(printf '\t')" -k2,2nr -k1,1 shard.2.3 | head -n 5 > shown && shows shown "the most common of a shard" big --top 5 --shard 2/3
 for shard in 0/3 4/3 1 1/ /1 a/b 1/0 -1/2 1/2/3 ' 1/3' '1/ 3' '1/3 '; do ends 2 "hashbag_words: --shard: $shard: not I/N with I from 1 to N" "--shard=$shard" big; done
 # no file is opened before all words have a meaning
 ends 2 "hashbag_words: --shard: 0/3: not I/N with I from 1 to N" --shard 0/3 -o none/out none
-ends 2 "hashbag_words: --memory: x: no size" --memory x -o none/out none
 
 # a list of names that isn't UTF-8
 iconv -t UTF-16 text > wide.txt && ends 2 'hashbag_words: wide.txt: not UTF-8; `iconv -f ENCODING` converts it' --files-from wide.txt

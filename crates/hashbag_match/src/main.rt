@@ -1,24 +1,29 @@
 //! Matches what was ordered with what was delivered, article by article.
 #![tactic(auto)]
 
-mod command;
+mod options;
 mod settings;
 
-use crate::command::{PROGRAM, command};
+use crate::options::OPTIONS;
 use crate::settings::Settings;
 use hashbag_csv::fault::{SheetError, in_file};
 use hashbag_match_lib::files::{Unmatched, match_files};
 use hashbag_match_lib::hints::{hint_of, with_hint};
 use hashbag_match_lib::texts::Findings;
+use hashbag_shell::VERSION;
 use hashbag_shell::input::shown_name;
 use hashbag_shell::inputs::HostInputs;
 use hashbag_shell::output::Output;
 use hashbag_shell::program::{given_to, program};
 use hashbag_shell::status::BAD_INPUT;
+use hashbag_shell::table::command_of;
 use hashbag_shell::text::with_option;
 use hashbag_shell::trouble::Trouble;
 use std::hash::RandomState;
 use std::process::ExitCode;
+
+// The name of the program. Its messages on standard error begin with it.
+const PROGRAM: &str = "hashbag_match";
 
 // Names the bad lines of a file on standard error, each with the option that would read it. If `max_errors` lines are named,
 // and `max_errors` is above 1, also says that no more are named.
@@ -83,7 +88,8 @@ fn matched<'a>(
 
 // Does what the words ask for, and returns the status. The output is opened before anything is read.
 fn answer<'a>(rt: &HostRuntime, words: &'a [String]) -> Result<u8, Trouble<'a>> {
-    let given = given_to(rt, command(rt.alloc()), words)?;
+    let command = command_of(rt.alloc(), OPTIONS)?.version(VERSION);
+    let given = given_to(rt, Ok(command), words)?;
     let settings = Settings::of(rt, &given)?;
     let output = Output::open(rt, settings.output)?;
     let findings = output.finish(rt, matched(rt, &settings))?;

@@ -13,6 +13,7 @@ use hashbag_match_lib::shown::Only;
 use hashbag_shell::one_file::is_one_file;
 use hashbag_shell::options::{encoding, reports, word};
 use hashbag_shell::progress::Reports;
+use hashbag_shell::table::value;
 use hashbag_shell::trouble::Trouble;
 use hashbag_text::encoding::Encoding;
 use std::alloc::{AllocError, Global};
@@ -33,16 +34,15 @@ pub struct Settings<'a> {
 
 // Returns how many bad lines are named at most. On the command line 0 means all.
 fn max_errors_of(given: &ArgMatches<'_>) -> usize {
-    match given.get_one::<usize>("max-errors") {
-        Some(0) => usize::MAX,
+    match given.get_one::<usize>("--max-errors") {
+        Some(0) | None => usize::MAX,
         Some(number) => number,
-        None => 10,
     }
 }
 
 // Returns `name`, the name of the column of numbers, or `None` if each line counts as one.
 fn number_column<'a>(given: &ArgMatches<'a>, name: &'a str) -> Option<&'a str> {
-    if given.get_flag("each-line") {
+    if given.get_flag("--each-line") {
         return None;
     }
     Some(name)
@@ -52,15 +52,15 @@ fn number_column<'a>(given: &ArgMatches<'a>, name: &'a str) -> Option<&'a str> {
 fn line_form_of(given: &ArgMatches<'_>) -> LineForm {
     LineForm {
         key: KeyForm {
-            trim: given.get_flag("trim"),
-            fold: given.get_flag("fold"),
+            trim: given.get_flag("--trim"),
+            fold: given.get_flag("--fold"),
         },
         number: NumberForm {
-            blank_is_zero: given.get_flag("blank-is-zero"),
-            group: GroupMark::named(word(given, "group-mark", "")),
+            blank_is_zero: given.get_flag("--blank-is-zero"),
+            group: GroupMark::named(value(given, "--group-mark")),
         },
-        allows_short: given.get_flag("allow-short"),
-        no_header: given.get_flag("no-header"),
+        allows_short: false,
+        no_header: given.get_flag("--no-header"),
     }
 }
 
@@ -72,10 +72,10 @@ fn ask_of<'a>(alloc: Global, given: &ArgMatches<'a>) -> Result<Ask<'a>, AllocErr
     } else {
         ("article", "number")
     };
-    let key = word(given, "key", key);
-    let number = word(given, "number", number);
-    let delimiter = word(given, "delimiter", ",");
-    let (decimals, mark) = (word(given, "scale", "0"), word(given, "mark", "."));
+    let key = word(given, "--key", key);
+    let number = word(given, "--number", number);
+    let delimiter = value(given, "--delimiter");
+    let (decimals, mark) = (value(given, "--scale"), value(given, "--mark"));
     Ok(Ask {
         ordered: Columns::named(
             alloc,
@@ -85,30 +85,30 @@ fn ask_of<'a>(alloc: Global, given: &ArgMatches<'a>) -> Result<Ask<'a>, AllocErr
         )?,
         delivered: Columns::named(
             alloc,
-            word(given, "delivered-key", key),
-            number_column(given, word(given, "delivered-number", number)),
+            word(given, "--delivered-key", key),
+            number_column(given, word(given, "--delivered-number", number)),
             Reading::named(
-                word(given, "delivered-delimiter", delimiter),
+                word(given, "--delivered-delimiter", delimiter),
                 decimals,
-                word(given, "delivered-mark", mark),
+                word(given, "--delivered-mark", mark),
             ),
         )?,
         line_form,
-        carried: match given.get_str("carry") {
+        carried: match given.get_str("--carry") {
             Some(names) => names_in(alloc, names)?,
             None => Vec::new(alloc),
         },
-        only: Only::named(word(given, "only", "all")),
-        form: Form::named(word(given, "to", "table")),
+        only: Only::named(value(given, "--only")),
+        form: Form::named(value(given, "--to")),
         max_errors: max_errors_of(given),
-        quiet: given.get_flag("quiet"),
+        quiet: given.get_flag("--quiet"),
     })
 }
 
 // Returns the encodings of the two files.
 fn encodings_of(given: &ArgMatches<'_>) -> (Option<Encoding>, Option<Encoding>) {
-    let ordered = encoding(given, "encoding");
-    let delivered = match given.get_str("delivered-encoding") {
+    let ordered = encoding(given, "--encoding");
+    let delivered = match given.get_str("--delivered-encoding") {
         Some(name) => Encoding::named(name),
         None => ordered,
     };
@@ -131,7 +131,7 @@ impl<'a> Settings<'a> {
                 delivered: given.get_str("DELIVERED.csv").unwrap_or("-"),
                 encodings: encodings_of(given),
             },
-            output: given.get_str("output"),
+            output: given.get_str("--output"),
             reports: reports(given),
             ask: ask_of(rt.alloc(), given)?,
         };

@@ -39,14 +39,11 @@ fn number_hint(field: &str, form: LineForm, mark: Mark) -> &'static str {
 /// Returns what a message says after this error: the option that would read the line, or nothing. Lines are read in the form `form`, with this
 /// mark before decimals.
 pub fn hint_of(error: &SheetError, form: LineForm, mark: Mark) -> &'static str {
-    let SheetError::Line { fault, .. } = error else {
-        return "";
-    };
-    match fault {
-        Fault::Fields { found, header } if *found < *header && !form.allows_short => {
-            "; `--allow-short` reads missing fields as empty"
-        }
-        Fault::NoNumber(field) => number_hint(field.as_str(), form, mark),
+    match error {
+        SheetError::Line {
+            fault: Fault::NoNumber(field),
+            ..
+        } => number_hint(field.as_str(), form, mark),
         _ => "",
     }
 }

@@ -1,3 +1,4 @@
 pub mod Inputs
 pub mod Paces
 pub mod Statuses
+pub mod Tables

@@ -4,7 +4,7 @@
 //! of such a name was left by a program that was killed, and the next output in that folder removes the file.
 use std::fs::{self, File, OpenOptions, TryLockError};
 use std::io::{self, ErrorKind};
-use std::os::unix::fs::MetadataExt;
+use std::os::unix::fs::{MetadataExt, OpenOptionsExt};
 use std::rt::Files;
 
 // The greatest number of names that are tried.
@@ -36,12 +36,13 @@ fn remove_left<R: Files<File = File>>(rt: &R, name: &str) {
     }
 }
 
-// Creates a file, locks it if the system can lock files, and returns it. Returns `None` if a file of that name exists, or if another
-// program removed or locked the new file first.
-fn create_locked<R: Files<File = File>>(rt: &R, name: &str) -> io::Result<Option<File>> {
+// Creates a file with at most these permissions, locks it if the system can lock files, and returns it. Returns `None` if a file of that name
+// exists, or if another program removed or locked the new file first.
+fn create_locked<R: Files<File = File>>(rt: &R, name: &str, mode: u32) -> io::Result<Option<File>> {
     let file = match OpenOptions::new()
         .write(true)
         .create_new(true)
+        .mode(mode)
         .open(rt, name)
     {
         Ok(file) => file,
@@ -56,7 +57,8 @@ fn create_locked<R: Files<File = File>>(rt: &R, name: &str) -> io::Result<Option
     })
 }
 
-/// Creates a file in the folder of an output, and returns the file with its name. A file that a killed program left there is removed first.
+/// Creates a file in the folder of an output, and returns the file with its name. The file has the permissions of `mode`, without those that the
+/// process's mask takes away. A file that a killed program left there is removed first.
 ///
 /// # Errors
 ///
@@ -64,6 +66,7 @@ fn create_locked<R: Files<File = File>>(rt: &R, name: &str) -> io::Result<Option
 pub fn create_beside<R: Files<File = File> + AllocGlobal>(
     rt: &R,
     output: &str,
+    mode: u32,
 ) -> io::Result<(File, String)> {
     let alloc = rt.alloc();
     for i in 0..MOST_NAMES {
@@ -72,7 +75,7 @@ pub fn create_beside<R: Files<File = File> + AllocGlobal>(
             None => format!(in alloc; ".hashbag-{i}.tmp")?,
         };
         remove_left(rt, name.as_str());
-        if let Some(file) = create_locked(rt, name.as_str())? {
+        if let Some(file) = create_locked(rt, name.as_str(), mode)? {
             return Ok((file, name));
         }
     }

@@ -1,5 +1,5 @@
-//! What the programs share to work with the system: arguments and options, files that are read whole, outputs that are written whole or not at all,
-//! and temporary files. The crate also has the errors, the exit statuses, the version, and the check whether two names are of one file.
+//! What the programs share to work with the system: arguments and options, files that are read whole, and outputs that are written whole or not at
+//! all. The crate also has the errors, the exit statuses, the version, and the check whether two names are of one file.
 //!
 //! No clause can say which bytes a file has, so `tests/programs/words.sh` tests with files: see the page of the program `hashbag_words`.
 #![tactic(auto)]
@@ -15,7 +15,7 @@ pub mod pace;
 pub mod program;
 pub mod progress;
 pub mod status;
-pub mod temporary_file;
+pub mod table;
 pub mod text;
 pub mod tips;
 pub mod trouble;

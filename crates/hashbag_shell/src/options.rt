@@ -97,10 +97,10 @@ pub fn with_progress<'a>(
 
 /// Returns when progress is reported, as `--progress` and `--quiet` decide.
 pub fn reports(given: &ArgMatches<'_>) -> Reports {
-    if given.get_flag("quiet") {
+    if given.get_flag("quiet") || given.get_flag("--quiet") {
         return Reports::Never;
     }
-    if given.get_flag("progress") {
+    if given.get_flag("progress") || given.get_flag("--progress") {
         return Reports::Always;
     }
     Reports::OnTerminal

@@ -32,7 +32,7 @@ fn is_redirected<R: Files>(rt: &R, name: &str) -> bool {
         && fs::metadata(rt, name).is_ok_and(|found| found.is_file())
 }
 
-/// An output that has been opened, and not yet written.
+/// An output that has been opened, and not yet written whole.
 #[derive(Drop)]
 pub enum Output<'a> {
     /// Standard output.
@@ -99,7 +99,42 @@ impl<'a> Output<'a> {
         }
     }
 
-    /// Drops the output. Nothing is written, and a named file is unchanged.
+    /// Appends a text. At the end the caller calls [`Output::close`] or [`Output::abandon`].
+    ///
+    /// # Errors
+    ///
+    /// The system's error, of which [`Output::unwritten`] makes a trouble.
+    pub fn append<R: Print>(&mut self, rt: &R, text: &[u8]) -> io::Result<()> {
+        match self {
+            Output::Standard => io::writer(rt).write_all(text),
+            Output::Named(_, file) => file.append(text),
+        }
+    }
+
+    /// Returns the trouble of a text that wasn't appended.
+    pub fn unwritten(&self, error: io::Error) -> Trouble<'a> {
+        match self {
+            Output::Standard => Trouble::Write(error),
+            Output::Named(name, _) => Trouble::of_file(*name, error),
+        }
+    }
+
+    /// Ends the output: a named file gets its name, and has all that was appended.
+    ///
+    /// # Errors
+    ///
+    /// Same as [`Output::write`].
+    pub fn close<R: Files + Print>(self, rt: &R) -> Result<(), Trouble<'a>> {
+        match self {
+            Output::Standard => flushed(&mut io::writer(rt), Ok(())),
+            Output::Named(name, file) => match file.close(rt) {
+                Ok(()) => Ok(()),
+                Err(error) => Err(Trouble::of_file(name, error)),
+            },
+        }
+    }
+
+    /// Drops the output. What was appended to standard output is written; a named file is unchanged.
     pub fn abandon<R: Files>(self, rt: &R) {
         if let Output::Named(_, file) = self {
             file.abandon(rt);

@@ -2,15 +2,23 @@
 //!
 //! The text is written to a temporary file in the same folder. At the end that file is renamed to the output's name. So a failed write or a
 //! signal leaves the output as it was, and the texts of two writers are never mixed.
+//!
+//! If the output exists, nobody but the owner of the temporary file can open it before it has the output's own owner and permissions.
 use crate::beside::create_beside;
 use std::alloc::{AllocError, Global};
-use std::fs::{self, File, Metadata, OpenOptions};
+use std::fs::{self, File, Metadata, OpenFile, OpenOptions};
 use std::io::{self, ErrorKind, Read, Write};
 use std::os::unix::fs::{MetadataExt, fchown};
 use std::rt::Files;
 
 // The greatest number of links that are followed.
 const MOST_LINKS: u32 = 40;
+
+// The permissions of an output that didn't exist, before the process's mask takes some away.
+const NEW_MODE: u32 = 0o666;
+
+// The permissions of its owner to read and write a file.
+const OWNER_MODE: u32 = 0o600;
 
 // The two names of the rename at the end.
 #[derive(Drop)]
@@ -29,12 +37,13 @@ pub struct OutputFile {
     names: Option<Names>,
 }
 
-// Opens a temporary file for the output of this name.
+// Opens a temporary file for the output of this name. The file is created with at most the permissions of `mode`.
 fn open_beside<R: Files<File = File> + AllocGlobal>(
     rt: &R,
     output: String,
+    mode: u32,
 ) -> io::Result<OutputFile> {
-    let (file, temporary) = create_beside(rt, output.as_str())?;
+    let (file, temporary) = create_beside(rt, output.as_str(), mode)?;
     let names = Some(Names { temporary, output });
     Ok(OutputFile { file, names })
 }
@@ -50,7 +59,7 @@ fn keep_owner_and_mode(file: &File, former: &Metadata) -> io::Result<()> {
 }
 
 // Opens an output that exists. Returns an error if it may not be written. For a regular file, opens a temporary file with the same owner
-// and permissions.
+// and permissions. Until it has these, it has none but those that the owner of the output has.
 fn open_existing<R: Files<File = File> + AllocGlobal>(
     rt: &R,
     name: &str,
@@ -61,7 +70,8 @@ fn open_existing<R: Files<File = File> + AllocGlobal>(
         return Ok(OutputFile { file, names: None });
     }
     let former = file.metadata()?;
-    let opened = open_beside(rt, fs::canonicalize(rt, name)?.into_string())?;
+    let output = fs::canonicalize(rt, name)?.into_string();
+    let opened = open_beside(rt, output, former.mode() & OWNER_MODE)?;
     match keep_owner_and_mode(&opened.file, &former) {
         Ok(()) => Ok(opened),
         Err(error) => {
@@ -93,6 +103,19 @@ fn end_of_links<R: Files + AllocGlobal>(rt: &R, name: &str) -> io::Result<String
     Ok(end)
 }
 
+// Syncs the folder of a file to the device, so that the name of the file outlives a failure of the machine. Does nothing if the folder may not be
+// read or can't be synced: the file then has its name all the same.
+fn sync_folder<R: Files>(rt: &R, file: &str) {
+    let folder = match file.rsplit_once('/') {
+        Some((folder, _)) if !folder.is_empty() => folder,
+        Some(_) => "/",
+        None => ".",
+    };
+    if let Ok(folder) = fs::open(rt, folder) {
+        let _ = folder.sync_all();
+    }
+}
+
 impl OutputFile {
     /// Opens the output of this name. Nothing is written yet.
     ///
@@ -103,7 +126,7 @@ impl OutputFile {
         match fs::metadata(rt, name) {
             Ok(found) => open_existing(rt, name, found.is_file()),
             Err(error) if error.kind() == ErrorKind::NotFound => {
-                open_beside(rt, end_of_links(rt, name)?)
+                open_beside(rt, end_of_links(rt, name)?, NEW_MODE)
             }
             Err(error) => Err(error),
         }
@@ -118,7 +141,7 @@ impl OutputFile {
         Ok(())
     }
 
-    // Renames the temporary file to the output. If a write or the rename fails, removes the temporary file.
+    // Renames the temporary file to the output, and syncs the folder. If a write or the rename fails, removes the temporary file.
     fn end<R: Files>(mut self, rt: &R, written: io::Result<()>) -> io::Result<()> {
         let mut ended = match written {
             Ok(()) => self.flush_and_sync(),
@@ -128,6 +151,9 @@ impl OutputFile {
             && ended.is_ok()
         {
             ended = fs::rename(rt, names.temporary.as_str(), names.output.as_str());
+            if ended.is_ok() {
+                sync_folder(rt, names.output.as_str());
+            }
         }
         if ended.is_err() {
             self.abandon(rt);
@@ -157,6 +183,24 @@ impl OutputFile {
             Err(error) => Err(error),
         };
         self.end(rt, written)
+    }
+
+    /// Appends a text. At the end the caller calls [`OutputFile::close`] or [`OutputFile::abandon`].
+    ///
+    /// # Errors
+    ///
+    /// The system's error. Then a part of the text may have been written.
+    pub fn append(&mut self, text: &[u8]) -> io::Result<()> {
+        self.file.write_all(text)
+    }
+
+    /// Renames the temporary file, which has all that was appended, to the output.
+    ///
+    /// # Errors
+    ///
+    /// Same as [`OutputFile::write_whole`].
+    pub fn close<R: Files>(self, rt: &R) -> io::Result<()> {
+        self.end(rt, Ok(()))
     }
 
     /// Removes the temporary file, if the output has one.

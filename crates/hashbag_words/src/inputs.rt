@@ -1,8 +1,7 @@
 //! The inputs: files by their names, and `-` for standard input.
-use crate::bag::{Bag, BagRuns};
+use crate::bag::Bag;
 use crate::blocks::HostBlocks;
-use crate::input::Input;
-use crate::output::look_of;
+use crate::output::{HostOutput, look_of};
 use hashbag_csv::delimiter::Delimiter;
 use hashbag_csv::fault::in_file;
 use hashbag_shell::input::shown_name;
@@ -10,21 +9,18 @@ use hashbag_shell::text::of_decoding;
 use hashbag_shell::trouble::Trouble;
 use hashbag_text::encoding::Encoding;
 use hashbag_text::whole::decode;
-use hashbag_words_args::settings::Settings;
 use hashbag_words_lib::columns::count_column;
-use hashbag_words_lib::feeding::{Counter, end};
-use hashbag_words_lib::gauge::Gauge;
+use hashbag_words_lib::feeding::Counter;
 use hashbag_words_lib::inputs::{Blocks, count_all};
-use hashbag_words_lib::jobs::{self, JobText, Reading};
+use hashbag_words_lib::jobs::{self, Reading};
 use hashbag_words_lib::row_counter::RowCounter;
 use hashbag_words_lib::rows::RowForm;
 use hashbag_words_lib::rule::Rule;
-use hashbag_words_lib::troubles::{of_input, of_text};
+use hashbag_words_lib::settings::Settings;
+use hashbag_words_lib::shown_text::Shown;
 use memchr::memchr;
 use regex::Regex;
-use std::fs::File;
-use std::hash::RandomState;
-use std::{io, mem};
+use std::mem;
 
 /// What a job works with: what the arguments ask for, and the inputs.
 #[derive(Drop)]
@@ -41,19 +37,6 @@ pub struct Work<'s, 'a, 'm> {
     pub encoding: Option<Encoding>,
     /// The inputs themselves.
     pub blocks: HostBlocks<'s, 'a>,
-    /// The gauge of an empty bag, if the memory has a bound. Each counter starts with a copy.
-    pub gauge: Option<Gauge>,
-    /// The runs that are written when the bag is full, if the memory has a bound.
-    pub runs: Option<BagRuns<'s, 'a>>,
-}
-
-// Reads the whole input of this name.
-fn read_whole<'a>(rt: &HostRuntime, name: &'a str) -> Result<String, Trouble<'a>> {
-    let read = match Input::open(rt, name) {
-        Ok(mut input) => io::read_to_string(rt.alloc(), &mut input),
-        Err(error) => Err(error),
-    };
-    read.map_err(|error| of_text(rt.alloc(), shown_name(name), error))
 }
 
 impl<'s, 'a, 'm> Work<'s, 'a, 'm> {
@@ -68,14 +51,7 @@ impl<'s, 'a, 'm> Work<'s, 'a, 'm> {
         names: &[&'a str],
     ) -> Result<(), Trouble<'a>> {
         let (alloc, encoding) = (self.rt.alloc(), self.encoding);
-        count_all(
-            alloc,
-            &mut self.blocks,
-            counter,
-            &mut self.runs,
-            encoding,
-            names,
-        )
+        count_all(alloc, &mut self.blocks, counter, encoding, names)
     }
 
     // Returns how the inputs are read.
@@ -83,7 +59,6 @@ impl<'s, 'a, 'm> Work<'s, 'a, 'm> {
         Reading {
             encoding: self.encoding,
             bad_lines: self.settings.bad_lines,
-            gauge: self.gauge,
         }
     }
 
@@ -96,12 +71,46 @@ impl<'s, 'a, 'm> Work<'s, 'a, 'm> {
         &mut self,
         rule: Rule<'_>,
         bag: &'b mut Bag,
-    ) -> Result<JobText<'b, File>, Trouble<'a>> {
+    ) -> Result<Shown<'b>, Trouble<'a>> {
         let (alloc, reading) = (self.rt.alloc(), self.reading());
         let (choice, look) = (self.settings.choice, look_of(self.rt, self.settings));
-        let (inputs, runs) = (&mut self.blocks, &mut self.runs);
-        jobs::show_tokens(
-            alloc, inputs, runs, bag, rule, reading, self.names, choice, look,
+        let inputs = &mut self.blocks;
+        jobs::show_tokens(alloc, inputs, bag, rule, reading, self.names, choice, look)
+    }
+
+    /// Writes each token of all inputs as a line.
+    ///
+    /// # Errors
+    ///
+    /// Same as [`jobs::write_tokens`].
+    pub fn write_tokens(
+        &mut self,
+        rule: Rule<'_>,
+        output: HostOutput<'s, 'a>,
+    ) -> (HostOutput<'s, 'a>, Result<(), Trouble<'a>>) {
+        let (alloc, reading) = (self.rt.alloc(), self.reading());
+        jobs::write_tokens(alloc, &mut self.blocks, output, rule, reading, self.names)
+    }
+
+    /// Adds up neighbouring rows of the inputs, whose lines are in order, and writes the sums. Returns whether no row was shown.
+    ///
+    /// # Errors
+    ///
+    /// Same as [`jobs::write_sums`].
+    pub fn write_sums(
+        &mut self,
+        output: HostOutput<'s, 'a>,
+    ) -> (HostOutput<'s, 'a>, Result<bool, Trouble<'a>>) {
+        let (alloc, reading) = (self.rt.alloc(), self.reading());
+        let (choice, format) = (self.settings.choice, self.settings.format);
+        jobs::write_sums(
+            alloc,
+            &mut self.blocks,
+            output,
+            reading,
+            self.names,
+            choice,
+            format,
         )
     }
 
@@ -114,30 +123,22 @@ impl<'s, 'a, 'm> Work<'s, 'a, 'm> {
         &mut self,
         form: RowForm,
         bag: &'b mut Bag,
-    ) -> Result<JobText<'b, File>, Trouble<'a>> {
+    ) -> Result<Shown<'b>, Trouble<'a>> {
         let (alloc, reading) = (self.rt.alloc(), self.reading());
         let (choice, look) = (self.settings.choice, look_of(self.rt, self.settings));
-        let (inputs, runs) = (&mut self.blocks, &mut self.runs);
-        jobs::show_rows(
-            alloc, inputs, runs, bag, form, reading, self.names, choice, look,
-        )
+        let inputs = &mut self.blocks;
+        jobs::show_rows(alloc, inputs, bag, form, reading, self.names, choice, look)
     }
 
-    /// Returns the text that shows the tokens of a bag and of its runs.
+    /// Returns the text that shows the tokens of a bag.
     ///
     /// # Errors
     ///
-    /// Same as [`jobs::show_both`].
-    pub fn show<'b>(&mut self, bag: &'b mut Bag) -> Result<JobText<'b, File>, Trouble<'a>> {
+    /// Same as [`jobs::show_bag`].
+    pub fn show<'b>(&mut self, bag: &'b mut Bag) -> Result<Shown<'b>, Trouble<'a>> {
         self.blocks.end_report();
         let look = look_of(self.rt, self.settings);
-        jobs::show_both(
-            self.rt.alloc(),
-            bag,
-            &mut self.runs,
-            self.settings.choice,
-            look,
-        )
+        jobs::show_bag(self.rt.alloc(), bag, self.settings.choice, look)
     }
 
     // Returns the text of the input of this name. It is decoded if the encoding of the inputs is given; else the bytes are returned as they are.
@@ -176,47 +177,23 @@ impl<'s, 'a, 'm> Work<'s, 'a, 'm> {
         Ok(())
     }
 
-    // Adds the counts of the JSON texts of these names, in order.
-    fn add_trees(
-        &mut self,
-        counter: &mut RowCounter<RandomState>,
-        names: &[&'a str],
-    ) -> Result<(), Trouble<'a>> {
-        for name in names {
-            let text = read_whole(self.rt, name)?;
-            let state = *counter.bag().hasher();
-            match counter.add_tree(state, text.as_str()) {
-                Ok(()) => {
-                    let reading = end(self.rt.alloc(), counter, &mut self.runs, shown_name(name))?;
-                    self.blocks.report(shown_name(name), &reading);
-                }
-                Err(fault) => return Err(of_input(self.rt.alloc(), shown_name(name), 0, fault)),
-            }
-        }
-        Ok(())
-    }
-
-    /// Adds the counts of the files of these names to the bag, in order. Their lines have this form; `None` is JSON.
+    /// Adds the counts of the files of these names to the bag, in order. Their lines have this form.
     ///
     /// # Errors
     ///
     /// What is wrong with a file or one of its lines, or a failed allocation. Then the bag may have some of the counts.
     pub fn add_all(
         &mut self,
-        rows: Option<RowForm>,
+        form: RowForm,
         bag: &mut Bag,
         names: &[&'a str],
     ) -> Result<(), Trouble<'a>> {
         let alloc = self.rt.alloc();
         let none = Bag::with_hasher(alloc, *bag.hasher());
         let given = mem::replace(bag, none);
-        let form = rows.unwrap_or(RowForm::Tsv);
-        let mut counter = RowCounter::new(alloc, given, form, self.settings.bad_lines, self.gauge);
-        let added = match rows {
-            Some(_) => self.count_all(&mut counter, names),
-            None => self.add_trees(&mut counter, names),
-        };
-        *bag = counter.into_bag();
+        let mut counter = RowCounter::new(alloc, given, form, self.settings.bad_lines);
+        let added = self.count_all(&mut counter, names);
+        *bag = counter.into_sink();
         added
     }
 }

@@ -1,29 +1,24 @@
 //! The jobs of the program: each reads its inputs into a bag, and writes the text that shows the bag.
-use crate::bag::{Bag, BagRuns, empty_bag};
+use crate::bag::{Bag, empty_bag};
 use crate::blocks::{BY_COMMAND, BY_OPTION, HostBlocks};
 use crate::inputs::Work;
 use crate::names::check;
-use crate::output::{look_of, write};
-use crate::runs::{no_runs, runs_of};
+use crate::output::{HostOutput, write};
 use hashbag_ops::{keep_common, take_away};
 use hashbag_shell::output::Output;
 use hashbag_shell::progress::Progress;
 use hashbag_shell::status::{DENIED, DONE};
 use hashbag_shell::text::with_option;
 use hashbag_shell::trouble::{Trouble, plural};
-use hashbag_words_args::settings::{Ask, By, Pair, Settings, Tokens};
 use hashbag_words_lib::choice::Choice;
 use hashbag_words_lib::counter::TextCounter;
-use hashbag_words_lib::gauge::Gauge;
 use hashbag_words_lib::inputs::Blocks;
-use hashbag_words_lib::jobs::JobText;
 use hashbag_words_lib::lines::BadLines;
-use hashbag_words_lib::row_source::SourceKind;
-use hashbag_words_lib::rows::RowForm;
 use hashbag_words_lib::rule::{Pieces, Rule};
+use hashbag_words_lib::settings::{Ask, By, Pair, Settings, Tokens};
+use hashbag_words_lib::shown_text::Shown;
 use regex::Regex;
 use std::alloc::Global;
-use std::fs::File;
 use std::mem;
 
 /// Returns the pattern that the arguments name, if they name one.
@@ -32,7 +27,7 @@ use std::mem;
 ///
 /// `Arguments` if the pattern is no regular expression, or hasn't the group that is to be counted.
 pub fn pattern_of<'a>(alloc: Global, ask: Ask<'_, '_>) -> Result<Option<Regex>, Trouble<'a>> {
-    let Ask::Count(tokens, _) = ask else {
+    let Some(tokens) = ask.tokens() else {
         return Ok(None);
     };
     let By::Pattern(text, group) = tokens.by else {
@@ -70,22 +65,26 @@ fn pieces_of<'r>(by: By<'_>, pattern: Option<&'r Regex>) -> Pieces<'r> {
     }
 }
 
+// Returns what of a line is counted, and how. `pattern` is the compiled pattern, if the arguments name one.
+fn rule_of<'r>(tokens: Tokens<'_>, pattern: Option<&'r Regex>) -> Rule<'r> {
+    Rule {
+        pieces: pieces_of(tokens.by, pattern),
+        fold: tokens.fold,
+        lossy: tokens.lossy,
+    }
+}
+
 // Counts the tokens of the inputs, and returns the text that shows the tokens.
 fn count<'a, 'b>(
     work: &mut Work<'_, 'a, '_>,
     tokens: Tokens<'a>,
     bag: &'b mut Bag,
-) -> Result<JobText<'b, File>, Trouble<'a>> {
+) -> Result<Shown<'b>, Trouble<'a>> {
     if let By::Column(name, delimiter) = tokens.by {
         work.count_columns(name, delimiter, tokens.fold, bag)?;
         return work.show(bag);
     }
-    let rule = Rule {
-        pieces: pieces_of(tokens.by, work.pattern),
-        fold: tokens.fold,
-        lossy: tokens.lossy,
-    };
-    work.show_tokens(rule, bag)
+    work.show_tokens(rule_of(tokens, work.pattern), bag)
 }
 
 // Reads the two inputs of a job on a pair: the first into the bag, and the second into a new bag.
@@ -105,44 +104,25 @@ fn take_pair<'a>(
 
 // Returns whether bytes that aren't UTF-8 are replaced.
 fn is_lossy(ask: Ask<'_, '_>) -> bool {
-    match ask {
-        Ask::Count(tokens, _) => tokens.lossy,
-        _ => false,
-    }
+    ask.tokens().is_some_and(|tokens| tokens.lossy)
 }
 
 // Returns the option or the command that messages name as the cure for an input that isn't UTF-8.
 fn cure_of(ask: Ask<'_, '_>) -> &'static str {
-    match ask {
-        Ask::Count(..) => BY_OPTION,
-        _ => BY_COMMAND,
+    match ask.tokens() {
+        Some(_) => BY_OPTION,
+        None => BY_COMMAND,
     }
 }
 
-// Merges the inputs, whose lines have this form and whose tokens are in ascending order, line by line. Returns the text that shows the sums.
-fn merge_sorted<'a>(
+// Does a job that counts in a bag, which is empty. Returns the text that the job writes.
+fn text_of_job<'a, 'b>(
     work: &mut Work<'_, 'a, '_>,
-    form: RowForm,
-    folder: &'a str,
-) -> Result<JobText<'static, File>, Trouble<'a>> {
-    let settings = work.settings;
-    let kind = SourceKind::File(form, settings.bad_lines);
-    let mut runs = runs_of(work.rt, folder, work.names, kind)?;
-    let shown = runs.show(settings.choice, look_of(work.rt, settings))?;
-    Ok(JobText::Runs(shown))
-}
-
-// Does a job on the inputs, with an empty bag. Returns the text that the job writes.
-fn do_job<'a, 'b>(
-    work: &mut Work<'_, 'a, '_>,
-    folder: &'a str,
     bag: &'b mut Bag,
-) -> Result<JobText<'b, File>, Trouble<'a>> {
+) -> Result<Shown<'b>, Trouble<'a>> {
     match work.settings.ask {
         Ask::Count(tokens, _) => return count(work, tokens, bag),
-        Ask::Merge(Some(form), _) => return work.show_rows(form, bag),
-        Ask::Merge(None, _) => work.add_all(None, bag, work.names)?,
-        Ask::MergeSorted(form, _) => return merge_sorted(work, form, folder),
+        Ask::Merge(form, _) => return work.show_rows(form, bag),
         Ask::Less(pair) => {
             let other = take_pair(work, pair, bag)?;
             take_away(bag, &other);
@@ -151,65 +131,103 @@ fn do_job<'a, 'b>(
             let other = take_pair(work, pair, bag)?;
             keep_common(bag, &other);
         }
+        // Never: these write as they read.
+        Ask::Tokens(..) | Ask::MergeSorted(_) => {}
     }
     work.show(bag)
 }
 
-// Does a job on the inputs of these names, with an empty bag. Returns the text that the job writes.
-fn text_of_job<'a, 'b>(
-    rt: &HostRuntime,
-    settings: &Settings<'a, '_>,
-    pattern: Option<&Regex>,
-    names: &[&'a str],
-    folder: &'a str,
-    bag: &'b mut Bag,
-) -> Result<JobText<'b, File>, Trouble<'a>> {
-    let memory = settings.ask.many().and_then(|many| many.memory);
-    let runs = match memory {
-        Some(_) => Some(BagRuns {
-            runs: no_runs(rt, folder, names)?,
-        }),
-        None => None,
-    };
-    let encoding = settings.ask.encoding();
-    let progress = Progress::new(rt, settings.reports, names);
-    let mut work = Work {
-        rt,
-        settings,
-        names,
-        pattern,
-        encoding,
-        blocks: HostBlocks::new(
-            rt,
-            progress,
-            encoding,
-            !is_lossy(settings.ask),
-            cure_of(settings.ask),
-        ),
-        gauge: memory.map(|memory| Gauge::new(memory)),
-        runs,
-    };
-    let job_text = do_job(&mut work, folder, bag);
+// Ends the reports on the inputs. If reading them failed, the message names the option or the command that is the cure.
+fn ended<'a, T: Drop>(
+    work: &mut Work<'_, 'a, '_>,
+    done: Result<T, Trouble<'a>>,
+) -> Result<T, Trouble<'a>> {
     work.blocks.end_report();
-    job_text.map_err(|trouble| with_option(rt.alloc(), trouble, cure_of(settings.ask)))
+    let (alloc, cure) = (work.rt.alloc(), cure_of(work.settings.ask));
+    match done {
+        Ok(done) => Ok(done),
+        Err(trouble) => Err(with_option(alloc, trouble, cure)),
+    }
 }
 
-// Does a job on the inputs of these names, with an empty bag, and writes the job's text. Returns whether the text shows no row.
+// Does a job that counts in a bag, which is empty, and writes the job's text. Returns whether the text shows no row.
+fn write_counts<'a>(
+    work: &mut Work<'_, 'a, '_>,
+    output: Output<'a>,
+    bag: &mut Bag,
+) -> Result<bool, Trouble<'a>> {
+    let made = text_of_job(work, bag);
+    match ended(work, made) {
+        Ok(shown) => write(work.rt, output, shown),
+        Err(trouble) => {
+            output.abandon(work.rt);
+            Err(trouble)
+        }
+    }
+}
+
+// Writes each token of the inputs as a line.
+fn write_tokens<'a>(
+    work: &mut Work<'_, 'a, '_>,
+    tokens: Tokens<'a>,
+    output: Output<'a>,
+) -> Result<(), Trouble<'a>> {
+    let rule = rule_of(tokens, work.pattern);
+    let (output, done) = work.write_tokens(rule, HostOutput::new(work.rt, output));
+    output.close(ended(work, done))
+}
+
+// Adds up neighbouring rows of the one input, and writes the sums. Returns whether no row is shown.
+fn write_sums<'a>(work: &mut Work<'_, 'a, '_>, output: Output<'a>) -> Result<bool, Trouble<'a>> {
+    let (output, done) = work.write_sums(HostOutput::new(work.rt, output));
+    output.close(ended(work, done))
+}
+
+// Does a job on the inputs of these names, with an empty bag, and writes the job's text. Returns whether no row is shown.
 fn read_and_write<'a>(
     rt: &HostRuntime,
     settings: &Settings<'a, '_>,
     pattern: Option<&Regex>,
     names: &[&'a str],
-    folder: &'a str,
     bag: &mut Bag,
 ) -> Result<bool, Trouble<'a>> {
     let output = Output::open(rt, settings.output)?;
-    match text_of_job(rt, settings, pattern, names, folder, bag) {
-        Ok(job_text) => write(rt, output, job_text),
-        Err(trouble) => {
-            output.abandon(rt);
-            Err(trouble)
+    let progress = Progress::new(rt, settings.reports, names);
+    let mut work = work_of(
+        rt,
+        settings,
+        names,
+        pattern,
+        progress,
+        cure_of(settings.ask),
+    );
+    match settings.ask {
+        Ask::Tokens(tokens, _) => {
+            write_tokens(&mut work, tokens, output)?;
+            Ok(false)
         }
+        Ask::MergeSorted(_) => write_sums(&mut work, output),
+        _ => write_counts(&mut work, output, bag),
+    }
+}
+
+// Returns what a job works with. Its inputs are in the encoding that the arguments name; messages name `cure` for an input that isn't.
+fn work_of<'s, 'a, 'm>(
+    rt: &'s HostRuntime,
+    settings: &'s Settings<'a, 'm>,
+    names: &'s [&'a str],
+    pattern: Option<&'s Regex>,
+    progress: Progress,
+    cure: &'static str,
+) -> Work<'s, 'a, 'm> {
+    let encoding = settings.ask.encoding();
+    Work {
+        rt,
+        settings,
+        names,
+        pattern,
+        encoding,
+        blocks: HostBlocks::new(rt, progress, encoding, !is_lossy(settings.ask), cure),
     }
 }
 
@@ -226,9 +244,9 @@ fn lines_of<'a>(
         lossy,
     };
     let lines = rule(Pieces::Lines);
-    let mut counter = TextCounter::new(rt.alloc(), empty_bag(rt)?, lines, BadLines::Rejected, None);
+    let mut counter = TextCounter::new(rt.alloc(), empty_bag(rt)?, lines, BadLines::Rejected);
     work.count_all(&mut counter, &[name])?;
-    let mut bag = counter.into_bag();
+    let mut bag = counter.into_sink();
     bag.finish_carry();
     Ok(bag)
 }
@@ -255,8 +273,6 @@ fn excepted<'s, 'a>(
             !is_lossy(settings.ask),
             BY_COMMAND,
         ),
-        gauge: None,
-        runs: None,
     };
     match lines_of(&mut work, name, settings.ask.folds()) {
         Ok(lines) => Ok(Some(lines)),
@@ -264,7 +280,7 @@ fn excepted<'s, 'a>(
     }
 }
 
-/// Does the job and returns the exit status. `pattern` is what [`pattern_of`] returned. Temporary files are in `folder`.
+/// Does the job and returns the exit status. `pattern` is what [`pattern_of`] returned.
 ///
 /// # Errors
 ///
@@ -274,7 +290,6 @@ pub fn run<'a>(
     settings: &Settings<'a, '_>,
     pattern: Option<&Regex>,
     names: &[&'a str],
-    folder: &'a str,
 ) -> Result<u8, Trouble<'a>> {
     check(rt, settings, names)?;
     let except = excepted(rt, settings, names)?;
@@ -287,7 +302,7 @@ pub fn run<'a>(
         ..*settings
     };
     let mut bag = empty_bag(rt)?;
-    let is_empty = read_and_write(rt, &settings, pattern, names, folder, &mut bag);
+    let is_empty = read_and_write(rt, &settings, pattern, names, &mut bag);
     // The program ends soon, and the system then takes all memory back at once.
     mem::forget(bag);
     Ok(if is_empty? && settings.fail_empty {

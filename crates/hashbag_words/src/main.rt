@@ -9,14 +9,14 @@ mod inputs;
 mod jobs;
 mod names;
 mod output;
-mod runs;
 
 use hashbag_shell::VERSION;
 use hashbag_shell::program::{given_to, status_of, words_of};
 use hashbag_shell::status::BAD_INPUT;
+use hashbag_shell::table::command_of;
 use hashbag_shell::trouble::Trouble;
-use hashbag_words_args::command::{command, is_job};
-use hashbag_words_args::settings::Settings;
+use hashbag_words_lib::options::{OPTIONS, is_job};
+use hashbag_words_lib::settings::Settings;
 use regex::Regex;
 use std::alloc::{AllocError, Global};
 use std::process::ExitCode;
@@ -36,19 +36,13 @@ fn with_job(alloc: Global, given: Vec<String>) -> Result<Vec<String>, AllocError
 const PROGRAM: &str = "hashbag_words";
 
 // Does a job on the inputs of these names, and returns the exit status.
-fn run_with_temporary_folder(
+fn run_on_inputs(
     rt: &HostRuntime,
     settings: &Settings<'_, '_>,
     pattern: Option<&Regex>,
     names: &[&str],
 ) -> u8 {
-    let folder = match names::temporary_folder(rt) {
-        Ok(folder) => folder,
-        Err(trouble) => return trouble.report(rt, PROGRAM),
-    };
-    let tmp = settings.ask.many().and_then(|many| many.tmp);
-    let folder = tmp.unwrap_or(folder.as_str());
-    match jobs::run(rt, settings, pattern, names, folder) {
+    match jobs::run(rt, settings, pattern, names) {
         Ok(status) => status,
         Err(trouble) => names::with_near_job(rt.alloc(), trouble).report(rt, PROGRAM),
     }
@@ -77,7 +71,7 @@ fn run_on_folders(
     let Ok(names) = lent(rt.alloc(), &files) else {
         return Trouble::Memory.report(rt, PROGRAM);
     };
-    run_with_temporary_folder(rt, settings, pattern, &names)
+    run_on_inputs(rt, settings, pattern, &names)
 }
 
 // Does a job, and returns the exit status. If there is a list, its names are the inputs.
@@ -93,7 +87,7 @@ fn run_with_names(
     if settings.ask.is_recursive() {
         return run_on_folders(rt, settings, pattern, &names);
     }
-    run_with_temporary_folder(rt, settings, pattern, &names)
+    run_on_inputs(rt, settings, pattern, &names)
 }
 
 // Reads the list of inputs, if one is named, does the job, and returns the exit status.
@@ -124,7 +118,10 @@ fn version(alloc: Global) -> Result<String, AllocError> {
 
 // Does the job that the words name, and returns the exit status.
 fn answer<'a>(rt: &HostRuntime, version: &'a str, words: &'a [String]) -> Result<u8, Trouble<'a>> {
-    let given = given_to(rt, command(rt.alloc(), version), words)?;
+    let command = command_of(rt.alloc(), OPTIONS)?
+        .version(version)
+        .subcommand_required(true);
+    let given = given_to(rt, Ok(command), words)?;
     let Some((job, given)) = given.subcommand() else {
         return Ok(BAD_INPUT);
     };

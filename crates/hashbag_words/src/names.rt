@@ -2,14 +2,15 @@
 use crate::folders::is_folder;
 use hashbag_shell::one_file::is_one_file;
 use hashbag_shell::status::{BAD_INPUT, IO_FAILED};
+use hashbag_shell::table::job_in;
 use hashbag_shell::tips::is_near;
 use hashbag_shell::trouble::Trouble;
-use hashbag_words_args::command::JOBS;
-use hashbag_words_args::settings::{Ask, Settings};
+use hashbag_words_lib::options::OPTIONS;
+use hashbag_words_lib::settings::{Ask, Settings};
 use hashbag_words_lib::troubles::of_text;
 use std::alloc::{AllocError, Global};
 use std::io::ErrorKind;
-use std::{env, fs, io};
+use std::{fs, io};
 
 /// Reads the file that `--files-from` names.
 ///
@@ -37,8 +38,10 @@ pub fn with_near_job<'a>(alloc: Global, trouble: Trouble<'a>) -> Trouble<'a> {
         return trouble;
     };
     if error.kind() == ErrorKind::NotFound {
-        for job in JOBS {
-            if is_near(alloc, file, job).is_ok_and(|near| near) {
+        for line in OPTIONS {
+            if let Some(job) = job_in(line)
+                && is_near(alloc, file, job).is_ok_and(|near| near)
+            {
                 let what = format!(in alloc; "{file}: {error}; is it the job `{job}`?");
                 return Trouble::with_status(what, IO_FAILED);
             }
@@ -82,29 +85,18 @@ pub fn inputs_of<'a>(
     }
     let mut names = Vec::new(alloc);
     match settings.ask {
+        Ask::MergeSorted(name) => names.push(name)?,
         Ask::Less(pair) | Ask::Common(pair) => {
             names.push(pair.first)?;
             names.push(pair.second)?;
         }
-        Ask::Count(_, many) | Ask::Merge(_, many) | Ask::MergeSorted(_, many) => match many.files {
+        Ask::Count(_, many) | Ask::Tokens(_, many) | Ask::Merge(_, many) => match many.files {
             Some(files) => names.extend_from_slice(files)?,
             None if many.recursive => names.push(".")?,
             None => names.push("-")?,
         },
     }
     Ok(names)
-}
-
-/// Returns the default folder of temporary files. If `--tmp` names a folder, the caller uses that one.
-///
-/// # Errors
-///
-/// `File` if the path of the default folder can't be read.
-pub fn temporary_folder<'a>(rt: &HostRuntime) -> Result<String, Trouble<'a>> {
-    match env::temp_dir(rt) {
-        Ok(folder) => Ok(folder.into_string()),
-        Err(error) => Err(Trouble::of_file("TMPDIR", error)),
-    }
 }
 
 // Returns the trouble that the file of `--except` is also `what`: the output, or an input.

@@ -1,19 +1,14 @@
 -- What a line that ends, bytes that are kept, and the end of a file do to the rows that are added.
-use Rattle.std.proofs.Common.{◌≡◌, ◌≢◌, ℕ, ◌+◌, ◌-◌, ◌^◌, ◌<◌, Bool, true, false, cond, eqb, List, [], ◌∷◌, ◌++◌, length, get_or, map, min, String, string_bytes, bytes_eq, sum_by, Result, Ok, Err, OnOk, Global, refl, sym, ◌∙◌, ap, subst, arith, ne_eqb, length-append, append_assoc}
+use Rattle.std.proofs.Common.{◌≡◌, ◌≢◌, ℕ, ◌+◌, ◌-◌, ◌^◌, ◌<◌, Bool, true, false, cond, eqb, List, [], ◌∷◌, ◌++◌, length, get_or, min, Result, Ok, Err, OnOk, refl, sym, ◌∙◌, ap, subst, arith, ne_eqb, length-append, append_assoc}
 use borrow.Author.Tests.{eqb-true, eqb-false}
 use Rattle.std.specs.Str.Lines.{lines, strip_carriage_return}
 use Rattle.std.proofs.lemmas.List.{append-nil, get_or-append_right}
 use Rattle.std.proofs.lemmas.List.Elements.{All-append}
-use Rattle.std.proofs.lemmas.List.Sums.{sum_by-append, sum_by-cons, sum_by_push}
-use Rattle.hashbag_core.specs.Bag.{Bag}
-use Rattle.hashbag_core.specs.Occurrences.{count}
-use Rattle.hashbag_words_lib.specs.Added.{line_at, Added, AddsRows, AreReadAs, AreRowsOf, HaveRows, IsFirstNoRow, IsReadAs}
+use Rattle.hashbag_words_lib.specs.Added.{line_at, unmarked, Added, AreReadAs, AreRowsOf, IsFirstNoRow, IsReadAs}
 use Rattle.hashbag_words_lib.specs.Counted.{NoLineFeed}
-use Rattle.hashbag_words_lib.specs.Counts.{texts_in, AddsTimes}
+use Rattle.hashbag_words_lib.specs.Counts.{KeepsRows, TakesRows}
 use Rattle.hashbag_words_lib.specs.LineEnds.{EndsLine}
 use Rattle.hashbag_words_lib.specs.Rows.{IsNoRow}
-use Rattle.hashbag_words_lib.specs.Runs.{unmarked}
-use Rattle.hashbag_words_lib.specs.Sorted.{of_row, times_in}
 use Rattle.hashbag_words_lib.specs.Tokens.{without_mark}
 use Rattle.hashbag_words_lib.specs.declared.lines.BadLines.{BadLines}
 use Rattle.hashbag_words_lib.specs.declared.lines.BadLines.TheVariants.{Rejected, Skipped}
@@ -58,70 +53,39 @@ at_number line n bytes is = ap (λ (b : Bool). cond b (without_mark bytes) bytes
     both true zero = let none : n ≡ 0 = eqb-true n 0 zero in let at : line ≡ 0 = omega (arith, is, none) in ap (λ (k : ℕ). eqb k 0) at ∙ sym zero
     both false some = ne_eqb line 0 (λ z. eqb-false n 0 some (omega (arith, is, z))) ∙ sym some
 
-module _ {S : Type 0} where
-  -- ---- the bag and its runs
-
-  -- a row was added
-  pub adds_one : (old new : Bag (String Global) S) (token : List ℕ) (n : ℕ) → AddsTimes old new token n → AddsRows old new ((token, n) ∷ [])
-  adds_one old new token n h text =
-      h text ∙ ap (λ (k : ℕ). count bytes_eq text (texts_in old) + k) (none_behind (cond (bytes_eq text token) n 0) ∙ sym (sum_by-cons (of_row text) (token, n) []))
-    where
-      none_behind : (k : ℕ) → k ≡ k + 0
-      none_behind k = omega arith
-
-  pub adds_none : (bag : Bag (String Global) S) → AddsRows bag bag []
-  adds_none bag text = none_behind (count bytes_eq text (texts_in bag))
-    where
-      none_behind : (k : ℕ) → k ≡ k + 0
-      none_behind k = omega arith
-
+module _ {M K : Type 0} (has : M → K → List (List ℕ × ℕ) → Type 0) where
   -- a line that is no row was skipped, or rejected
-  pub skipped_line : {X E : Type 0} (r : Result X E) (form : RowForm) (bad_lines before : BadLines) (line : List ℕ) (old new : Bag (String Global) S) → OnOk r (before ≡ Skipped) → before ≡ bad_lines → IsNoRow form line → new ≡ old
-      → OnOk r ((rows : List (List ℕ × ℕ)) × IsReadAs form bad_lines line rows × AddsRows old new rows)
-  skipped_line (Ok x) form bad_lines before line old new is same none kept = ([], (sym same ∙ is, none), subst (λ (b : Bag (String Global) S). AddsRows old b []) (sym kept) (adds_none old))
+  pub skipped_line : {X E : Type 0} (r : Result X E) (form : RowForm) (bad_lines before : BadLines) (line : List ℕ) (old new : K) → OnOk r (before ≡ Skipped) → before ≡ bad_lines → IsNoRow form line → new ≡ old
+      → OnOk r ((rows : List (List ℕ × ℕ)) × IsReadAs form bad_lines line rows × TakesRows has old new rows)
+  skipped_line (Ok x) form bad_lines before line old new is same none kept = ([], (sym same ∙ is, none), subst (λ (k : K). TakesRows has old k []) (sym kept) (λ shown rows h. subst (has shown old) (sym (append-nil rows)) h))
   skipped_line (Err e) form bad_lines before line old new is same none kept = tt
 
   -- rows were added
-  have_more : (runs : List (List (List ℕ × ℕ))) (old new : Bag (String Global) S) (before rows more : List (List ℕ × ℕ)) → HaveRows runs old (before ++ rows) → AddsRows old new more → HaveRows runs new (before ++ (rows ++ more))
-  have_more runs old new before rows more h adds text =
-      let was : count bytes_eq text (texts_in old) + sum_by (times_in text) runs ≡ times_in text (before ++ rows) = h text in
-      let grows : count bytes_eq text (texts_in new) ≡ count bytes_eq text (texts_in old) + times_in text more = adds text in
-      let parts : times_in text ((before ++ rows) ++ more) ≡ times_in text (before ++ rows) + times_in text more = sum_by-append (of_row text) (before ++ rows) more in
-      let same : times_in text (before ++ (rows ++ more)) ≡ times_in text ((before ++ rows) ++ more) = ap (times_in text) (sym (append_assoc before rows more)) in
-      omega (arith, was, grows, parts, same)
-
-  -- the bag became a run
-  have_run : (runs : List (List (List ℕ × ℕ))) (run : List (List ℕ × ℕ)) (old new : Bag (String Global) S) (rows : List (List ℕ × ℕ)) → new.items ≡ [] → ((text : List ℕ) → times_in text run ≡ count bytes_eq text (texts_in old))
-      → HaveRows runs old rows → HaveRows (runs ++ run ∷ []) new rows
-  have_run runs run old new rows none is h text =
-      let gone : count bytes_eq text (texts_in new) ≡ 0 = ap (λ (l : List (String Global)). count bytes_eq text (map string_bytes l)) none in
-      let pushed : sum_by (times_in text) (runs ++ run ∷ []) ≡ sum_by (times_in text) runs + times_in text run = sum_by_push (times_in text) runs run in
-      let was : times_in text run ≡ count bytes_eq text (texts_in old) = is text in
-      let before : count bytes_eq text (texts_in old) + sum_by (times_in text) runs ≡ times_in text rows = h text in
-      omega (arith, gone, pushed, was, before)
+  have_more : (shown : M) (old new : K) (before rows more : List (List ℕ × ℕ)) → has shown old (before ++ rows) → TakesRows has old new more → has shown new (before ++ (rows ++ more))
+  have_more shown old new before rows more h takes = subst (has shown new) (append_assoc before rows more) (takes shown (before ++ rows) h)
 
   -- ---- the counter
 
   -- nothing was given
-  pub Added-nothing : (form : RowForm) (before : List (List ℕ × ℕ)) (runs : List (List (List ℕ × ℕ))) (bag : Bag (String Global) S) (partial : List ℕ) (reading : LinesRead) → HaveRows runs bag before → partial ≡ []
-      → reading.line ≡ 0 → Added form before runs bag partial reading []
-  Added-nothing form before runs bag partial reading counts empty none = record {
+  pub Added-nothing : (form : RowForm) (shown : M) (before : List (List ℕ × ℕ)) (sink : K) (partial : List ℕ) (reading : LinesRead) → has shown sink before → partial ≡ []
+      → reading.line ≡ 0 → Added has form shown before sink partial reading []
+  Added-nothing form shown before sink partial reading counts empty none = record {
     ended = [];
     cut = sym empty;
     ends = λ some. absurd (omega arith);
     unended = none_kept partial empty;
     rows = [];
     read = refl;
-    counts = subst (HaveRows runs bag) (sym (append-nil before)) counts;
+    counts = subst (has shown sink) (sym (append-nil before)) counts;
     line = none ∙ omega arith;
   }
 
   -- a line has ended, and was read with what was kept of it
-  module _ (form : RowForm) (old new : Bag (String Global) S) (partial rest line kept : List ℕ) (first after : LinesRead) (none : NoLineFeed rest) (is : line ≡ strip_carriage_return (partial ++ rest)) (empty : kept ≡ [])
+  module _ (form : RowForm) (old new : K) (partial rest line kept : List ℕ) (first after : LinesRead) (none : NoLineFeed rest) (is : line ≡ strip_carriage_return (partial ++ rest)) (empty : kept ≡ [])
       (same : after.bad_lines ≡ first.bad_lines) (next : after.line ≡ min (first.line + 1) (2 ^ 64 - 1)) where
-    Added-line : (before : List (List ℕ × ℕ)) (runs : List (List (List ℕ × ℕ))) (more : List (List ℕ × ℕ)) (text : List ℕ) → IsReadAs form first.bad_lines (line_at first.line line) more → AddsRows old new more
-        → Added form before runs old partial first text → Added form before runs new kept after (text ++ (rest ++ 10 ∷ []))
-    Added-line before runs more text one adds h =
+    Added-line : (shown : M) (before : List (List ℕ × ℕ)) (more : List (List ℕ × ℕ)) (text : List ℕ) → IsReadAs form first.bad_lines (line_at first.line line) more → TakesRows has old new more
+        → Added has form shown before old partial first text → Added has form shown before new kept after (text ++ (rest ++ 10 ∷ []))
+    Added-line shown before more text one adds h =
         let whole = with_line h.ended partial rest in
         let both : lines whole ≡ lines h.ended ++ line ∷ [] = lines_more h.ended partial rest line h.ends h.unended none is in
         let so_far : first.line ≡ min (length (lines h.ended)) (2 ^ 64 - 1) = h.line in
@@ -137,21 +101,21 @@ module _ {S : Type 0} where
               (subst (λ (l : List (List ℕ)). AreReadAs form first.bad_lines l (h.rows ++ more)) (sym (ap unmarked both ∙ unmarked_middle (lines h.ended) line []))
               (read_push form first.bad_lines (unmarked (lines h.ended)) (line_at (length (lines h.ended)) line) h.rows more h.read
               (subst (λ (l : List ℕ). IsReadAs form first.bad_lines l more) (at_number first.line (length (lines h.ended)) line h.line) one)));
-          counts = have_more runs old new before h.rows more h.counts adds;
+          counts = have_more shown old new before h.rows more h.counts adds;
           line = omega (arith, next, so_far, long);
         }
 
     -- the same, where that may have been an error
-    pub Added-line-ok : {X E : Type 0} (r : Result X E) → OnOk r ((rows : List (List ℕ × ℕ)) × IsReadAs form first.bad_lines (line_at first.line line) rows × AddsRows old new rows)
-        → OnOk r ((before : List (List ℕ × ℕ)) (runs : List (List (List ℕ × ℕ))) (text : List ℕ) → Added form before runs old partial first text → Added form before runs new kept after (text ++ (rest ++ 10 ∷ [])))
-    Added-line-ok (Ok x) one = λ before runs text h. Added-line before runs one.0 text one.1 one.2 h
+    pub Added-line-ok : {X E : Type 0} (r : Result X E) → OnOk r ((rows : List (List ℕ × ℕ)) × IsReadAs form first.bad_lines (line_at first.line line) rows × TakesRows has old new rows)
+        → OnOk r ((shown : M) (before : List (List ℕ × ℕ)) (text : List ℕ) → Added has form shown before old partial first text → Added has form shown before new kept after (text ++ (rest ++ 10 ∷ [])))
+    Added-line-ok (Ok x) one = λ shown before text h. Added-line shown before one.0 text one.1 one.2 h
     Added-line-ok (Err e) one = tt
 
   -- the line that ended is no row, and bad lines are rejected
-  pub Added-bad : (form : RowForm) (before : List (List ℕ × ℕ)) (runs : List (List (List ℕ × ℕ))) (bag : Bag (String Global) S) (partial rest line : List ℕ) (first after : LinesRead) (text more : List ℕ) → NoLineFeed rest
+  pub Added-bad : (form : RowForm) (shown : M) (before : List (List ℕ × ℕ)) (sink : K) (partial rest line : List ℕ) (first after : LinesRead) (text more : List ℕ) → NoLineFeed rest
       → line ≡ strip_carriage_return (partial ++ rest) → (first.bad_lines ≡ Rejected) × IsNoRow form (line_at first.line line) → after.bad_lines ≡ first.bad_lines → after.line ≡ min (first.line + 1) (2 ^ 64 - 1)
-      → Added form before runs bag partial first text → IsFirstNoRow form ((text ++ (rest ++ 10 ∷ [])) ++ more) after
-  Added-bad form before runs bag partial rest line first after text more none is bad same next h = record {
+      → Added has form shown before sink partial first text → IsFirstNoRow form ((text ++ (rest ++ 10 ∷ [])) ++ more) after
+  Added-bad form shown before sink partial rest line first after text more none is bad same next h = record {
     front = unmarked (lines h.ended);
     bad = line_at (length (lines h.ended)) line;
     rest = lines more;
@@ -164,9 +128,9 @@ module _ {S : Type 0} where
   }
 
   -- bytes were kept
-  pub Added-rest : (form : RowForm) (before : List (List ℕ × ℕ)) (runs : List (List (List ℕ × ℕ))) (bag : Bag (String Global) S) (partial rest : List ℕ) (reading : LinesRead) (text : List ℕ) → NoLineFeed rest
-      → Added form before runs bag partial reading text → Added form before runs bag (partial ++ rest) reading (text ++ rest)
-  Added-rest form before runs bag partial rest reading text none h = record {
+  pub Added-rest : (form : RowForm) (shown : M) (before : List (List ℕ × ℕ)) (sink : K) (partial rest : List ℕ) (reading : LinesRead) (text : List ℕ) → NoLineFeed rest
+      → Added has form shown before sink partial reading text → Added has form shown before sink (partial ++ rest) reading (text ++ rest)
+  Added-rest form shown before sink partial rest reading text none h = record {
     ended = h.ended;
     cut = ap (λ (l : List ℕ). l ++ rest) h.cut ∙ append_assoc h.ended partial rest;
     ends = h.ends;
@@ -177,31 +141,31 @@ module _ {S : Type 0} where
     line = h.line;
   }
 
-  -- the bag became a run
-  pub Added-run : (form : RowForm) (before : List (List ℕ × ℕ)) (runs : List (List (List ℕ × ℕ))) (run : List (List ℕ × ℕ)) (old new : Bag (String Global) S) (partial : List ℕ) (reading : LinesRead) (text : List ℕ) → new.items ≡ []
-      → ((text : List ℕ) → times_in text run ≡ count bytes_eq text (texts_in old)) → Added form before runs old partial reading text → Added form before (runs ++ run ∷ []) new partial reading text
-  Added-run form before runs run old new partial reading text none is h = record {
+  -- the sink has what it had
+  pub Added-kept : (form : RowForm) (shown : M) (before : List (List ℕ × ℕ)) (old new : K) (partial : List ℕ) (reading : LinesRead) (text : List ℕ) → KeepsRows has old new
+      → Added has form shown before old partial reading text → Added has form shown before new partial reading text
+  Added-kept form shown before old new partial reading text keeps h = record {
     ended = h.ended;
     cut = h.cut;
     ends = h.ends;
     unended = h.unended;
     rows = h.rows;
     read = h.read;
-    counts = have_run runs run old new (before ++ h.rows) none is h.counts;
+    counts = keeps shown (before ++ h.rows) h.counts;
     line = h.line;
   }
 
   -- no file was begun
-  pub Added-none : (form : RowForm) (before : List (List ℕ × ℕ)) (runs : List (List (List ℕ × ℕ))) (bag : Bag (String Global) S) (partial : List ℕ) (reading : LinesRead) → Added form before runs bag partial reading [] → HaveRows runs bag before
-  Added-none form before runs bag partial reading h =
+  pub Added-none : (form : RowForm) (shown : M) (before : List (List ℕ × ℕ)) (sink : K) (partial : List ℕ) (reading : LinesRead) → Added has form shown before sink partial reading [] → has shown sink before
+  Added-none form shown before sink partial reading h =
       let none : lines h.ended ≡ [] = ap lines (nil_first h.ended partial h.cut) in
       let rows : h.rows ≡ [] = subst (λ (l : List (List ℕ)). AreReadAs form reading.bad_lines (unmarked l) h.rows) none h.read in
-      subst (HaveRows runs bag) (ap (λ (l : List (List ℕ × ℕ)). before ++ l) rows ∙ append-nil before) h.counts
+      subst (has shown sink) (ap (λ (l : List (List ℕ × ℕ)). before ++ l) rows ∙ append-nil before) h.counts
 
   -- the file ends, and what was kept was skipped
-  pub Added-all : (form : RowForm) (before : List (List ℕ × ℕ)) (runs : List (List (List ℕ × ℕ))) (bag : Bag (String Global) S) (partial : List ℕ) (reading : LinesRead) (text : List ℕ) → (reading.bad_lines ≡ Rejected → partial ≡ [])
-      → Added form before runs bag partial reading text → (rows : List (List ℕ × ℕ)) × AreRowsOf form reading.bad_lines text rows × HaveRows runs bag (before ++ rows)
-  Added-all form before runs bag partial reading text whole h = (
+  pub Added-all : (form : RowForm) (shown : M) (before : List (List ℕ × ℕ)) (sink : K) (partial : List ℕ) (reading : LinesRead) (text : List ℕ) → (reading.bad_lines ≡ Rejected → partial ≡ [])
+      → Added has form shown before sink partial reading text → (rows : List (List ℕ × ℕ)) × AreRowsOf form reading.bad_lines text rows × has shown sink (before ++ rows)
+  Added-all form shown before sink partial reading text whole h = (
     h.rows,
     record {
       ended = h.ended;
@@ -216,9 +180,9 @@ module _ {S : Type 0} where
   )
 
   -- what is kept is no line that has ended
-  pub Added-cut : (form : RowForm) (before : List (List ℕ × ℕ)) (runs : List (List (List ℕ × ℕ))) (bag : Bag (String Global) S) (partial : List ℕ) (reading : LinesRead) (text : List ℕ) → 0 < length partial
-      → Added form before runs bag partial reading text → EndsLine text → ⊥
-  Added-cut form before runs bag partial reading text some h ends = not_ended h.ended partial some h.unended (subst EndsLine h.cut ends)
+  pub Added-cut : (form : RowForm) (shown : M) (before : List (List ℕ × ℕ)) (sink : K) (partial : List ℕ) (reading : LinesRead) (text : List ℕ) → 0 < length partial
+      → Added has form shown before sink partial reading text → EndsLine text → ⊥
+  Added-cut form shown before sink partial reading text some h ends = not_ended h.ended partial some h.unended (subst EndsLine h.cut ends)
     where
       not_ended : (ended part : List ℕ) → 0 < length part → NoLineFeed part → EndsLine (ended ++ part) → ⊥
       not_ended ended part some none ends =

@@ -1,19 +1,13 @@
 -- What a line that ends, bytes that are kept, and the end of a text do to what is counted.
 use Rattle.std.proofs.Common.{◌≡◌, ◌≢◌, ℕ, ◌+◌, ◌-◌, ◌^◌, ◌<◌, Bool, true, false, filter, map, cond, eqb, List, [], ◌∷◌, ◌++◌, length, take, drop, min, get_or, String, string_bytes, bytes_eq, sum_by, Option, None, Some, Result, Ok, Err, OnOk, IfErr, IsErrAnd, Global, refl, sym, ◌∙◌, ap, subst, arith, ne_eqb, eq-eqb, length-append, append_assoc}
 use borrow.Author.Tests.{eqb-true, eqb-false}
-use Rattle.std.specs.Cmp.Lexicographic.{nat_list_eq_equiv}
 use Rattle.std.specs.Str.Lines.{lines, lines_of_parts, strip_carriage_return}
 use Rattle.std.proofs.lemmas.List.{append-nil, get_or_at, get_or_default, get_or-take, drop_more, take-append-drop, length-take-le}
 use Rattle.std.proofs.lemmas.List.Elements.{All-nil, All-cons, All-append, filter-append}
 use Rattle.std.proofs.lemmas.List.Splits.{slice_split_none}
-use Rattle.std.proofs.lemmas.List.Sums.{sum_by_push}
-use Rattle.hashbag_core.specs.Bag.{Bag}
-use Rattle.hashbag_core.specs.EqualityLaws.{count_append}
-use Rattle.hashbag_core.specs.Occurrences.{count}
-use Rattle.hashbag_words_lib.specs.Counts.{texts_in, AddsTexts}
-use Rattle.hashbag_words_lib.specs.Counted.{how_many, Counted, HaveTogether, IsFirstBad, IsReadingOf, NoLineFeed, NoneIsBad}
+use Rattle.hashbag_words_lib.specs.Counts.{Keeps, Takes}
+use Rattle.hashbag_words_lib.specs.Counted.{how_many, Counted, IsFirstBad, IsReadingOf, NoLineFeed, NoneIsBad}
 use Rattle.hashbag_words_lib.specs.LineEnds.{EndsLine}
-use Rattle.hashbag_words_lib.specs.Sorted.{times_in}
 use Rattle.hashbag_words_lib.specs.Tokens.{is_bad, is_replaced, tokens_of, tokens_of_lines}
 use Rattle.hashbag_words_lib.specs.declared.errors.BadLine.{BadLine}
 use Rattle.hashbag_words_lib.specs.declared.errors.InputFault.{InputFault}
@@ -200,60 +194,33 @@ module _ (ended partial rest line : List ℕ) (ends : EndsLine ended) (unended :
         ∙ ap (λ (l : List (List ℕ)). l ++ lines more) lines_more
         ∙ append_assoc (lines ended) (line ∷ []) (lines more)
 
-module _ {S : Type 0} where
-  -- ---- the bag and its runs
-
-  -- what was in the bag
-  pub Together-start : (bag : Bag (String Global) S) → HaveTogether [] bag (texts_in bag)
-  Together-start bag text = none_behind (count bytes_eq text (texts_in bag))
-    where
-      none_behind : (n : ℕ) → n + 0 ≡ n
-      none_behind n = omega arith
-
-  -- texts were added
-  Together-more : (runs : List (List (List ℕ × ℕ))) (old new : Bag (String Global) S) (xs ys : List (List ℕ)) → HaveTogether runs old xs → AddsTexts old new ys → HaveTogether runs new (xs ++ ys)
-  Together-more runs old new xs ys h adds text =
-      let before : count bytes_eq text (texts_in old) + sum_by (times_in text) runs ≡ count bytes_eq text xs = h text in
-      let more : count bytes_eq text (texts_in new) ≡ count bytes_eq text (texts_in old) + count bytes_eq text ys = adds text in
-      let parts : count bytes_eq text (xs ++ ys) ≡ count bytes_eq text xs + count bytes_eq text ys = count_append nat_list_eq_equiv text xs ys in
-      omega (arith, before, more, parts)
-
+module _ {K : Type 0} (has : K → List (List ℕ) → Type 0) where
   -- the tokens of one line more were added
-  tokens_more : (rule : Rule) (before : List (List ℕ)) (runs : List (List (List ℕ × ℕ))) (old new : Bag (String Global) S) (ended whole line : List ℕ) → lines whole ≡ lines ended ++ line ∷ []
-      → AddsTexts old new (tokens_of_lines rule (line ∷ [])) → HaveTogether runs old (before ++ tokens_of rule ended) → HaveTogether runs new (before ++ tokens_of rule whole)
-  tokens_more rule before runs old new ended whole line both adds h =
-      subst (HaveTogether runs new)
+  tokens_more : (rule : Rule) (before : List (List ℕ)) (old new : K) (ended whole line : List ℕ) → lines whole ≡ lines ended ++ line ∷ []
+      → Takes has old new (tokens_of_lines rule (line ∷ [])) → has old (before ++ tokens_of rule ended) → has new (before ++ tokens_of rule whole)
+  tokens_more rule before old new ended whole line both adds h =
+      subst (has new)
       (append_assoc before (tokens_of rule ended) (tokens_of_lines rule (line ∷ []))
       ∙ ap (λ (l : List (List ℕ)). before ++ l) (sym (ap (λ (l : List (List ℕ)). tokens_of_lines rule l) both ∙ tokens_of_lines-append rule (lines ended) (line ∷ []))))
-      (Together-more runs old new (before ++ tokens_of rule ended) (tokens_of_lines rule (line ∷ [])) h adds)
-
-  -- the bag became a run
-  Together-run : (runs : List (List (List ℕ × ℕ))) (rows : List (List ℕ × ℕ)) (old new : Bag (String Global) S) (tokens : List (List ℕ)) → new.items ≡ [] → ((text : List ℕ) → times_in text rows ≡ count bytes_eq text (texts_in old))
-      → HaveTogether runs old tokens → HaveTogether (runs ++ rows ∷ []) new tokens
-  Together-run runs rows old new tokens none is h text =
-      let gone : count bytes_eq text (texts_in new) ≡ 0 = ap (λ (l : List (String Global)). count bytes_eq text (map string_bytes l)) none in
-      let pushed : sum_by (times_in text) (runs ++ rows ∷ []) ≡ sum_by (times_in text) runs + times_in text rows = sum_by_push (times_in text) runs rows in
-      let run : times_in text rows ≡ count bytes_eq text (texts_in old) = is text in
-      let before : count bytes_eq text (texts_in old) + sum_by (times_in text) runs ≡ count bytes_eq text tokens = h text in
-      omega (arith, gone, pushed, run, before)
+      (adds (before ++ tokens_of rule ended) h)
 
   -- ---- the counter
 
   -- how the ended lines were read
-  so_read : (rule : Rule) (before : List (List ℕ)) (runs : List (List (List ℕ × ℕ))) (bag : Bag (String Global) S) (partial : List ℕ) (reading : LinesRead) (text : List ℕ) (h : Counted rule before runs bag partial reading text) → IsReadingOf rule h.ended reading
-  so_read rule before runs bag partial reading text h = record { line = h.line; skipped = h.skipped; replaced = h.replaced; passed = h.passed }
+  so_read : (rule : Rule) (before : List (List ℕ)) (sink : K) (partial : List ℕ) (reading : LinesRead) (text : List ℕ) (h : Counted has rule before sink partial reading text) → IsReadingOf rule h.ended reading
+  so_read rule before sink partial reading text h = record { line = h.line; skipped = h.skipped; replaced = h.replaced; passed = h.passed }
 
   -- nothing was given
-  pub Counted-nothing : (rule : Rule) (before : List (List ℕ)) (runs : List (List (List ℕ × ℕ))) (bag : Bag (String Global) S) (partial : List ℕ) (reading : LinesRead) → HaveTogether runs bag before → partial ≡ []
-      → (reading.line ≡ 0) × (reading.skipped ≡ 0) × (reading.replaced ≡ 0) → Counted rule before runs bag partial reading []
-  Counted-nothing rule before runs bag partial reading counts empty none =
+  pub Counted-nothing : (rule : Rule) (before : List (List ℕ)) (sink : K) (partial : List ℕ) (reading : LinesRead) → has sink before → partial ≡ []
+      → (reading.line ≡ 0) × (reading.skipped ≡ 0) × (reading.replaced ≡ 0) → Counted has rule before sink partial reading []
+  Counted-nothing rule before sink partial reading counts empty none =
       let read = nothing_read rule reading none in
       record {
         ended = [];
         cut = sym empty;
         ends = λ some. absurd (omega arith);
         unended = none_kept partial empty;
-        counts = subst (HaveTogether runs bag) (sym (append-nil before)) counts;
+        counts = subst (has sink) (sym (append-nil before)) counts;
         line = read.line;
         skipped = read.skipped;
         replaced = read.replaced;
@@ -261,19 +228,19 @@ module _ {S : Type 0} where
       }
 
   -- a line has ended, and was counted with what was kept of it
-  Counted-line : (rule : Rule) (before : List (List ℕ)) (runs : List (List (List ℕ × ℕ))) (old new : Bag (String Global) S) (partial rest line kept : List ℕ) (first after : LinesRead) (text : List ℕ) → NoLineFeed rest
-      → line ≡ strip_carriage_return (partial ++ rest) → kept ≡ [] → AddsTexts old new (tokens_of_lines rule (line ∷ [])) → Read rule first after line
-      → Counted rule before runs old partial first text → Counted rule before runs new kept after (text ++ (rest ++ 10 ∷ []))
-  Counted-line rule before runs old new partial rest line kept first after text none is empty adds read h =
+  Counted-line : (rule : Rule) (before : List (List ℕ)) (old new : K) (partial rest line kept : List ℕ) (first after : LinesRead) (text : List ℕ) → NoLineFeed rest
+      → line ≡ strip_carriage_return (partial ++ rest) → kept ≡ [] → Takes has old new (tokens_of_lines rule (line ∷ [])) → Read rule first after line
+      → Counted has rule before old partial first text → Counted has rule before new kept after (text ++ (rest ++ 10 ∷ []))
+  Counted-line rule before old new partial rest line kept first after text none is empty adds read h =
       let whole = with_line h.ended partial rest in
       let both = lines_more h.ended partial rest line h.ends h.unended none is in
-      let now : IsReadingOf rule whole after = lines_read rule h.ended whole line first after both read (so_read rule before runs old partial first text h) in
+      let now : IsReadingOf rule whole after = lines_read rule h.ended whole line first after both read (so_read rule before old partial first text h) in
       record {
         ended = whole;
         cut = text_more h.ended partial rest line h.ends h.unended none is text h.cut kept empty;
         ends = line_ends h.ended partial rest line h.ends h.unended none is;
         unended = none_kept kept empty;
-        counts = tokens_more rule before runs old new h.ended whole line both adds h.counts;
+        counts = tokens_more rule before old new h.ended whole line both adds h.counts;
         line = now.line;
         skipped = now.skipped;
         replaced = now.replaced;
@@ -281,18 +248,18 @@ module _ {S : Type 0} where
       }
 
   -- the same, where that may have been an error
-  pub Counted-line-ok : {X E : Type 0} (r : Result X E) (rule : Rule) (old new : Bag (String Global) S) (partial rest line kept : List ℕ) (first after : LinesRead) → NoLineFeed rest
-      → line ≡ strip_carriage_return (partial ++ rest) → kept ≡ [] → OnOk r (AddsTexts old new (tokens_of_lines rule (line ∷ []))) → OnOk r (Read rule first after line)
-      → OnOk r ((before : List (List ℕ)) (runs : List (List (List ℕ × ℕ))) (text : List ℕ) → Counted rule before runs old partial first text → Counted rule before runs new kept after (text ++ (rest ++ 10 ∷ [])))
+  pub Counted-line-ok : {X E : Type 0} (r : Result X E) (rule : Rule) (old new : K) (partial rest line kept : List ℕ) (first after : LinesRead) → NoLineFeed rest
+      → line ≡ strip_carriage_return (partial ++ rest) → kept ≡ [] → OnOk r (Takes has old new (tokens_of_lines rule (line ∷ []))) → OnOk r (Read rule first after line)
+      → OnOk r ((before : List (List ℕ)) (text : List ℕ) → Counted has rule before old partial first text → Counted has rule before new kept after (text ++ (rest ++ 10 ∷ [])))
   Counted-line-ok (Ok x) rule old new partial rest line kept first after none is empty adds read =
-      λ before runs text h. Counted-line rule before runs old new partial rest line kept first after text none is empty adds read h
+      λ before text h. Counted-line rule before old new partial rest line kept first after text none is empty adds read h
   Counted-line-ok (Err e) rule old new partial rest line kept first after none is empty adds read = tt
 
   -- the line that ended is bad, and is rejected
-  pub Counted-bad : (rule : Rule) (before : List (List ℕ)) (runs : List (List (List ℕ × ℕ))) (bag : Bag (String Global) S) (partial rest line : List ℕ) (first after : LinesRead) (text more : List ℕ) → NoLineFeed rest
+  pub Counted-bad : (rule : Rule) (before : List (List ℕ)) (sink : K) (partial rest line : List ℕ) (first after : LinesRead) (text more : List ℕ) → NoLineFeed rest
       → line ≡ strip_carriage_return (partial ++ rest) → (first.bad_lines ≡ Rejected) × (is_bad rule line ≡ true) → after.bad_lines ≡ first.bad_lines → after.line ≡ min (first.line + 1) (2 ^ 64 - 1)
-      → Counted rule before runs bag partial first text → IsFirstBad rule ((text ++ (rest ++ 10 ∷ [])) ++ more) after
-  Counted-bad rule before runs bag partial rest line first after text more none is bad same next h = record {
+      → Counted has rule before sink partial first text → IsFirstBad rule ((text ++ (rest ++ 10 ∷ [])) ++ more) after
+  Counted-bad rule before sink partial rest line first after text more none is bad same next h = record {
     front = lines h.ended;
     bad = line;
     rest = lines more;
@@ -304,10 +271,10 @@ module _ {S : Type 0} where
   }
 
   -- the last line is bad, and is rejected
-  pub Counted-bad-last : (rule : Rule) (before : List (List ℕ)) (runs : List (List (List ℕ × ℕ))) (bag : Bag (String Global) S) (partial line : List ℕ) (first after : LinesRead) (text : List ℕ) → 0 < length partial
+  pub Counted-bad-last : (rule : Rule) (before : List (List ℕ)) (sink : K) (partial line : List ℕ) (first after : LinesRead) (text : List ℕ) → 0 < length partial
       → line ≡ partial → (first.bad_lines ≡ Rejected) × (is_bad rule line ≡ true) → after.bad_lines ≡ first.bad_lines → after.line ≡ min (first.line + 1) (2 ^ 64 - 1)
-      → Counted rule before runs bag partial first text → IsFirstBad rule text after
-  Counted-bad-last rule before runs bag partial line first after text some is bad same next h = record {
+      → Counted has rule before sink partial first text → IsFirstBad rule text after
+  Counted-bad-last rule before sink partial line first after text some is bad same next h = record {
     front = lines h.ended;
     bad = line;
     rest = [];
@@ -319,9 +286,9 @@ module _ {S : Type 0} where
   }
 
   -- bytes were kept
-  pub Counted-rest : (rule : Rule) (before : List (List ℕ)) (runs : List (List (List ℕ × ℕ))) (bag : Bag (String Global) S) (partial rest : List ℕ) (reading : LinesRead) (text : List ℕ) → NoLineFeed rest
-      → Counted rule before runs bag partial reading text → Counted rule before runs bag (partial ++ rest) reading (text ++ rest)
-  Counted-rest rule before runs bag partial rest reading text none h = record {
+  pub Counted-rest : (rule : Rule) (before : List (List ℕ)) (sink : K) (partial rest : List ℕ) (reading : LinesRead) (text : List ℕ) → NoLineFeed rest
+      → Counted has rule before sink partial reading text → Counted has rule before sink (partial ++ rest) reading (text ++ rest)
+  Counted-rest rule before sink partial rest reading text none h = record {
     ended = h.ended;
     cut = ap (λ (l : List ℕ). l ++ rest) h.cut ∙ append_assoc h.ended partial rest;
     ends = h.ends;
@@ -333,15 +300,15 @@ module _ {S : Type 0} where
     passed = h.passed;
   }
 
-  -- the bag became a run
-  pub Counted-run : (rule : Rule) (before : List (List ℕ)) (runs : List (List (List ℕ × ℕ))) (rows : List (List ℕ × ℕ)) (old new : Bag (String Global) S) (partial : List ℕ) (reading : LinesRead) (text : List ℕ) → new.items ≡ []
-      → ((text : List ℕ) → times_in text rows ≡ count bytes_eq text (texts_in old)) → Counted rule before runs old partial reading text → Counted rule before (runs ++ rows ∷ []) new partial reading text
-  Counted-run rule before runs rows old new partial reading text none is h = record {
+  -- the sink has what it had
+  pub Counted-kept : (rule : Rule) (before : List (List ℕ)) (old new : K) (partial : List ℕ) (reading : LinesRead) (text : List ℕ) → Keeps has old new
+      → Counted has rule before old partial reading text → Counted has rule before new partial reading text
+  Counted-kept rule before old new partial reading text keeps h = record {
     ended = h.ended;
     cut = h.cut;
     ends = h.ends;
     unended = h.unended;
-    counts = Together-run runs rows old new (before ++ tokens_of rule h.ended) none is h.counts;
+    counts = keeps (before ++ tokens_of rule h.ended) h.counts;
     line = h.line;
     skipped = h.skipped;
     replaced = h.replaced;
@@ -349,32 +316,32 @@ module _ {S : Type 0} where
   }
 
   -- no text was begun
-  pub Counted-none : (rule : Rule) (before : List (List ℕ)) (runs : List (List (List ℕ × ℕ))) (bag : Bag (String Global) S) (partial : List ℕ) (reading : LinesRead) → Counted rule before runs bag partial reading [] → HaveTogether runs bag before
-  Counted-none rule before runs bag partial reading h =
-      subst (HaveTogether runs bag) (ap (λ (l : List ℕ). before ++ tokens_of rule l) (nil_first h.ended partial h.cut) ∙ append-nil before) h.counts
+  pub Counted-none : (rule : Rule) (before : List (List ℕ)) (sink : K) (partial : List ℕ) (reading : LinesRead) → Counted has rule before sink partial reading [] → has sink before
+  Counted-none rule before sink partial reading h =
+      subst (has sink) (ap (λ (l : List ℕ). before ++ tokens_of rule l) (nil_first h.ended partial h.cut) ∙ append-nil before) h.counts
 
   -- the text ends, and nothing is kept
-  pub ended_whole : (rule : Rule) (before : List (List ℕ)) (runs : List (List (List ℕ × ℕ))) (bag : Bag (String Global) S) (partial : List ℕ) (reading : LinesRead) (text : List ℕ) → partial ≡ []
-      → Counted rule before runs bag partial reading text → HaveTogether runs bag (before ++ tokens_of rule text) × IsReadingOf rule text reading
-  ended_whole rule before runs bag partial reading text none h =
+  pub ended_whole : (rule : Rule) (before : List (List ℕ)) (sink : K) (partial : List ℕ) (reading : LinesRead) (text : List ℕ) → partial ≡ []
+      → Counted has rule before sink partial reading text → has sink (before ++ tokens_of rule text) × IsReadingOf rule text reading
+  ended_whole rule before sink partial reading text none h =
       let all : h.ended ≡ text = sym (h.cut ∙ ap (λ (l : List ℕ). h.ended ++ l) none ∙ append-nil h.ended) in (
-        subst (λ (l : List ℕ). HaveTogether runs bag (before ++ tokens_of rule l)) all h.counts,
-        subst (λ (l : List ℕ). IsReadingOf rule l reading) all (so_read rule before runs bag partial reading text h),
+        subst (λ (l : List ℕ). has sink (before ++ tokens_of rule l)) all h.counts,
+        subst (λ (l : List ℕ). IsReadingOf rule l reading) all (so_read rule before sink partial reading text h),
       )
 
   -- the text ends, and what is kept is counted as its last line
-  pub ended_last : (rule : Rule) (before : List (List ℕ)) (runs : List (List (List ℕ × ℕ))) (old new : Bag (String Global) S) (partial line : List ℕ) (first after : LinesRead) (text : List ℕ) → 0 < length partial → line ≡ partial
-      → AddsTexts old new (tokens_of_lines rule (line ∷ [])) → Read rule first after line
-      → Counted rule before runs old partial first text → HaveTogether runs new (before ++ tokens_of rule text) × IsReadingOf rule text after
-  ended_last rule before runs old new partial line first after text some same adds read h =
+  pub ended_last : (rule : Rule) (before : List (List ℕ)) (old new : K) (partial line : List ℕ) (first after : LinesRead) (text : List ℕ) → 0 < length partial → line ≡ partial
+      → Takes has old new (tokens_of_lines rule (line ∷ [])) → Read rule first after line
+      → Counted has rule before old partial first text → has new (before ++ tokens_of rule text) × IsReadingOf rule text after
+  ended_last rule before old new partial line first after text some same adds read h =
       let both = last_more h.ended partial line h.ends h.unended some same text h.cut in (
-        tokens_more rule before runs old new h.ended text line both adds h.counts,
-        lines_read rule h.ended text line first after both read (so_read rule before runs old partial first text h),
+        tokens_more rule before old new h.ended text line both adds h.counts,
+        lines_read rule h.ended text line first after both read (so_read rule before old partial first text h),
       )
 
   -- the same of a last line, where that may have been an error
-  pub ended_last-ok : {X E : Type 0} (r : Result X E) (rule : Rule) (old new : Bag (String Global) S) (partial line : List ℕ) (first after : LinesRead) → 0 < length partial → line ≡ partial
-      → OnOk r (AddsTexts old new (tokens_of_lines rule (line ∷ []))) → OnOk r (Read rule first after line)
-      → OnOk r ((before : List (List ℕ)) (runs : List (List (List ℕ × ℕ))) (text : List ℕ) → Counted rule before runs old partial first text → HaveTogether runs new (before ++ tokens_of rule text) × IsReadingOf rule text after)
-  ended_last-ok (Ok x) rule old new partial line first after some same adds read = λ before runs text h. ended_last rule before runs old new partial line first after text some same adds read h
+  pub ended_last-ok : {X E : Type 0} (r : Result X E) (rule : Rule) (old new : K) (partial line : List ℕ) (first after : LinesRead) → 0 < length partial → line ≡ partial
+      → OnOk r (Takes has old new (tokens_of_lines rule (line ∷ []))) → OnOk r (Read rule first after line)
+      → OnOk r ((before : List (List ℕ)) (text : List ℕ) → Counted has rule before old partial first text → has new (before ++ tokens_of rule text) × IsReadingOf rule text after)
+  ended_last-ok (Ok x) rule old new partial line first after some same adds read = λ before text h. ended_last rule before old new partial line first after text some same adds read h
   ended_last-ok (Err e) rule old new partial line first after some same adds read = tt

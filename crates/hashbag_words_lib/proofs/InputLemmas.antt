@@ -5,7 +5,7 @@ use Rattle.std.proofs.lemmas.List.{append-nil, map-append, take_more}
 use Rattle.hashbag_text.specs.Encodings.{after_bytes, text_in}
 use Rattle.hashbag_text.specs.declared.decoder.Decoder.{Decoder}
 use Rattle.hashbag_text.specs.declared.encoding.Encoding.{Encoding}
-use Rattle.hashbag_words_lib.specs.Feeding.{Ends, Feeds, How}
+use Rattle.hashbag_words_lib.specs.Feeding.{AddsFed, EndsText, How}
 use Rattle.hashbag_words_lib.specs.Inputs.{text_left, CountsInputs, FeedsNext, ReadsInput, ReadsBlock}
 use Rattle.hashbag_words_lib.proofs.FeedingLemmas.{counted_more, counted_none, counted_one, fed_more, fed_none}
 
@@ -36,33 +36,33 @@ of_open input begun begun' before after block last begins is reads =
 
 -- ---- the text of an input so far
 
-module _ {B C R : Type 0} (has : How → C → List (List (List ℕ × ℕ)) → List (List ℕ) → List ℕ → Type 0) (kept : R → List (List (List ℕ × ℕ)) → Type 0) (ended : B → List (List ℕ × List ℕ)) (encoding : Option Encoding) where
+module _ {B C : Type 0} (has : How → C → List (List ℕ) → List ℕ → Type 0) (ended : B → List (List ℕ × List ℕ)) (encoding : Option Encoding) where
   -- these bytes of an input were read, and the counter was fed the text that they bring
-  pub record SoFar (name : List ℕ) (inputs inputs' : B) (begun : Option (List ℕ × List ℕ)) (decoder : Option Decoder) (old new : C) (keeper keeper' : Option R) : Type 0 where
+  pub record SoFar (name : List ℕ) (inputs inputs' : B) (begun : Option (List ℕ × List ℕ)) (decoder : Option Decoder) (old new : C) : Type 0 where
     pub bytes : List ℕ
     pub text : List ℕ
     pub is : begun ≡ Some (name, bytes)
     pub same : ended inputs' ≡ ended inputs
     pub decodes : (more : List ℕ) → text_in encoding (bytes ++ more) ≡ after_bytes text (text_left decoder more)
-    pub feeds : Feeds has kept old new keeper keeper' text
+    pub feeds : AddsFed has old new text
 
   -- nothing was read
-  pub so_far_none : (name : List ℕ) (inputs inputs' : B) (begun : Option (List ℕ × List ℕ)) (decoder : Option Decoder) (c : C) (keeper : Option R)
-      → begun ≡ Some (name, []) → ended inputs' ≡ ended inputs → ((bytes : List ℕ) → text_left decoder bytes ≡ text_in encoding bytes) → SoFar name inputs inputs' begun decoder c c keeper keeper
-  so_far_none name inputs inputs' begun decoder c keeper is same new = record {
+  pub so_far_none : (name : List ℕ) (inputs inputs' : B) (begun : Option (List ℕ × List ℕ)) (decoder : Option Decoder) (c : C)
+      → begun ≡ Some (name, []) → ended inputs' ≡ ended inputs → ((bytes : List ℕ) → text_left decoder bytes ≡ text_in encoding bytes) → SoFar name inputs inputs' begun decoder c c
+  so_far_none name inputs inputs' begun decoder c is same new = record {
     bytes = [];
     text = [];
     is = is;
     same = same;
     decodes = λ more. sym (new more) ∙ sym (behind_nothing (text_left decoder more));
-    feeds = fed_none has kept c keeper;
+    feeds = fed_none has c;
   }
 
   -- a block more
-  pub so_far_more : (name : List ℕ) (inputs first then : B) (begun begun' : Option (List ℕ × List ℕ)) (decoder decoder' : Option Decoder) (old mid new : C) (keeper keeper' last : Option R) (block read : List ℕ)
-      → SoFar name inputs first begun decoder old mid keeper keeper' → block ≡ read → ReadsBlock begun (ended first) read begun' (ended then) → false ≡ (length block == 0)
-      → FeedsNext has kept mid new keeper' last decoder block decoder' → SoFar name inputs then begun' decoder' old new keeper last
-  so_far_more name inputs first then begun begun' decoder decoder' old mid new keeper keeper' last block read s is reads some fed =
+  pub so_far_more : (name : List ℕ) (inputs first then : B) (begun begun' : Option (List ℕ × List ℕ)) (decoder decoder' : Option Decoder) (old mid new : C) (block read : List ℕ)
+      → SoFar name inputs first begun decoder old mid → block ≡ read → ReadsBlock begun (ended first) read begun' (ended then) → false ≡ (length block == 0)
+      → FeedsNext has mid new decoder block decoder' → SoFar name inputs then begun' decoder' old new
+  so_far_more name inputs first then begun begun' decoder decoder' old mid new block read s is reads some fed =
       let next = begun_of (name, s.bytes) (ended first) block begun' (ended then) some (of_open (name, s.bytes) begun begun' (ended first) (ended then) block read s.is is reads) in
       record {
         bytes = s.bytes ++ block;
@@ -71,14 +71,14 @@ module _ {B C R : Type 0} (has : How → C → List (List (List ℕ × ℕ)) →
         same = next.1 ∙ s.same;
         decodes = λ more. ap (λ (l : List ℕ). text_in encoding l) (append_assoc s.bytes block more) ∙ s.decodes (block ++ more)
             ∙ ap (λ (t : Option (List ℕ)). after_bytes s.text t) (fed.decodes more) ∙ behind_both s.text fed.text (text_left decoder' more);
-        feeds = fed_more has kept old mid new keeper keeper' last s.text fed.text s.feeds fed.feeds;
+        feeds = fed_more has old mid new s.text fed.text s.feeds fed.feeds;
       }
 
   -- the input has ended
-  pub so_far_ended : (name : List ℕ) (inputs first then : B) (begun begun' : Option (List ℕ × List ℕ)) (decoder : Option Decoder) (old new : C) (keeper keeper' : Option R) (block read : List ℕ)
-      → SoFar name inputs first begun decoder old new keeper keeper' → block ≡ read → ReadsBlock begun (ended first) read begun' (ended then) → true ≡ (length block == 0) → text_left decoder [] ≡ Some []
-      → ReadsInput has kept ended encoding name inputs then old new keeper keeper'
-  so_far_ended name inputs first then begun begun' decoder old new keeper keeper' block read s is reads none whole = record {
+  pub so_far_ended : (name : List ℕ) (inputs first then : B) (begun begun' : Option (List ℕ × List ℕ)) (decoder : Option Decoder) (old new : C) (block read : List ℕ)
+      → SoFar name inputs first begun decoder old new → block ≡ read → ReadsBlock begun (ended first) read begun' (ended then) → true ≡ (length block == 0) → text_left decoder [] ≡ Some []
+      → ReadsInput has ended encoding name inputs then old new
+  so_far_ended name inputs first then begun begun' decoder old new block read s is reads none whole = record {
     bytes = s.bytes;
     read = ended_of (name, s.bytes) (ended first) block begun' (ended then) none (of_open (name, s.bytes) begun begun' (ended first) (ended then) block read s.is is reads)
         ∙ ap (λ (l : List (List ℕ × List ℕ)). l ++ (name, s.bytes) ∷ []) s.same;
@@ -90,15 +90,15 @@ module _ {B C R : Type 0} (has : How → C → List (List (List ℕ × ℕ)) →
   -- ---- inputs
 
   -- no input was counted
-  pub no_inputs : (inputs : B) (c : C) (keeper : Option R) → CountsInputs has kept ended encoding [] inputs inputs c c keeper keeper
-  no_inputs inputs c keeper = record { texts = []; read = record { inputs = []; named = refl; read = sym (append-nil (ended inputs)); decoded = refl }; counts = counted_none has kept c keeper }
+  pub no_inputs : (inputs : B) (c : C) → CountsInputs has ended encoding [] inputs inputs c c
+  no_inputs inputs c = record { texts = []; read = record { inputs = []; named = refl; read = sym (append-nil (ended inputs)); decoded = refl }; counts = counted_none has c }
 
   -- an input more was read, and its text ended
-  pub inputs_more : (names : List (Bor (List ℕ))) (i : ℕ) (d : Bor (List ℕ)) (inputs then read last : B) (old mid fed new : C) (first middle next keeper : Option R) → i < length names
-      → CountsInputs has kept ended encoding (take i names) inputs then old mid first middle → ReadsInput has kept ended encoding (get_or names i d).now then read mid fed middle next
-      → Ends has kept fed new next keeper → ended last ≡ ended read
-      → CountsInputs has kept ended encoding (take (i + 1) names) inputs last old new first keeper
-  inputs_more names i d inputs then read last old mid fed new first middle next keeper within all one ends is =
+  pub inputs_more : (names : List (Bor (List ℕ))) (i : ℕ) (d : Bor (List ℕ)) (inputs then read last : B) (old mid fed new : C) → i < length names
+      → CountsInputs has ended encoding (take i names) inputs then old mid → ReadsInput has ended encoding (get_or names i d).now then read mid fed
+      → EndsText has fed new → ended last ≡ ended read
+      → CountsInputs has ended encoding (take (i + 1) names) inputs last old new
+  inputs_more names i d inputs then read last old mid fed new within all one ends is =
       let input : List ℕ × List ℕ = ((get_or names i d).now, one.bytes) in
       let now_of : Bor (List ℕ) → List ℕ = λ name. name.now in
       let name_of : List ℕ × List ℕ → List ℕ = λ input. input.0 in
@@ -115,5 +115,5 @@ module _ {B C R : Type 0} (has : How → C → List (List (List ℕ × ℕ)) →
           decoded = map-append decode was.inputs (input ∷ []) ∙ ap (λ (l : List (Option (List ℕ))). l ++ text_in encoding one.bytes ∷ []) was.decoded
               ∙ ap (λ (t : Option (List ℕ)). map some all.texts ++ t ∷ []) one.decoded ∙ sym (map-append some all.texts (one.text ∷ []));
         };
-        counts = counted_more has kept old mid new first middle keeper all.texts (one.text ∷ []) all.counts (counted_one has kept mid fed new middle next keeper one.text one.feeds ends);
+        counts = counted_more has old mid new all.texts (one.text ∷ []) all.counts (counted_one has mid fed new one.text one.feeds ends);
       }

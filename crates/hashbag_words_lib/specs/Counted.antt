@@ -1,17 +1,8 @@
 -- What a counter has counted of the texts that it was given, however they were cut.
-use Rattle.std.specs.Prelude.{◌≡◌, ◌≢◌, ℕ, ◌+◌, ◌-◌, ◌^◌, ◌<◌, ◌≤◌, Bool, true, false, List, [], ◌∷◌, ◌++◌, All, length, take, min, filter, sum_by, String}
-use Rattle.std.specs.Global.{Global}
-use Rattle.std.specs.Str.{bytes_eq}
+use Rattle.std.specs.Prelude.{◌≡◌, ◌≢◌, ℕ, ◌+◌, ◌-◌, ◌^◌, Bool, true, false, List, [], ◌∷◌, ◌++◌, All, length, min, filter}
 use Rattle.std.specs.Str.Lines.{lines}
-use Rattle.hashbag_core.specs.Bag.{Bag}
-use Rattle.hashbag_core.specs.Occurrences.{count}
-use Rattle.hashbag_words_lib.specs.Counts.{texts_in}
 use Rattle.hashbag_words_lib.specs.LineEnds.{EndsLine}
-use Rattle.hashbag_words_lib.specs.Runs.{IsRunOf}
-use Rattle.hashbag_words_lib.specs.Sorted.{times_in}
 use Rattle.hashbag_words_lib.specs.Tokens.{is_bad, is_replaced, tokens_of}
-use Rattle.hashbag_words_lib.specs.declared.counter.Fed.{Fed}
-use Rattle.hashbag_words_lib.specs.declared.counter.Fed.TheVariants.{Whole, Full}
 use Rattle.hashbag_words_lib.specs.declared.counter.TextCounter.{TextCounter}
 use Rattle.hashbag_words_lib.specs.declared.lines.BadLines.TheVariants.{Rejected}
 use Rattle.hashbag_words_lib.specs.declared.lines.LinesRead.{LinesRead}
@@ -48,27 +39,6 @@ pub record IsFirstBad (rule : Rule) (text : List ℕ) (reading : LinesRead) : Ty
   pub line : reading.line ≡ min (length front + 1) (2 ^ 64 - 1)
   pub rejected : reading.bad_lines ≡ Rejected
 
--- each token is as often in the bag and the runs together as in the list
-abbrev pub HaveTogether : {S : Type 0} → List (List (List ℕ × ℕ)) → Bag (String Global) S → List (List ℕ) → Type 0
-HaveTogether runs bag tokens = (text : List ℕ) → count bytes_eq text (texts_in bag) + sum_by (times_in text) runs ≡ count bytes_eq text tokens
-
--- `text` is `ended` followed by `partial`, the bytes after the last line feed. Together, the bag and the runs have the tokens `before`, of earlier
--- texts, and the tokens of `ended`
-pub record Counted {S : Type 0} (rule : Rule) (before : List (List ℕ)) (runs : List (List (List ℕ × ℕ))) (bag : Bag (String Global) S) (partial : List ℕ) (reading : LinesRead) (text : List ℕ) : Type 0 where
-  pub ended : List ℕ
-  pub cut : text ≡ ended ++ partial
-  pub ends : EndsLine ended
-  pub unended : NoLineFeed partial
-  pub counts : HaveTogether runs bag (before ++ tokens_of rule ended)
-  pub line : reading.line ≡ min (length (lines ended)) (2 ^ 64 - 1)
-  pub skipped : reading.skipped ≡ min (how_many (is_bad rule) (lines ended)) (2 ^ 64 - 1)
-  pub replaced : reading.replaced ≡ min (how_many (is_replaced rule) (lines ended)) (2 ^ 64 - 1)
-  pub passed : reading.bad_lines ≡ Rejected → NoneIsBad rule (lines ended)
-
--- the counter has counted the tokens `before` and then this text so far; `runs` are the runs of its bag that were written
-abbrev pub HasCounted : {S H : Type 0} → List (List ℕ) → List (List (List ℕ × ℕ)) → TextCounter S H → List ℕ → Type 0
-HasCounted before runs counter text = Counted counter.rule before runs counter.bag counter.partial.items counter.reading text
-
 -- how the lines of a whole text were read
 pub record IsReadingOf (rule : Rule) (text : List ℕ) (reading : LinesRead) : Type 0 where
   pub line : reading.line ≡ min (length (lines text)) (2 ^ 64 - 1)
@@ -76,58 +46,60 @@ pub record IsReadingOf (rule : Rule) (text : List ℕ) (reading : LinesRead) : T
   pub replaced : reading.replaced ≡ min (how_many (is_replaced rule) (lines text)) (2 ^ 64 - 1)
   pub passed : reading.bad_lines ≡ Rejected → NoneIsBad rule (lines text)
 
--- the counter has counted the tokens `before` and then this whole text; `runs` are the runs of its bag that were written
-abbrev pub HasEnded : {S H : Type 0} → Rule → List (List ℕ) → List (List (List ℕ × ℕ)) → TextCounter S H → List ℕ → Type 0
-HasEnded rule before runs counter text = HaveTogether runs counter.bag (before ++ tokens_of rule text) × IsReadingOf rule text counter.reading
+-- ---- what a sink has of texts. `has sink tokens`: the sink has these tokens
 
--- the bytes of a block that were fed
-abbrev pub fed_of : Fed → List ℕ → List ℕ
-fed_of Whole block = block
-fed_of (Full n) block = take n block
+module _ {K : Type 0} (has : K → List (List ℕ) → Type 0) where
+  -- `text` is `ended` followed by `partial`, the bytes after the last line feed. The sink has the tokens `before`, of earlier texts, and the tokens of
+  -- `ended`
+  pub record Counted (rule : Rule) (before : List (List ℕ)) (sink : K) (partial : List ℕ) (reading : LinesRead) (text : List ℕ) : Type 0 where
+    pub ended : List ℕ
+    pub cut : text ≡ ended ++ partial
+    pub ends : EndsLine ended
+    pub unended : NoLineFeed partial
+    pub counts : has sink (before ++ tokens_of rule ended)
+    pub line : reading.line ≡ min (length (lines ended)) (2 ^ 64 - 1)
+    pub skipped : reading.skipped ≡ min (how_many (is_bad rule) (lines ended)) (2 ^ 64 - 1)
+    pub replaced : reading.replaced ≡ min (how_many (is_replaced rule) (lines ended)) (2 ^ 64 - 1)
+    pub passed : reading.bad_lines ≡ Rejected → NoneIsBad rule (lines ended)
 
--- `Full n`: n is above 0 and at most the length of the block
-abbrev pub IsWithin : Fed → List ℕ → Type 0
-IsWithin Whole block = Unit {0}
-IsWithin (Full n) block = (0 < n) × (n ≤ length block)
+  -- the counter has counted the tokens `before` and then this text so far
+  abbrev pub HasCounted : List (List ℕ) → TextCounter K → List ℕ → Type 0
+  HasCounted before counter text = Counted counter.rule before counter.sink counter.partial.items counter.reading text
 
--- ---- what a call changes, for any tokens that were counted before, any runs that were written, and any text so far
+  -- the counter has counted the tokens `before` and then this whole text
+  abbrev pub HasEnded : Rule → List (List ℕ) → TextCounter K → List ℕ → Type 0
+  HasEnded rule before counter text = has counter.sink (before ++ tokens_of rule text) × IsReadingOf rule text counter.reading
 
--- if the old counter had counted `text`, the new counter has counted `text` and then these bytes
-abbrev pub CountsBytes : {S H : Type 0} → TextCounter S H → TextCounter S H → List ℕ → Type 0
-CountsBytes old new bytes =
-    (before : List (List ℕ)) → (runs : List (List (List ℕ × ℕ))) → (text : List ℕ) → HasCounted before runs old text → HasCounted before runs new (text ++ bytes)
+  -- ---- what a call changes, for any tokens that were counted before, and any text so far
 
--- if the old counter had counted `text`, the new counter has counted `text` as a whole text
-abbrev pub CountsWholeText : {S H : Type 0} → TextCounter S H → TextCounter S H → Type 0
-CountsWholeText old new =
-    (before : List (List ℕ)) → (runs : List (List (List ℕ × ℕ))) → (text : List ℕ) → HasCounted before runs old text → HasEnded old.rule before runs new text
+  -- if the old counter had counted `text`, the new counter has counted `text` and then these bytes
+  abbrev pub CountsBytes : TextCounter K → TextCounter K → List ℕ → Type 0
+  CountsBytes old new bytes = (before : List (List ℕ)) → (text : List ℕ) → HasCounted before old text → HasCounted before new (text ++ bytes)
 
--- the tokens of the text now belong to `before`, and another text begins
-abbrev pub EndsWholeText : {S H : Type 0} → TextCounter S H → TextCounter S H → Type 0
-EndsWholeText old new =
-    (before : List (List ℕ)) → (runs : List (List (List ℕ × ℕ))) → (text : List ℕ) → HasCounted before runs old text → HasCounted (before ++ tokens_of old.rule text) runs new []
+  -- if the old counter had counted `text`, the new counter has counted `text` as a whole text
+  abbrev pub CountsWholeText : TextCounter K → TextCounter K → Type 0
+  CountsWholeText old new = (before : List (List ℕ)) → (text : List ℕ) → HasCounted before old text → HasEnded old.rule before new text
 
--- `reading` says how the lines of the text were read
-abbrev pub IsReadingOfText : {S H : Type 0} → TextCounter S H → LinesRead → Type 0
-IsReadingOfText old reading =
-    (before : List (List ℕ)) → (runs : List (List (List ℕ × ℕ))) → (text : List ℕ) → HasCounted before runs old text → IsReadingOf old.rule text reading
+  -- the tokens of the text now belong to `before`, and another text begins. If bad lines are rejected, the text has none
+  abbrev pub EndsWholeText : TextCounter K → TextCounter K → Type 0
+  EndsWholeText old new =
+      (before : List (List ℕ)) → (text : List ℕ) → HasCounted before old text → HasCounted (before ++ tokens_of old.rule text) new []
+      × (old.reading.bad_lines ≡ Rejected → NoneIsBad old.rule (lines text))
 
--- the line that the new counter read last is the first bad line of the text
-abbrev pub IsFirstBadOfText : {S H : Type 0} → TextCounter S H → TextCounter S H → Type 0
-IsFirstBadOfText old new =
-    (before : List (List ℕ)) → (runs : List (List (List ℕ × ℕ))) → (text : List ℕ) → HasCounted before runs old text → IsFirstBad old.rule text new.reading
+  -- `reading` says how the lines of the text were read
+  abbrev pub IsReadingOfText : TextCounter K → LinesRead → Type 0
+  IsReadingOfText old reading = (before : List (List ℕ)) → (text : List ℕ) → HasCounted before old text → IsReadingOf old.rule text reading
 
--- the line that the new counter read last is the first bad line of the text and then these bytes
-abbrev pub IsFirstBadOfTextWith : {S H : Type 0} → TextCounter S H → TextCounter S H → List ℕ → Type 0
-IsFirstBadOfTextWith old new bytes =
-    (before : List (List ℕ)) → (runs : List (List (List ℕ × ℕ))) → (text : List ℕ) → HasCounted before runs old text → IsFirstBad old.rule (text ++ bytes) new.reading
+  -- the line that the new counter read last is the first bad line of the text
+  abbrev pub IsFirstBadOfText : TextCounter K → TextCounter K → Type 0
+  IsFirstBadOfText old new = (before : List (List ℕ)) → (text : List ℕ) → HasCounted before old text → IsFirstBad old.rule text new.reading
 
--- the line that the new counter read last is the first bad line of the text, then these bytes, then any bytes
-abbrev pub IsFirstBadWhateverFollows : {S H : Type 0} → TextCounter S H → TextCounter S H → List ℕ → Type 0
-IsFirstBadWhateverFollows old new bytes =
-    (before : List (List ℕ)) → (runs : List (List (List ℕ × ℕ))) → (text : List ℕ) → HasCounted before runs old text → (more : List ℕ) → IsFirstBad old.rule ((text ++ bytes) ++ more) new.reading
+  -- the line that the new counter read last is the first bad line of the text and then these bytes
+  abbrev pub IsFirstBadOfTextWith : TextCounter K → TextCounter K → List ℕ → Type 0
+  IsFirstBadOfTextWith old new bytes =
+      (before : List (List ℕ)) → (text : List ℕ) → HasCounted before old text → IsFirstBad old.rule (text ++ bytes) new.reading
 
--- the rows of the old bag are one more run, and what was counted is unchanged
-abbrev pub KeepsCountedInRun : {S H : Type 0} → TextCounter S H → TextCounter S H → Type 0
-KeepsCountedInRun old new =
-    (rows : List (List ℕ × ℕ)) → IsRunOf old.bag rows → (before : List (List ℕ)) → (runs : List (List (List ℕ × ℕ))) → (text : List ℕ) → HasCounted before runs old text → HasCounted before (runs ++ rows ∷ []) new text
+  -- the line that the new counter read last is the first bad line of the text, then these bytes, then any bytes
+  abbrev pub IsFirstBadWhateverFollows : TextCounter K → TextCounter K → List ℕ → Type 0
+  IsFirstBadWhateverFollows old new bytes =
+      (before : List (List ℕ)) → (text : List ℕ) → HasCounted before old text → (more : List ℕ) → IsFirstBad old.rule ((text ++ bytes) ++ more) new.reading

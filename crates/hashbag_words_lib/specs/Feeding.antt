@@ -1,26 +1,27 @@
--- What a counter and the runs of its bag together have of texts that are fed in blocks.
+-- What a counter has of texts that are fed in blocks.
 use mathlib.Core.Logic.{inl, inr}
-use Rattle.std.specs.Prelude.{◌≡◌, ◌⊎◌, ℕ, List, [], ◌∷◌, ◌++◌, flat_map, sum_by, Option, None, Some}
+use Rattle.std.specs.Prelude.{◌≡◌, ◌⊎◌, ℕ, List, [], ◌∷◌, ◌++◌, All, flat_map, Option}
+use Rattle.std.specs.Str.Lines.{lines}
 use Rattle.hashbag_words_lib.specs.Added.{AreRowsOf, HasAdded}
-use Rattle.hashbag_words_lib.specs.Counted.{HasCounted}
-use Rattle.hashbag_words_lib.specs.Sorted.{times_in}
+use Rattle.hashbag_words_lib.specs.Counted.{HasCounted, NoneIsBad}
 use Rattle.hashbag_words_lib.specs.Tokens.{tokens_of}
+use Rattle.hashbag_words_lib.specs.declared.choice.Choice.{Choice}
 use Rattle.hashbag_words_lib.specs.declared.counter.TextCounter.{TextCounter}
 use Rattle.hashbag_words_lib.specs.declared.lines.BadLines.{BadLines}
+use Rattle.hashbag_words_lib.specs.declared.lines.BadLines.TheVariants.{Rejected}
 use Rattle.hashbag_words_lib.specs.declared.row_counter.RowCounter.{RowCounter}
 use Rattle.hashbag_words_lib.specs.declared.rows.RowForm.{RowForm}
 use Rattle.hashbag_words_lib.specs.declared.rule.Rule.{Rule}
+use Rattle.hashbag_words_lib.specs.declared.writing.Format.{Format}
 
--- how texts are counted: by a rule; or as files of counts, whose lines have this form
+-- how texts are counted: by a rule; or as files of counts, whose lines have this form. Bad lines are errors, or are skipped. If rows are written as
+-- they come, the last part says which ones, and in which format
 abbrev pub How : Type 0
-How = Rule ⊎ (RowForm × BadLines)
+How = (Rule × BadLines) ⊎ (RowForm × BadLines × Option (Choice × Format))
 
--- ---- what a counter and runs have: of texts that ended, and of one that has begun
-
--- together, the counter and these runs have the tokens of `texts`, which ended, and have counted `text` so far
-abbrev pub HasCountedTexts : {S H : Type 0} → How → TextCounter S H → List (List (List ℕ × ℕ)) → List (List ℕ) → List ℕ → Type 0
-HasCountedTexts (inl rule) counter runs texts text = (counter.rule ≡ rule) × HasCounted (flat_map (tokens_of rule) texts) runs counter text
-HasCountedTexts (inr lines) counter runs texts text = ⊥
+-- if bad lines are rejected, no line of these texts is bad
+abbrev pub ArePassed : Rule → BadLines → List (List ℕ) → Type 0
+ArePassed rule bad_lines texts = bad_lines ≡ Rejected → All (λ (text : List ℕ). NoneIsBad rule (lines text)) texts
 
 -- these are the rows of whole files, in turn
 abbrev pub AreRowsOfAll : RowForm → BadLines → List (List ℕ) → List (List ℕ × ℕ) → Type 0
@@ -28,79 +29,42 @@ AreRowsOfAll form bad_lines [] rows = rows ≡ []
 AreRowsOfAll form bad_lines (text ∷ texts) rows =
     (first : List (List ℕ × ℕ)) × (later : List (List ℕ × ℕ)) × AreRowsOf form bad_lines text first × AreRowsOfAll form bad_lines texts later × (rows ≡ first ++ later)
 
--- together, the counter and these runs have the rows of `texts`, which ended, and have added `text` so far
-pub record HasAddedRows {S H : Type 0} (form : RowForm) (bad_lines : BadLines) (counter : RowCounter S H) (runs : List (List (List ℕ × ℕ))) (texts : List (List ℕ)) (text : List ℕ) : Type 0 where
+-- ---- what a counter has: of texts that ended, and of one that has begun. `has sink items`: the sink has these tokens, or these rows
+
+-- the counter has the tokens of `texts`, which ended, and has counted `text` so far
+pub record HasCountedTokens {K : Type 0} (has : K → List (List ℕ) → Type 0) (rule : Rule) (bad_lines : BadLines) (counter : TextCounter K) (texts : List (List ℕ)) (text : List ℕ) : Type 0 where
+  pub same_rule : counter.rule ≡ rule
+  pub same_lines : counter.reading.bad_lines ≡ bad_lines
+  pub passed : ArePassed rule bad_lines texts
+  pub counted : HasCounted has (flat_map (tokens_of rule) texts) counter text
+
+abbrev pub HasCountedTexts : {K : Type 0} → (K → List (List ℕ) → Type 0) → How → TextCounter K → List (List ℕ) → List ℕ → Type 0
+HasCountedTexts has (inl tokens) counter texts text = HasCountedTokens has tokens.0 tokens.1 counter texts text
+HasCountedTexts has (inr lines) counter texts text = ⊥
+
+-- the counter has the rows of `texts`, which ended, and has added `text` so far
+pub record HasAddedRows {K : Type 0} (has : Option (Choice × Format) → K → List (List ℕ × ℕ) → Type 0) (form : RowForm) (bad_lines : BadLines) (shown : Option (Choice × Format)) (counter : RowCounter K) (texts : List (List ℕ)) (text : List ℕ) : Type 0 where
   pub same_form : counter.form ≡ form
   pub same_lines : counter.reading.bad_lines ≡ bad_lines
   pub rows : List (List ℕ × ℕ)
   pub are : AreRowsOfAll form bad_lines texts rows
-  pub added : HasAdded rows runs counter text
+  pub added : HasAdded has shown rows counter text
 
-abbrev pub HasAddedTexts : {S H : Type 0} → How → RowCounter S H → List (List (List ℕ × ℕ)) → List (List ℕ) → List ℕ → Type 0
-HasAddedTexts (inl rule) counter runs texts text = ⊥
-HasAddedTexts (inr lines) counter runs texts text = HasAddedRows lines.0 lines.1 counter runs texts text
+abbrev pub HasAddedTexts : {K : Type 0} → (Option (Choice × Format) → K → List (List ℕ × ℕ) → Type 0) → How → RowCounter K → List (List ℕ) → List ℕ → Type 0
+HasAddedTexts has (inl tokens) counter texts text = ⊥
+HasAddedTexts has (inr lines) counter texts text = HasAddedRows has lines.0 lines.1 lines.2 counter texts text
 
--- ---- what a call changes, for any runs so far, any texts that ended, and any text that has begun. `has` says what a counter has
+-- ---- what a call changes, for any texts that ended, and any text that has begun. `has` says what a counter has
 
-module _ {C : Type 0} (has : How → C → List (List (List ℕ × ℕ)) → List (List ℕ) → List ℕ → Type 0) where
-  -- the new counter has what the old one had
-  abbrev pub KeepsCounts : C → C → Type 0
-  KeepsCounts old new =
-      (how : How) → (runs : List (List (List ℕ × ℕ))) → (texts : List (List ℕ)) → (text : List ℕ) → has how old runs texts text → has how new runs texts text
-
+module _ {C : Type 0} (has : How → C → List (List ℕ) → List ℕ → Type 0) where
   -- the new counter has these bytes of the text too
   abbrev pub AddsFed : C → C → List ℕ → Type 0
-  AddsFed old new bytes =
-      (how : How) → (runs : List (List (List ℕ × ℕ))) → (texts : List (List ℕ)) → (text : List ℕ) → has how old runs texts text → has how new runs texts (text ++ bytes)
+  AddsFed old new bytes = (how : How) → (texts : List (List ℕ)) → (text : List ℕ) → has how old texts text → has how new texts (text ++ bytes)
 
   -- the new counter has the text among those that ended, and none has begun
   abbrev pub EndsText : C → C → Type 0
-  EndsText old new =
-      (how : How) → (runs : List (List (List ℕ × ℕ))) → (texts : List (List ℕ)) → (text : List ℕ) → has how old runs texts text → has how new runs (texts ++ text ∷ []) []
+  EndsText old new = (how : How) → (texts : List (List ℕ)) → (text : List ℕ) → has how old texts text → has how new (texts ++ text ∷ []) []
 
-  -- the new counter and a run of these rows have what the old counter had
-  abbrev pub KeepsRun : C → C → List (List ℕ × ℕ) → Type 0
-  KeepsRun old new rows =
-      (how : How) → (runs : List (List (List ℕ × ℕ))) → (texts : List (List ℕ)) → (text : List ℕ) → has how old runs texts text → has how new (runs ++ rows ∷ []) texts text
-
--- ---- the runs that were kept. `kept keeper runs`: the keeper has kept these runs. Each run is given as its rows
-
-module _ {R : Type 0} (kept : R → List (List (List ℕ × ℕ)) → Type 0) where
-  -- these runs were kept; none, if nothing keeps runs
-  abbrev pub AreKeptIn : Option R → List (List (List ℕ × ℕ)) → Type 0
-  AreKeptIn None runs = runs ≡ []
-  AreKeptIn (Some keeper) runs = kept keeper runs
-
-  -- the runs that were kept count nothing
-  abbrev pub HasNothing : R → Type 0
-  HasNothing keeper = (runs : List (List (List ℕ × ℕ))) → kept keeper runs → (text : List ℕ) → sum_by (times_in text) runs ≡ 0
-
-  -- a run of these rows was kept too
-  abbrev pub KeepsRows : R → R → List (List ℕ × ℕ) → Type 0
-  KeepsRows old new rows = (runs : List (List (List ℕ × ℕ))) → kept old runs → kept new (runs ++ rows ∷ [])
-
--- ---- a counter together with the keeper of its runs, if there is one. How the counts are divided among the runs isn't said
-
-module _ {C R : Type 0} (has : How → C → List (List (List ℕ × ℕ)) → List (List ℕ) → List ℕ → Type 0) (kept : R → List (List (List ℕ × ℕ)) → Type 0) where
-  -- the counter and the runs that were kept have together what is counted of these texts
-  pub record HaveCounted (how : How) (counter : C) (keeper : Option R) (texts : List (List ℕ)) (text : List ℕ) : Type 0 where
-    pub runs : List (List (List ℕ × ℕ))
-    pub are_kept : AreKeptIn kept keeper runs
-    pub counted : has how counter runs texts text
-
-  module _ (old new : C) (keeper keeper' : Option R) where
-    -- together, they count what they counted before
-    abbrev pub KeepTogether : Type 0
-    KeepTogether = (how : How) → (texts : List (List ℕ)) → (text : List ℕ) → HaveCounted how old keeper texts text → HaveCounted how new keeper' texts text
-
-    -- they have these bytes of the text too
-    abbrev pub Feeds : List ℕ → Type 0
-    Feeds bytes = (how : How) → (texts : List (List ℕ)) → (text : List ℕ) → HaveCounted how old keeper texts text → HaveCounted how new keeper' texts (text ++ bytes)
-
-    -- they have the text among those that ended, and none has begun
-    abbrev pub Ends : Type 0
-    Ends = (how : How) → (texts : List (List ℕ)) → (text : List ℕ) → HaveCounted how old keeper texts text → HaveCounted how new keeper' (texts ++ text ∷ []) []
-
-    -- they have all of these texts too, from their beginnings to their ends
-    abbrev pub CountsTexts : List (List ℕ) → Type 0
-    CountsTexts more = (how : How) → (texts : List (List ℕ)) → HaveCounted how old keeper texts [] → HaveCounted how new keeper' (texts ++ more) []
+  -- the new counter has all of these texts too, from their beginnings to their ends
+  abbrev pub CountsTexts : C → C → List (List ℕ) → Type 0
+  CountsTexts old new more = (how : How) → (texts : List (List ℕ)) → has how old texts [] → has how new (texts ++ more) []

@@ -7,16 +7,16 @@ use Rattle.hashbag_text.specs.Decoders.{text_from_decoder}
 use Rattle.hashbag_text.specs.Encodings.{after_bytes, text_in}
 use Rattle.hashbag_text.specs.declared.decoder.Decoder.{Decoder}
 use Rattle.hashbag_text.specs.declared.encoding.Encoding.{Encoding}
-use Rattle.hashbag_words_lib.specs.Feeding.{CountsTexts, Feeds, How}
+use Rattle.hashbag_words_lib.specs.Feeding.{AddsFed, CountsTexts, How}
 use Rattle.hashbag_words_lib.specs.declared.inputs.Decoding.{Decoding}
 
 -- a `&mut` parameter: what it was before the call, and what it is after it. A clause that names the parameter alone means both
 abbrev pub Changed : Type 0 → Type 0
 Changed T = Both (MutBor T) (MutBor T)
 
--- three such parameters are related so: each by what it was and what it is
-abbrev pub Across : {A B C : Type 0} → (A → A → B → B → C → C → Type 0) → Changed A → Changed B → Changed C → Type 0
-Across relation a b c = relation a.entry.now a.exit.now b.entry.now b.exit.now c.entry.now c.exit.now
+-- two such parameters are related so: each by what it was and what it is
+abbrev pub Across : {A B : Type 0} → (A → A → B → B → Type 0) → Changed A → Changed B → Type 0
+Across relation a b = relation a.entry.now a.exit.now b.entry.now b.exit.now
 
 -- ---- reading. An input is its name and its bytes
 
@@ -48,30 +48,30 @@ pub record AreRead (encoding : Option Encoding) (names : List (Bor (List ℕ))) 
   pub read : after ≡ before ++ inputs
   pub decoded : map (λ (input : List ℕ × List ℕ). text_in encoding input.1) inputs ≡ map (λ (text : List ℕ). Some text) texts
 
--- ---- counting. `has` says what a counter has, `kept` which runs were kept, and `ended` which inputs were read to their ends
+-- ---- counting. `has` says what a counter has, and `ended` which inputs were read to their ends
 
-module _ {C R : Type 0} (has : How → C → List (List (List ℕ × ℕ)) → List (List ℕ) → List ℕ → Type 0) (kept : R → List (List (List ℕ × ℕ)) → Type 0) where
+module _ {C : Type 0} (has : How → C → List (List ℕ) → List ℕ → Type 0) where
   -- the decoder decoded a block, and the counter was fed the text of the block
-  pub record FeedsNext (old new : C) (keeper keeper' : Option R) (decoder : Option Decoder) (block : List ℕ) (decoder' : Option Decoder) : Type 0 where
+  pub record FeedsNext (old new : C) (decoder : Option Decoder) (block : List ℕ) (decoder' : Option Decoder) : Type 0 where
     pub text : List ℕ
     pub decodes : Decodes decoder block text decoder'
-    pub feeds : Feeds has kept old new keeper keeper' text
+    pub feeds : AddsFed has old new text
 
   -- the same for two states of a decoding
-  abbrev pub FeedsBlock : C → C → Option R → Option R → Decoding → List ℕ → Decoding → Type 0
-  FeedsBlock old new keeper keeper' from block to = FeedsNext old new keeper keeper' from.decoder block to.decoder
+  abbrev pub FeedsBlock : C → C → Decoding → List ℕ → Decoding → Type 0
+  FeedsBlock old new from block to = FeedsNext old new from.decoder block to.decoder
 
   module _ {B : Type 0} (ended : B → List (List ℕ × List ℕ)) (encoding : Option Encoding) where
     -- an input was read to its end, and the counter was fed its text
-    pub record ReadsInput (name : List ℕ) (inputs inputs' : B) (old new : C) (keeper keeper' : Option R) : Type 0 where
+    pub record ReadsInput (name : List ℕ) (inputs inputs' : B) (old new : C) : Type 0 where
       pub bytes : List ℕ
       pub read : ended inputs' ≡ ended inputs ++ (name, bytes) ∷ []
       pub text : List ℕ
       pub decoded : text_in encoding bytes ≡ Some text
-      pub feeds : Feeds has kept old new keeper keeper' text
+      pub feeds : AddsFed has old new text
 
     -- the inputs of these names were read to their ends, in order, and their texts were counted
-    pub record CountsInputs (names : List (Bor (List ℕ))) (inputs inputs' : B) (old new : C) (keeper keeper' : Option R) : Type 0 where
+    pub record CountsInputs (names : List (Bor (List ℕ))) (inputs inputs' : B) (old new : C) : Type 0 where
       pub texts : List (List ℕ)
       pub read : AreRead encoding names (ended inputs) (ended inputs') texts
-      pub counts : CountsTexts has kept old new keeper keeper' texts
+      pub counts : CountsTexts has old new texts

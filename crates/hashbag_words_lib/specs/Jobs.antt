@@ -3,116 +3,87 @@ use denote.MutBor.{MutBor}
 use denote.Triple.Both.{Both}
 use Rattle.std.specs.Borrow.{Bor}
 use Rattle.std.specs.Global.{Global}
-use Rattle.std.specs.Prelude.{◌≡◌, ℕ, List, [], ◌∷◌, flat_map, Option, None, Some, String, ⊤}
+use Rattle.std.specs.Prelude.{◌≡◌, ℕ, List, [], flat_map, Option, String}
 use Rattle.hashbag_core.specs.Bag.{Bag}
 use Rattle.hashbag_text.specs.declared.encoding.Encoding.{Encoding}
-use Rattle.hashbag_words_lib.specs.Added.{HaveRows}
-use Rattle.hashbag_words_lib.specs.Counted.{HaveTogether}
-use Rattle.hashbag_words_lib.specs.Feeding.{AreKeptIn, AreRowsOfAll}
+use Rattle.hashbag_words_lib.specs.Counts.{HasRows, HasTokens}
+use Rattle.hashbag_words_lib.specs.Feeding.{ArePassed, AreRowsOfAll}
 use Rattle.hashbag_words_lib.specs.Inputs.{AreRead, Changed}
-use Rattle.hashbag_words_lib.specs.MergingRuns.{bytes_in, FitsOrder, HasRuns, IsFaithful}
 use Rattle.hashbag_words_lib.specs.Shown.{shown_bytes, CountTexts, ShowsTexts}
+use Rattle.hashbag_words_lib.specs.Sums.{IsTextOfSums}
+use Rattle.hashbag_words_lib.specs.TokenLines.{token_lines}
 use Rattle.hashbag_words_lib.specs.Tokens.{tokens_of}
 use Rattle.hashbag_words_lib.specs.declared.choice.Choice.{Choice}
-use Rattle.hashbag_words_lib.specs.declared.jobs.JobText.{JobText}
-use Rattle.hashbag_words_lib.specs.declared.jobs.JobText.TheVariants.{Bag as OfBag, Runs as OfRuns}
 use Rattle.hashbag_words_lib.specs.declared.jobs.Reading.{Reading}
 use Rattle.hashbag_words_lib.specs.declared.lines.BadLines.{BadLines}
-use Rattle.hashbag_words_lib.specs.declared.merging_runs.MergingRuns.{MergingRuns}
 use Rattle.hashbag_words_lib.specs.declared.rows.RowForm.{RowForm}
+use Rattle.hashbag_words_lib.specs.declared.rows.RowForm.TheVariants.{Tsv}
 use Rattle.hashbag_words_lib.specs.declared.rule.Rule.{Rule}
 use Rattle.hashbag_words_lib.specs.declared.shown_text.Look.{Look}
+use Rattle.hashbag_words_lib.specs.declared.shown_text.Shown.{Shown}
+use Rattle.hashbag_words_lib.specs.declared.writing.Format.{Format}
 
--- all bytes of the text of a job
-abbrev pub job_bytes : {F : Type 0} → JobText F → List ℕ
-job_bytes (OfBag shown) = shown_bytes shown
-job_bytes (OfRuns shown) = bytes_in shown
+-- `before` and `after`: the name and all bytes of each input that was read to its end
+module _ (reading : Reading) (names : List (Bor (List ℕ))) (before after : List (List ℕ × List ℕ)) where
+  -- the inputs of these names were read to their ends. The bag, which was empty, has the tokens of their texts. If bad lines are rejected, there are none
+  pub record TokensCounted {S : Type 0} (rule : Rule) (bag bag' : Bag (String Global) S) : Type 0 where
+    pub texts : List (List ℕ)
+    pub read_all : AreRead reading.encoding names before after texts
+    pub counts : bag.items ≡ [] → ArePassed rule reading.bad_lines texts × HasTokens bag' (flat_map (tokens_of rule) texts)
 
--- `kept keeper runs`: the keeper has kept these runs. `faithful keeper`: reading the kept runs gives what was written
-module _ {R : Type 0} (kept : R → List (List (List ℕ × ℕ)) → Type 0) (faithful : R → Type 0) where
-  -- `faithful` of the keeper, if there is one
-  abbrev pub AreFaithful : Option R → Type 0
-  AreFaithful None = ⊤
-  AreFaithful (Some keeper) = faithful keeper
+  -- the inputs of these names were read to their ends. The bag, which was empty, has the rows of these files
+  pub record RowsAdded {S : Type 0} (form : RowForm) (bag bag' : Bag (String Global) S) : Type 0 where
+    pub texts : List (List ℕ)
+    pub read_all : AreRead reading.encoding names before after texts
+    pub counts : bag.items ≡ [] → (rows : List (List ℕ × ℕ)) × AreRowsOfAll form reading.bad_lines texts rows × HasRows bag' rows
 
-  -- the kept runs have what they had before, and what the bag has
-  abbrev pub KeepsBag : {S : Type 0} → R → Bag (String Global) S → R → Type 0
-  KeepsBag old bag new =
-      (runs : List (List (List ℕ × ℕ))) → kept old runs → (all : List (List (List ℕ × ℕ))) × kept new all
-      × ((tokens : List (List ℕ)) → HaveTogether runs bag tokens → CountTexts all tokens)
+  -- the inputs of these names were read to their ends. If nothing was written before, the lines of their tokens were written, in order, and no more. If
+  -- bad lines are rejected, there are none. `old` and `new`: all bytes that were written before, and after
+  pub record LinesWritten (rule : Rule) (old new : List ℕ) : Type 0 where
+    pub texts : List (List ℕ)
+    pub read_all : AreRead reading.encoding names before after texts
+    pub written : old ≡ [] → ArePassed rule reading.bad_lines texts × (new ≡ token_lines (flat_map (tokens_of rule) texts))
 
-  -- no run was kept yet, and the bag is empty
-  abbrev pub IsNew : {S : Type 0} → Bag (String Global) S → Option R → Type 0
-  IsNew bag keeper = (bag.items ≡ []) × AreKeptIn kept keeper []
-
-  -- ---- counting. `before` and `after`: the name and all bytes of each input that was read to its end
-
-  module _ (encoding : Option Encoding) (names : List (Bor (List ℕ))) (before after : List (List ℕ × List ℕ)) where
-    -- the inputs of these names were read to their ends; the bag and the runs have together the tokens of their texts
-    pub record TokensCounted {S : Type 0} (rule : Rule) (bag bag' : Bag (String Global) S) (keeper keeper' : Option R) : Type 0 where
-      pub texts : List (List ℕ)
-      pub read_all : AreRead encoding names before after texts
-      pub counts : IsNew bag keeper → (runs : List (List (List ℕ × ℕ))) × AreKeptIn kept keeper' runs × HaveTogether runs bag' (flat_map (tokens_of rule) texts)
-
-    -- the inputs of these names were read to their ends; the bag and the runs have together the rows of these files
-    pub record RowsAdded {S : Type 0} (form : RowForm) (bad_lines : BadLines) (bag bag' : Bag (String Global) S) (keeper keeper' : Option R) : Type 0 where
-      pub texts : List (List ℕ)
-      pub read_all : AreRead encoding names before after texts
-      pub counts : IsNew bag keeper → (rows : List (List ℕ × ℕ)) × AreRowsOfAll form bad_lines texts rows
-          × (runs : List (List (List ℕ × ℕ))) × AreKeptIn kept keeper' runs × HaveRows runs bag' rows
-
-  -- the same two for the parameters of a job
-  module _ {B S X : Type 0} (ended : B → List (List ℕ × List ℕ)) (reading : Reading) (names : Both (Bor (List (Bor (List ℕ)))) X) (inputs : Changed B) where
-    abbrev pub CountsTokens : {Y : Type 0} → Both Rule Y → Changed (Bag (String Global) S) → Changed (Option R) → Type 0
-    CountsTokens rule bag runs =
-        TokensCounted reading.encoding names.entry.now (ended inputs.entry.now) (ended inputs.exit.now) rule.entry bag.entry.now bag.exit.now runs.entry.now runs.exit.now
-
-    abbrev pub AddsFileRows : RowForm → Changed (Bag (String Global) S) → Changed (Option R) → Type 0
-    AddsFileRows form bag runs =
-        RowsAdded reading.encoding names.entry.now (ended inputs.entry.now) (ended inputs.exit.now) form reading.bad_lines bag.entry.now bag.exit.now runs.entry.now runs.exit.now
-
-  -- ---- writing
+  -- the inputs of these names were read to their ends. If nothing was written before, the text of the sums of their rows was written, and no more
+  pub record SumsWritten (shown : Choice × Format) (old new : List ℕ) : Type 0 where
+    pub texts : List (List ℕ)
+    pub read_all : AreRead reading.encoding names before after texts
+    pub written : old ≡ [] → (rows : List (List ℕ × ℕ)) × AreRowsOfAll Tsv reading.bad_lines texts rows × IsTextOfSums shown rows new
 
   module _ (choice : Choice) (look : Look) where
-    -- the bytes show the tokens that the kept runs count together, however the counts are divided among the runs
-    abbrev pub ShowsRuns : R → R → List ℕ → Type 0
-    ShowsRuns old new bytes =
-        FitsOrder look choice.order → faithful new → (runs : List (List (List ℕ × ℕ))) → kept old runs → (tokens : List (List ℕ)) → CountTexts runs tokens
-        → ShowsTexts choice look tokens bytes
+    -- the inputs of these names were read to their ends. What was made shows the tokens of their texts, wherever blocks were cut. If bad lines are
+    -- rejected, there are none
+    pub record TokensWritten {S : Type 0} (rule : Rule) (bag : Bag (String Global) S) (made : Shown) : Type 0 where
+      pub texts : List (List ℕ)
+      pub read_all : AreRead reading.encoding names before after texts
+      pub written : bag.items ≡ [] → ArePassed rule reading.bad_lines texts × ShowsTexts choice look (flat_map (tokens_of rule) texts) (shown_bytes made)
 
-    -- what was made shows the tokens of a bag and of its kept runs, if there is a keeper
-    abbrev pub ShowsBoth : {S F : Type 0} → Bag (String Global) S → Option R → Option R → JobText F → Type 0
-    ShowsBoth bag old new made =
-        FitsOrder look choice.order → AreFaithful new → (runs : List (List (List ℕ × ℕ))) → AreKeptIn kept old runs → (tokens : List (List ℕ)) → HaveTogether runs bag tokens
-        → ShowsTexts choice look tokens (job_bytes made)
+    -- the inputs of these names were read to their ends. What was made shows the tokens that the rows of these files count
+    pub record RowsWritten {S : Type 0} (form : RowForm) (bag : Bag (String Global) S) (made : Shown) : Type 0 where
+      pub texts : List (List ℕ)
+      pub read_all : AreRead reading.encoding names before after texts
+      pub written : bag.items ≡ [] → (rows : List (List ℕ × ℕ)) × AreRowsOfAll form reading.bad_lines texts rows
+          × ((tokens : List (List ℕ)) → CountTexts rows tokens → ShowsTexts choice look tokens (shown_bytes made))
 
-    module _ (encoding : Option Encoding) (names : List (Bor (List ℕ))) (before after : List (List ℕ × List ℕ)) where
-      -- the inputs of these names were read to their ends; what was made shows the tokens of their texts, wherever blocks and
-      -- runs were cut
-      pub record TokensWritten {S F : Type 0} (rule : Rule) (bag : Bag (String Global) S) (keeper keeper' : Option R) (made : JobText F) : Type 0 where
-        pub texts : List (List ℕ)
-        pub read_all : AreRead encoding names before after texts
-        pub written : IsNew bag keeper → FitsOrder look choice.order → AreFaithful keeper'
-            → ShowsTexts choice look (flat_map (tokens_of rule) texts) (job_bytes made)
+-- the same for the parameters of a job
+module _ {B S X : Type 0} (ended : B → List (List ℕ × List ℕ)) (reading : Reading) (names : Both (Bor (List (Bor (List ℕ)))) X) (inputs : Changed B) where
+  abbrev pub CountsTokens : {Y : Type 0} → Both Rule Y → Changed (Bag (String Global) S) → Type 0
+  CountsTokens rule bag = TokensCounted reading names.entry.now (ended inputs.entry.now) (ended inputs.exit.now) rule.entry bag.entry.now bag.exit.now
 
-      -- the inputs of these names were read to their ends; what was made shows the tokens that the rows of these files count
-      pub record RowsWritten {S F : Type 0} (form : RowForm) (bad_lines : BadLines) (bag : Bag (String Global) S) (keeper keeper' : Option R) (made : JobText F) : Type 0 where
-        pub texts : List (List ℕ)
-        pub read_all : AreRead encoding names before after texts
-        pub written : IsNew bag keeper → FitsOrder look choice.order → AreFaithful keeper'
-            → (lines : List (List ℕ × ℕ)) × AreRowsOfAll form bad_lines texts lines
-            × ((tokens : List (List ℕ)) → CountTexts (lines ∷ []) tokens → ShowsTexts choice look tokens (job_bytes made))
+  abbrev pub AddsFileRows : RowForm → Changed (Bag (String Global) S) → Type 0
+  AddsFileRows form bag = RowsAdded reading names.entry.now (ended inputs.entry.now) (ended inputs.exit.now) form bag.entry.now bag.exit.now
 
-  -- the same two for the parameters of a job
-  module _ {B S F X Y Z : Type 0} (ended : B → List (List ℕ × List ℕ)) (choice : Both Choice X) (look : Look) (reading : Reading) (names : Both (Bor (List (Bor (List ℕ)))) Y) (inputs : Changed B) where
-    abbrev pub WritesTokens : {V : Type 0} → Both Rule V → Both (MutBor (Bag (String Global) S)) Z → Changed (Option R) → JobText F → Type 0
-    WritesTokens rule bag runs made =
-        TokensWritten choice.entry look reading.encoding names.entry.now (ended inputs.entry.now) (ended inputs.exit.now) rule.entry bag.entry.now runs.entry.now runs.exit.now made
+abbrev pub WritesLines : {B W X Y : Type 0} → (B → List (List ℕ × List ℕ)) → (W → List ℕ) → Reading → Both (Bor (List (Bor (List ℕ)))) X → Changed B → Both Rule Y → W → W → Type 0
+WritesLines ended written reading names inputs rule old new =
+    LinesWritten reading names.entry.now (ended inputs.entry.now) (ended inputs.exit.now) rule.entry (written old) (written new)
 
-    abbrev pub WritesRows : RowForm → Both (MutBor (Bag (String Global) S)) Z → Changed (Option R) → JobText F → Type 0
-    WritesRows form bag runs made =
-        RowsWritten choice.entry look reading.encoding names.entry.now (ended inputs.entry.now) (ended inputs.exit.now) form reading.bad_lines bag.entry.now runs.entry.now runs.exit.now made
+abbrev pub WritesSums : {B W X Y : Type 0} → (B → List (List ℕ × List ℕ)) → (W → List ℕ) → Reading → Both (Bor (List (Bor (List ℕ)))) X → Changed B → Both Choice Y → Format → W → W → Type 0
+WritesSums ended written reading names inputs choice format old new =
+    SumsWritten reading names.entry.now (ended inputs.entry.now) (ended inputs.exit.now) (choice.entry, format) (written old) (written new)
 
--- the bytes show the tokens of all files and runs that were kept. `read` says what was read of the text of each number
-abbrev pub ShowsKeptRuns : {T : Type 0} → (T → ℕ → List ℕ) → Choice → Look → MergingRuns T → MergingRuns T → List ℕ → Type 0
-ShowsKeptRuns read choice look old new bytes = ShowsRuns (HasRuns read) (IsFaithful read) choice look old new bytes
+module _ {B S X Y Z : Type 0} (ended : B → List (List ℕ × List ℕ)) (choice : Both Choice X) (look : Look) (reading : Reading) (names : Both (Bor (List (Bor (List ℕ)))) Y) (inputs : Changed B) where
+  abbrev pub WritesTokens : {V : Type 0} → Both Rule V → Both (MutBor (Bag (String Global) S)) Z → Shown → Type 0
+  WritesTokens rule bag made = TokensWritten reading names.entry.now (ended inputs.entry.now) (ended inputs.exit.now) choice.entry look rule.entry bag.entry.now made
+
+  abbrev pub WritesRows : RowForm → Both (MutBor (Bag (String Global) S)) Z → Shown → Type 0
+  WritesRows form bag made = RowsWritten reading names.entry.now (ended inputs.entry.now) (ended inputs.exit.now) choice.entry look form bag.entry.now made

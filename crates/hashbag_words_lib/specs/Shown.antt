@@ -1,5 +1,5 @@
 -- Which of the counted texts are shown, and the bytes that show them.
-use Rattle.std.specs.Prelude.{◌≡◌, ℕ, List, [], length, sum_by, take, String}
+use Rattle.std.specs.Prelude.{◌≡◌, ◌<◌, ℕ, List, [], All, length, sum_by, take, String}
 use Rattle.std.specs.Global.{Global}
 use Rattle.std.specs.List.{IsDistinct}
 use Rattle.std.specs.List.Sorted.{IsStrictlySortedBy}
@@ -10,29 +10,29 @@ use Rattle.hashbag_core.specs.Occurrences.{count}
 use Rattle.hashbag_ops.specs.Order.{rank}
 use Rattle.hashbag_words_lib.specs.Bars.{bars_text}
 use Rattle.hashbag_words_lib.specs.Choice.{shown_count, KeepsShown}
-use Rattle.hashbag_words_lib.specs.Counted.{HaveTogether}
+use Rattle.hashbag_words_lib.specs.Counts.{HasTokens}
 use Rattle.hashbag_words_lib.specs.RowText.{bytes_left}
 use Rattle.hashbag_words_lib.specs.Sorted.{text_cmp, times_in, Rises}
 use Rattle.hashbag_words_lib.specs.Writing.{text_of}
 use Rattle.hashbag_words_lib.specs.declared.choice.Choice.{Choice}
 use Rattle.hashbag_words_lib.specs.declared.choice.Order.{Order}
-use Rattle.hashbag_words_lib.specs.declared.choice.Order.TheVariants.{Ascending, Unordered, MostCommon}
+use Rattle.hashbag_words_lib.specs.declared.choice.Order.TheVariants.{Ascending, MostCommon}
 use Rattle.hashbag_words_lib.specs.declared.shown_text.Look.{Look}
 use Rattle.hashbag_words_lib.specs.declared.shown_text.Look.TheVariants.{Rows as InRows, Shares as WithShares, Bars as WithBars}
 use Rattle.hashbag_words_lib.specs.declared.shown_text.Shown.{Shown}
 use Rattle.hashbag_words_lib.specs.declared.shown_text.Shown.TheVariants.{Rows, Bars}
 use Rattle.hashbag_words_lib.specs.declared.writing.Format.TheVariants.{Shares}
 
--- the rows have each text of the list that `choice` shows, once, with its count in the list, and no other text
+-- the rows have each text of the list that `choice` shows, once, with its count in the list, which is at least 1, and no other text
 pub record HasShown (choice : Choice) (texts : List (List ℕ)) (rows : List (List ℕ × ℕ)) : Type 0 where
   pub once : IsDistinct bytes_eq (keys_of rows)
   pub counts : (text : List ℕ) → times_in text rows ≡ shown_count choice text (count bytes_eq text texts)
+  pub positive : All (λ r. 0 < r.1) rows
 
--- these rows are shown. `Ascending`, `Unordered`: all, with tokens in ascending order or in no particular order. `MostCommon k`: the first k of all,
--- the most common first, and rows with equal counts in ascending order of tokens
+-- these rows are shown. `Ascending`: all, with tokens in ascending order. `MostCommon k`: the first k of all, the most common first, and rows with
+-- equal counts in ascending order of tokens
 abbrev pub AreShown : Order → Choice → List (List ℕ) → List (List ℕ × ℕ) → Type 0
 AreShown Ascending choice texts rows = HasShown choice texts rows × Rises rows
-AreShown Unordered choice texts rows = HasShown choice texts rows
 AreShown (MostCommon k) choice texts rows =
     (all : List (List ℕ × ℕ)) × HasShown choice texts all × IsStrictlySortedBy (rank text_cmp) all × (rows ≡ take k all)
 
@@ -54,16 +54,11 @@ ShowsTexts choice (WithBars width) texts bytes = IsShownAs choice (bars_text wid
 
 -- the bytes show the tokens that the bag has
 abbrev pub ShowsCounted : {S : Type 0} → Choice → Look → Bag (String Global) S → List ℕ → Type 0
-ShowsCounted choice look bag bytes = (texts : List (List ℕ)) → HaveTogether [] bag texts → ShowsTexts choice look texts bytes
+ShowsCounted choice look bag bytes = (texts : List (List ℕ)) → HasTokens bag texts → ShowsTexts choice look texts bytes
 
--- together, the inputs count exactly these tokens
-abbrev pub CountTexts : List (List (List ℕ × ℕ)) → List (List ℕ) → Type 0
-CountTexts inputs texts = (text : List ℕ) → sum_by (times_in text) inputs ≡ count bytes_eq text texts
-
--- the bytes show the tokens that the inputs count together, however the counts are divided among the inputs; the total is the number of these tokens
-abbrev pub WritesTogether : Choice → Look → List (List (List ℕ × ℕ)) → ℕ → List ℕ → Type 0
-WritesTogether choice look inputs total bytes =
-    (texts : List (List ℕ)) → CountTexts inputs texts → ShowsTexts choice look texts bytes × (total ≡ length texts)
+-- the rows count exactly these tokens
+abbrev pub CountTexts : List (List ℕ × ℕ) → List (List ℕ) → Type 0
+CountTexts rows texts = (text : List ℕ) → times_in text rows ≡ count bytes_eq text texts
 
 -- all bytes of a text
 abbrev pub shown_bytes : Shown → List ℕ

@@ -1,12 +1,11 @@
 //! The counts that are shown, and their order.
-ghost use Rattle.std.specs.Prelude.{◌≡◌, ℕ, List, [], length, map, nat_le, if◌then◌else◌, string_bytes, IfOk};
+ghost use Rattle.std.specs.Prelude.{◌≡◌, ℕ, List, [], length, map, if◌then◌else◌, string_bytes, IfOk};
 ghost use Rattle.std.specs.List.Sorted.{IsStrictlySortedBy};
 ghost use Rattle.std.specs.Map.{keys_of};
-ghost use Rattle.std.specs.Str.{chars};
 ghost use Rattle.std.specs.String.{string_cmp, string_eq};
 ghost use Rattle.hashbag_core.specs.Walks.{IsSetWalkOf, seen};
 ghost use Rattle.hashbag_words_lib.specs.Choice.{is_excepted, shows, KeepsShown, AreChosen};
-ghost use Rattle.hashbag_words_lib.specs.Counted.{HaveTogether};
+ghost use Rattle.hashbag_words_lib.specs.Counts.{HasTokens};
 
 use crate::shards::{Shard, is_in_shard};
 use crate::sorting::sort_rows;
@@ -20,8 +19,6 @@ use std::hash::{BuildHasher, RandomState};
 pub enum Order {
     /// All tokens, in ascending order of their bytes.
     Ascending,
-    /// All tokens, in no particular order.
-    Unordered,
     /// The k most common tokens: in descending order of counts, and tokens with equal counts in ascending order of their bytes.
     MostCommon(usize),
 }
@@ -33,8 +30,6 @@ pub struct Choice<'e> {
     pub order: Order,
     /// The least count that is shown.
     pub least: usize,
-    /// The least number of characters of a token that is shown.
-    pub shortest: usize,
     /// The shard whose tokens are shown. `None` shows the tokens of all shards.
     pub shard: Option<Shard>,
     /// The bag of the tokens that aren't shown, if there is one.
@@ -44,21 +39,11 @@ pub struct Choice<'e> {
 impl Choice<'_> {
     /// Returns whether a token with this count is shown.
     pub fn shows(&self, token: &str, count: usize) -> bool
-        // A token is shown if `count` ≥ `least`, and it has at least `shortest` characters, is in `shard` (if any) and isn't in the bag `except` (if any).
+        // A token is shown if `count` ≥ `least`, and it is in `shard` (if any) and isn't in the bag `except` (if any).
         ensures { result ≡ shows self.now (token.now, count) }
     {
-        self.least <= count
-            && is_long(self.shortest, token)
-            && is_in_shard(self.shard, token)
-            && !is_excepted(self.except, token)
+        self.least <= count && is_in_shard(self.shard, token) && !is_excepted(self.except, token)
     }
-}
-
-// Returns whether a token has at least `shortest` characters.
-fn is_long(shortest: usize, token: &str) -> bool
-    ensures { result ≡ nat_le shortest (length (chars token.now)) }
-{
-    shortest == 0 || shortest <= token.chars().count()
 }
 
 // Returns whether the bag of the tokens that aren't shown has this token.
@@ -77,8 +62,8 @@ pub(crate) fn keep_shown<S: BuildHasher + Drop>(
     choice: Choice<'_>,
 ) -> usize
     // `texts` lists the bag's texts. Each text that is shown keeps its count; no other text is left.
-    ensures kept { (texts : List (List ℕ)) → HaveTogether [] bag.old texts → KeepsShown choice.entry texts bag.new }
-    ensures total { (texts : List (List ℕ)) → HaveTogether [] bag.old texts → result ≡ length texts }
+    ensures kept { (texts : List (List ℕ)) → HasTokens bag.old texts → KeepsShown choice.entry texts bag.new }
+    ensures total { (texts : List (List ℕ)) → HasTokens bag.old texts → result ≡ length texts }
 {
     let total = bag.len();
     bag.retain(
@@ -127,7 +112,6 @@ pub fn chosen<'a, S: BuildHasher + Drop>(
 {
     match order {
         Order::Ascending => rising(alloc, bag),
-        Order::Unordered => counts(alloc, bag),
         Order::MostCommon(k) => most_common(alloc, bag, k),
     }
 }

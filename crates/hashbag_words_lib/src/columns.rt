@@ -3,7 +3,7 @@ ghost use Rattle.std.specs.Prelude.{◌≡◌, ◌∷◌, [], false, true, All, 
 ghost use Rattle.hashbag_csv.specs.Readers.{records_in};
 ghost use Rattle.hashbag_csv.specs.Sheets.{FitHeader, fits_sheet, last_field, left, place};
 ghost use Rattle.hashbag_words_lib.specs.Columns.{HasColumn, column_at, column_in};
-ghost use Rattle.hashbag_words_lib.specs.Counts.{AddsTokens};
+ghost use Rattle.hashbag_words_lib.specs.Counts.{HasTokens, TakesTokens};
 
 use crate::counting::add_piece;
 use hashbag_core::{BagError, HashBag};
@@ -21,7 +21,7 @@ fn add_record<S: BuildHasher + Drop>(
     sheet: &Sheet<'_>,
     column: Column<'_>,
 ) -> Result<(), SheetError>
-    ensures { OnOk result (AddsTokens fold bag.old bag.new (last_field sheet.now column.entry ∷ [])) }
+    ensures { OnOk result (TakesTokens HasTokens fold bag.old bag.new (last_field sheet.now column.entry ∷ [])) }
 {
     let field = sheet.field(column)?;
     match add_piece(alloc, bag, fold, field) {
@@ -42,7 +42,7 @@ fn add_records<S: BuildHasher + Drop>(
     sheet: &mut Sheet<'_>,
     column: Column<'_>,
 ) -> Result<(), SheetError>
-    ensures counts { OnOk result (AddsTokens fold bag.old bag.new (column_at (place column.entry) (left sheet.old))) }
+    ensures counts { OnOk result (TakesTokens HasTokens fold bag.old bag.new (column_at (place column.entry) (left sheet.old))) }
     ensures fits { OnOk result (All (λ r. fits_sheet sheet.old r ≡ true) (left sheet.old)) }
 {
     'records: while sheet.read()? {
@@ -72,7 +72,7 @@ pub fn count_column<S: BuildHasher + Drop>(
     delimiter: Delimiter,
 ) -> Result<(), SheetError>
     // Each field of the column below the header is counted once: case-folded with `fold`, else as it is. No other text is counted.
-    ensures counts { OnOk result (AddsTokens fold bag.old bag.new (column_in delimiter name.now text.now)) }
+    ensures counts { OnOk result (TakesTokens HasTokens fold bag.old bag.new (column_in delimiter name.now text.now)) }
 
     // The header has exactly one column of this name, and each other record has as many fields as the header.
     ensures named { OnOk result (HasColumn name.now (records_in delimiter text.now)) }

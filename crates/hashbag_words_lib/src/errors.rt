@@ -1,7 +1,7 @@
 //! Errors of an input.
 ghost use Rattle.std.specs.Prelude.{◌≡◌};
 
-use hashbag_core::{BagError, JsonError};
+use hashbag_core::BagError;
 use std::alloc::AllocError;
 use std::io;
 use thiserror::Error;
@@ -24,9 +24,6 @@ pub enum BadLine {
     /// The last line of a file of counts has no line feed: the file may have been cut off there.
     #[error("no line feed")]
     CutOff,
-    /// The rows must be in ascending order of tokens, and the token of this row doesn't come after the token of the row before.
-    #[error("not in order")]
-    NotInOrder,
 }
 
 /// Why an input wasn't counted to its end.
@@ -35,21 +32,15 @@ pub enum InputFault {
     /// A line is bad.
     #[error("{0}")]
     Line(BadLine),
-    /// The text isn't JSON, or an allocation failed while it was parsed.
-    #[error("{0}")]
-    Text(serde_json::Error),
-    /// The JSON text isn't the tree of a bag, or that bag can't be built.
-    #[error("{0}")]
-    Tree(JsonError),
-    /// The counts of a JSON tree add up to more than this limit, which is in the tree.
-    #[error("total past its limit, {0}")]
-    PastLimit(u64),
     /// An insertion failed: an allocation failed, or the total would pass the limit of the bag.
     #[error("{0}")]
     Bag(BagError),
-    /// A read failed.
+    /// The rows must be in the order of `LC_ALL=C sort`, and the token of this row comes before the token of the row before.
+    #[error("not in order")]
+    NotInOrder,
+    /// A write failed.
     #[error("{0}")]
-    Read(io::Error),
+    Write(io::Error),
 }
 
 impl From<BagError> for InputFault {
@@ -70,15 +61,5 @@ impl From<AllocError> for InputFault {
 
     fn from(_refused: AllocError) -> InputFault {
         InputFault::Bag(BagError::Memory)
-    }
-}
-
-impl From<io::Error> for InputFault {
-    ghost use Rattle.hashbag_words_lib.specs.declared.errors.InputFault.{InputFault};
-
-    ghost from_gives = { λ failed fault. fault ≡ InputFault.Read failed };
-
-    fn from(failed: io::Error) -> InputFault {
-        InputFault::Read(failed)
     }
 }

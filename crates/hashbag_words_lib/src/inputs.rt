@@ -5,7 +5,7 @@ ghost use Rattle.std.specs.Prelude.{◌≡◌, ℕ, List, [], Option, Some, OnOk
 ghost use Rattle.hashbag_text.specs.Encodings.{text_in};
 ghost use Rattle.hashbag_words_lib.specs.Inputs.{text_left, Across, CountsInputs, FeedsBlock, ReadsInput, ReadsNextBlock};
 
-use crate::feeding::{Counter, KeepsRuns, end, feed};
+use crate::feeding::{Counter, end, feed};
 use crate::lines::LinesRead;
 use hashbag_shell::input::shown_name;
 use hashbag_shell::text::of_decoding;
@@ -94,22 +94,17 @@ impl<'a> Decoding<'a> {
     }
 
     // Decodes the next block, and counts its text.
-    fn feed<C: Counter, R: KeepsRuns<'a>>(
-        &mut self,
-        counter: &mut C,
-        runs: &mut Option<R>,
-        block: &[u8],
-    ) -> Result<(), Trouble<'a>>
-        ensures { OnOk result (FeedsBlock C.has R.kept counter.old counter.new runs.old runs.new self.old block.now self.new) }
+    fn feed<C: Counter>(&mut self, counter: &mut C, block: &[u8]) -> Result<(), Trouble<'a>>
+        ensures { OnOk result (FeedsBlock C.has counter.old counter.new self.old block.now self.new) }
     {
         let Some(decoder) = &mut self.decoder else {
-            feed(self.alloc, counter, runs, self.name, block)?;
+            feed(self.alloc, counter, self.name, block)?;
             self.has_nul = self.has_nul || memchr(0, block).is_some();
             return Ok(());
         };
         self.text.clear();
         let pushed = decoder.push(block, &mut self.text);
-        feed(self.alloc, counter, runs, self.name, self.text.as_bytes())?;
+        feed(self.alloc, counter, self.name, self.text.as_bytes())?;
         if let Err(error) = pushed {
             return Err(of_decoding(self.alloc, self.name, error));
         }
@@ -132,15 +127,14 @@ impl<'a> Decoding<'a> {
 }
 
 // Counts the text of the input of that name, and doesn't end the text. Returns whether the text has a NUL byte.
-fn read_input<'a, B: Blocks<'a>, C: Counter, R: KeepsRuns<'a>>(
+fn read_input<'a, B: Blocks<'a>, C: Counter>(
     alloc: Global,
     inputs: &mut B,
     counter: &mut C,
-    runs: &mut Option<R>,
     name: &'a str,
     encoding: Option<Encoding>,
 ) -> Result<bool, Trouble<'a>>
-    ensures { OnOk result (Across (ReadsInput C.has R.kept B.ended encoding name.now) inputs counter runs) }
+    ensures { OnOk result (Across (ReadsInput C.has B.ended encoding name.now) inputs counter) }
 {
     inputs.open(name)?;
     let mut decoding = Decoding::new(alloc, shown_name(name), encoding);
@@ -150,7 +144,7 @@ fn read_input<'a, B: Blocks<'a>, C: Counter, R: KeepsRuns<'a>>(
         if block.is_empty() {
             return decoding.end();
         }
-        decoding.feed(counter, runs, block)?;
+        decoding.feed(counter, block)?;
     }
     Err(Trouble::Memory)
 }
@@ -159,26 +153,24 @@ fn read_input<'a, B: Blocks<'a>, C: Counter, R: KeepsRuns<'a>>(
 ///
 /// # Errors
 ///
-/// What is wrong with an input or one of its lines, or why a run isn't kept. What came before the error may be counted.
-pub fn count_all<'a, B: Blocks<'a>, C: Counter, R: KeepsRuns<'a>>(
+/// What is wrong with an input or one of its lines. What came before the error may be counted.
+pub fn count_all<'a, B: Blocks<'a>, C: Counter>(
     alloc: Global,
     inputs: &mut B,
     counter: &mut C,
-    runs: &mut Option<R>,
     encoding: Option<Encoding>,
     names: &[&'a str],
 ) -> Result<(), Trouble<'a>>
-    // Exactly these inputs were read to their ends, and each is text in the encoding. Together, the counter and all runs have the counts of all
-    // texts.
-    ensures { OnOk result (Across (CountsInputs C.has R.kept B.ended encoding names.now) inputs counter runs) }
+    // Exactly these inputs were read to their ends, and each is text in the encoding. The counter has the counts of all texts.
+    ensures { OnOk result (Across (CountsInputs C.has B.ended encoding names.now) inputs counter) }
 {
     for name in names {
         let shown = shown_name(*name);
-        let has_nul = read_input(alloc, inputs, counter, runs, *name, encoding)?;
+        let has_nul = read_input(alloc, inputs, counter, *name, encoding)?;
         if has_nul {
             inputs.report_nul(shown);
         }
-        let reading = end(alloc, counter, runs, shown)?;
+        let reading = end(alloc, counter, shown)?;
         inputs.report(shown, &reading);
     }
     Ok(())

@@ -81,7 +81,7 @@ fn has_escape(token: &[u8]) -> bool
 }
 
 // Appends a token, escaped. A token without a byte to escape is appended as a whole.
-fn push_token(text: &mut Vec<u8>, token: &[u8]) -> Result<(), AllocError>
+pub(crate) fn push_token(text: &mut Vec<u8>, token: &[u8]) -> Result<(), AllocError>
     ensures { OnOk result (text.new.items ≡ text.old.items ++ escaped token.now) }
 {
     if !has_escape(token) {

@@ -46,4 +46,11 @@ impl Tape {
             n,
         }));
     }
+
+    /// Appends a whole block.
+    pub fn push_whole(&mut self, block: &Vec<u8>)
+        ensures { self.new ≡ self.old ++ block.now.items }
+    {
+        self.push(block, block.len());
+    }
 }

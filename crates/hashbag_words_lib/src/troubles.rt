@@ -1,6 +1,6 @@
 //! What is wrong with an input, as the trouble of a program.
 use crate::errors::InputFault;
-use hashbag_core::{BagError, JsonError};
+use hashbag_core::BagError;
 use hashbag_shell::status::{BAD_INPUT, TOTAL_TOO_LARGE};
 use hashbag_shell::trouble::Trouble;
 use std::alloc::Global;
@@ -19,26 +19,14 @@ fn too_many<'a>(alloc: Global, file: &'a str, line: u64) -> Trouble<'a> {
 pub fn of_input<'a>(alloc: Global, file: &'a str, lines: u64, fault: InputFault) -> Trouble<'a> {
     match fault {
         InputFault::Line(bad) => Trouble::of_line(file, lines, bad.to_string(alloc)),
-        InputFault::Text(error) if error.is_memory() => Trouble::MemoryIn { file, lines },
-        InputFault::Text(error) => {
-            Trouble::with_status(format!(in alloc; "{file}: {error}"), BAD_INPUT)
-        }
-        InputFault::Tree(JsonError::Memory) => Trouble::MemoryIn { file, lines },
-        InputFault::Tree(JsonError::TooMany(_)) => too_many(alloc, file, lines),
-        InputFault::Tree(error) => {
-            Trouble::with_status(format!(in alloc; "{file}: {error}"), BAD_INPUT)
-        }
-        InputFault::PastLimit(limit) => {
-            let what = format!(in alloc; "{file}: total past its limit, {limit}");
-            Trouble::with_status(what, TOTAL_TOO_LARGE)
-        }
         // `lines` includes the line that failed.
         InputFault::Bag(BagError::Memory) => Trouble::MemoryIn {
             file,
             lines: lines.saturating_sub(1),
         },
         InputFault::Bag(_) => too_many(alloc, file, lines),
-        InputFault::Read(error) => Trouble::of_file(file, error),
+        InputFault::NotInOrder => { Trouble::of_line(file, lines, "not in order".to_string(alloc)) }
+        InputFault::Write(error) => Trouble::Write(error),
     }
 }
 
@@ -51,7 +39,10 @@ pub fn of_text<'a>(alloc: Global, file: &'a str, error: io::Error) -> Trouble<'a
     Trouble::of_file(file, error)
 }
 
-/// Returns the trouble of a total that is too large with the runs in this folder.
-pub fn too_many_in_all<'a>(alloc: Global, folder: &'a str) -> Trouble<'a> {
-    too_many(alloc, folder, 0)
+/// Returns the trouble of a text that wasn't written.
+pub fn of_output<'a>(fault: InputFault) -> Trouble<'a> {
+    match fault {
+        InputFault::Write(error) => Trouble::Write(error),
+        _ => Trouble::Memory,
+    }
 }

@@ -3,6 +3,8 @@
 #![tactic(auto)]
 
 #[cfg(test)]
+mod causes;
+#[cfg(test)]
 mod lines;
 #[cfg(test)]
 mod lists;
@@ -15,9 +17,9 @@ mod outputs;
 #[cfg(test)]
 mod runs;
 #[cfg(test)]
-mod sorted;
-#[cfg(test)]
 mod stock;
+#[cfg(test)]
+mod streams;
 #[cfg(test)]
 mod texts;
 #[cfg(test)]

@@ -1,11 +1,10 @@
 //! Whole runs of the program over readers and writers in memory.
+use crate::streams::{Pieces, Sink};
 use hashbag_run_lib::execute::execute;
 use std::alloc::{AllocError, Global};
 use std::fmt::Write as _;
-use std::io::{ErrorKind, Read, Write};
 use std::process::Abort;
 use std::test::Fail;
-use std::{io, str};
 
 // Two insertions of a value, a removal and a count.
 const STEPS: &str = "a insert 5\na insert 5\na remove 5\na count 5\n";
@@ -23,84 +22,6 @@ const TWO_BAGS_OUTPUT: &str = "a count 0\na count 1\na count 3\na count 7\n\
 
 // The trees of two empty bags.
 const EMPTY: &str = "a json []\nb json []\n";
-
-// Gives its text in pieces of at most `piece` bytes. The read of the number `fails_at`, from 1, fails.
-#[derive(Drop)]
-struct Pieces<'a> {
-    left: &'a [u8],
-    piece: usize,
-    reads: usize,
-    fails_at: usize,
-}
-
-impl<'a> Pieces<'a> {
-    fn new(text: &'a [u8], fails_at: usize) -> Pieces<'a> {
-        Pieces {
-            left: text,
-            piece: 7,
-            reads: 0,
-            fails_at,
-        }
-    }
-}
-
-impl Read for Pieces<'_> {
-    fn read(&mut self, buffer: &mut [u8]) -> io::Result<usize> {
-        self.reads = self.reads.saturating_add(1);
-        if self.reads == self.fails_at {
-            return Err(io::Error::from(ErrorKind::Interrupted));
-        }
-        let n = buffer.len().min(self.left.len()).min(self.piece);
-        buffer[..n].copy_from_slice(&self.left[..n]);
-        self.left = &self.left[n..];
-        Ok(n)
-    }
-}
-
-// Takes at most seven bytes at a write and keeps them. The write of the number `fails_at`, from 1, fails, or takes no byte.
-#[derive(Drop)]
-struct Sink {
-    taken: Vec<u8>,
-    writes: usize,
-    fails_at: usize,
-    takes_none: bool,
-}
-
-impl Sink {
-    fn new(alloc: Global, fails_at: usize, takes_none: bool) -> Sink {
-        Sink {
-            taken: Vec::new(alloc),
-            writes: 0,
-            fails_at,
-            takes_none,
-        }
-    }
-
-    // What was written, as a text.
-    fn text(&self) -> &str {
-        str::from_utf8(self.taken.as_slice()).unwrap_or("not a text")
-    }
-}
-
-impl Write for Sink {
-    fn write(&mut self, bytes: &[u8]) -> io::Result<usize> {
-        self.writes = self.writes.saturating_add(1);
-        if self.writes == self.fails_at {
-            return if self.takes_none {
-                Ok(0)
-            } else {
-                Err(io::Error::from(ErrorKind::Interrupted))
-            };
-        }
-        let n = bytes.len().min(7);
-        self.taken.extend_from_slice(&bytes[..n])?;
-        Ok(n)
-    }
-
-    fn flush(&mut self) -> io::Result<()> {
-        Ok(())
-    }
-}
 
 // Runs the program on an input, and compares its status and all that it writes.
 fn has_output(alloc: Global, rt: &impl Abort, input: &str, status: u8, wanted: &str) {

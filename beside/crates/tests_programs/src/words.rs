@@ -3,10 +3,9 @@
 use crate::texts::is_text;
 use hashbag::{FixedState, HashBag};
 use hashbag_words_lib::choice::{Order, chosen};
-use hashbag_words_lib::counter::{Fed, TextCounter};
+use hashbag_words_lib::counter::TextCounter;
 use hashbag_words_lib::errors::InputFault;
 use hashbag_words_lib::lines::{BadLines, LinesRead};
-use hashbag_words_lib::merging::add_tree;
 use hashbag_words_lib::row_counter::RowCounter;
 use hashbag_words_lib::row_text::RowText;
 use hashbag_words_lib::rows::RowForm;
@@ -173,10 +172,10 @@ fn counted_by<S: BuildHasher + Drop>(
         lossy,
     };
     let bag = HashBag::with_hasher(alloc, state);
-    let mut counter = TextCounter::new(alloc, bag, rule, BadLines::Rejected, None);
+    let mut counter = TextCounter::new(alloc, bag, rule, BadLines::Rejected);
     counter.feed(input.as_bytes())?;
     counter.end_text()?;
-    written(alloc, counter.bag(), Format::Tsv)
+    written(alloc, counter.sink(), Format::Tsv)
 }
 
 #[test]
@@ -216,7 +215,7 @@ fn fields_of_text(rt: HostRuntime) -> Result<(), Fail> {
 
 // Adds a file, whose first byte is a block of its own.
 fn add_file<S: BuildHasher + Drop>(
-    counter: &mut RowCounter<S>,
+    counter: &mut RowCounter<HashBag<String, S>>,
     file: &[u8],
 ) -> Result<(), InputFault> {
     let (first, rest) = file.split_at(file.len().min(1));
@@ -239,9 +238,9 @@ fn merged<S: BuildHasher + Drop>(
     } else {
         BadLines::Rejected
     };
-    let mut counter = RowCounter::new(alloc, bag, form, bad_lines, None);
+    let mut counter = RowCounter::new(alloc, bag, form, bad_lines);
     match add_file(&mut counter, file) {
-        Ok(()) => written(alloc, counter.bag(), Format::Tsv),
+        Ok(()) => written(alloc, counter.sink(), Format::Tsv),
         Err(fault) => {
             let line = counter.reading().line;
             Ok(format!(in alloc; "{line}: {fault}")?)
@@ -327,7 +326,7 @@ const TEXTS: [Text; 12] = [
 ];
 
 // A counter of lines.
-fn counter_of(alloc: Global, how: &str) -> TextCounter<'static, FixedState> {
+fn counter_of(alloc: Global, how: &str) -> TextCounter<'static, HashBag<String, FixedState>> {
     let rule = Rule {
         pieces: Pieces::Lines,
         fold: false,
@@ -338,12 +337,12 @@ fn counter_of(alloc: Global, how: &str) -> TextCounter<'static, FixedState> {
         _ => BadLines::Rejected,
     };
     let bag = HashBag::with_hasher(alloc, FixedState::new());
-    TextCounter::new(alloc, bag, rule, bad_lines, None)
+    TextCounter::new(alloc, bag, rule, bad_lines)
 }
 
 // Feeds blocks, and ends the text.
 fn feed_all(
-    counter: &mut TextCounter<'static, FixedState>,
+    counter: &mut TextCounter<'static, HashBag<String, FixedState>>,
     blocks: &[&[u8]],
 ) -> Result<LinesRead, InputFault> {
     for block in blocks {
@@ -358,7 +357,7 @@ fn fed(alloc: Global, how: &str, blocks: &[&[u8]]) -> Result<(String, [u64; 3]),
     match feed_all(&mut counter, blocks) {
         Ok(reading) => {
             let counts = [reading.line, reading.skipped, reading.replaced];
-            Ok((written(alloc, counter.bag(), Format::Tsv)?, counts))
+            Ok((written(alloc, counter.sink(), Format::Tsv)?, counts))
         }
         Err(_) => {
             let line = counter.reading().line;
@@ -406,30 +405,20 @@ fn blocks(rt: HostRuntime) -> Result<(), Fail> {
 fn texts_in_turn(rt: HostRuntime) -> Result<(), Fail> {
     let mut counter = counter_of(rt.alloc(), "refused");
     for (text, lines) in [("a\nb", 2), ("c", 1), ("", 0), ("b\nd\n", 2), ("c\nd", 2)] {
-        assert_eq!(rt; counter.feed(text.as_bytes())?, Fed::Whole);
+        counter.feed(text.as_bytes())?;
         assert_eq!(rt; counter.end_text()?.line, lines);
     }
     is_text(
-        &written(rt.alloc(), counter.bag(), Format::Tsv)?,
+        &written(rt.alloc(), counter.sink(), Format::Tsv)?,
         &"a\t1\nb\t2\nc\t2\nd\t2\n",
     )
 }
 
-// Trees that are added one after the other, a form, and how the counts are then written.
-const FORMS: [(&str, &str, &str); 5] = [
-    (
-        "[[\"the\",3],[\"a\\\"\\t\",1]]",
-        "tsv",
-        "a\"\\t\t1\nthe\t3\n",
-    ),
-    ("[]", "uniq", "      1 a\"\t\n      3 the\n"),
-    ("[]", "json", "[[\"a\\\"\\t\",1],[\"the\",3]]\n"),
-    ("[[\"c\",2],[\"the\"]]", "tsv", "a bad tree"),
-    (
-        "[[\"b\",2],[\"the\",1]]",
-        "tsv",
-        "a\"\\t\t1\nb\t2\nthe\t4\n",
-    ),
+// A form, and how these counts are written in it: `a"` and a tab once, `the` three times.
+const FORMS: [(&str, &str); 3] = [
+    ("tsv", "a\"\\t\t1\nthe\t3\n"),
+    ("uniq", "      1 a\"\t\n      3 the\n"),
+    ("json", "[[\"a\\\"\\t\",1],[\"the\",3]]\n"),
 ];
 
 fn format_of(word: &str) -> Format {
@@ -440,28 +429,14 @@ fn format_of(word: &str) -> Format {
     }
 }
 
-// The counts and those of a tree, written in a form.
-fn with_tree(
-    alloc: Global,
-    state: RandomState,
-    bag: &mut HashBag<String, FixedState>,
-    tree: &str,
-    format: Format,
-) -> Result<String, Fail> {
-    match add_tree(alloc, state, bag, tree) {
-        Ok(()) => written(alloc, bag, format),
-        Err(_) => Ok("a bad tree".to_string(alloc)?),
-    }
-}
-
 #[test]
 fn forms(rt: HostRuntime) -> Result<(), Fail> {
     let alloc = rt.alloc();
-    let state = RandomState::new(&rt)?;
     let mut bag = HashBag::with_hasher(alloc, FixedState::new());
-    for (tree, form, wanted) in &FORMS {
-        let text = with_tree(alloc, state, &mut bag, tree, format_of(form))?;
-        is_text(&text, wanted)?;
+    bag.insert_many(String::from_str(alloc, "the")?, 3)?;
+    bag.insert(String::from_str(alloc, "a\"\t")?)?;
+    for (form, wanted) in &FORMS {
+        is_text(&written(alloc, &bag, format_of(form))?, wanted)?;
     }
     Ok(())
 }

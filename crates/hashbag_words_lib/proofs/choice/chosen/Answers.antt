@@ -5,7 +5,7 @@ use Rattle.hashbag_core.specs.Bag.{Bag}
 use Rattle.hashbag_core.specs.Walks.{seen}
 use Rattle.hashbag_words_lib.specs.Choice.{AreChosen}
 use Rattle.hashbag_words_lib.specs.declared.choice.Order.{Order}
-use Rattle.hashbag_words_lib.specs.declared.choice.Order.TheVariants.{Ascending, Unordered, MostCommon}
+use Rattle.hashbag_words_lib.specs.declared.choice.Order.TheVariants.{Ascending, MostCommon}
 use Rattle.hashbag_words_lib.proofs.choice.chosen.Goals as goal
 
 by_order : {S E : Type 0} (r : Result (Vec (Bor (String Global) × ℕ)) E) (bag : Bag (String Global) S) (order is : Order) → order ≡ is
@@ -18,9 +18,6 @@ both P Q (Err e) p q = tt
 
 pub returns-in-Ascending : goal.returns-in-Ascending
 returns-in-Ascending g c = by_order c.rising.result c.args.bag.now c.args.order Ascending c.in-Ascending.is (both _ _ c.rising.result c.rising.ensures.walk c.rising.ensures.rising)
-
-pub returns-in-Unordered : goal.returns-in-Unordered
-returns-in-Unordered g c = by_order c.counts.result c.args.bag.now c.args.order Unordered c.in-Unordered.is c.counts.ensures.walk
 
 pub returns-in-MostCommon : goal.returns-in-MostCommon
 returns-in-MostCommon g c = by_order c.most_common.result c.args.bag.now c.args.order (MostCommon c.in-MostCommon.k) c.in-MostCommon.is c.most_common.ensures.first

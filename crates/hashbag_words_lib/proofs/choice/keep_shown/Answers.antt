@@ -15,9 +15,6 @@ no_more : (b : Bool) (n : ℕ) → min (cond b n 0) n ≡ cond b n 0
 no_more true n = omega arith
 no_more false n = omega arith
 
-no_runs : (n m : ℕ) → n + 0 ≡ m → n ≡ m
-no_runs n m is = omega arith
-
 -- the count of a string that is shown, and 0 of another
 abbrev kept : Choice → String Global → ℕ → ℕ
 kept choice x n = shown_count choice (string_bytes x) n
@@ -37,7 +34,7 @@ returns-clause-kept g c =
     shown_by choice before.items c.retain.new.self.items
     (λ v. let n = count string_eq v before.items in count_retained_by string_eq_equiv (kept choice) (same_kept choice) _ _ before c.retain.new.self done answers v ∙ no_more (shows choice (string_bytes v, n)) n)
     text
-    ∙ ap (λ (n : ℕ). shown_count choice text n) (no_runs (count bytes_eq text (texts_in before)) _ (together text))
+    ∙ ap (λ (n : ℕ). shown_count choice text n) (together text)
 
 -- lists with the same counts are equally long
 pub returns-clause-total : goal.returns-clause-total
@@ -45,4 +42,4 @@ returns-clause-total g c = λ texts together.
     let before = c.args.bag.now in
     c.len-total.ensures.len
     ∙ sym (length-map before.items string_bytes)
-    ∙ same_length nat_list_eq_equiv (texts_in before) texts (λ text. no_runs (count bytes_eq text (texts_in before)) (count bytes_eq text texts) (together text))
+    ∙ same_length nat_list_eq_equiv (texts_in before) texts together

@@ -1,7 +1,7 @@
 use Rattle.std.proofs.Common.{◌≡◌, ◌++◌, ℕ, List, All, length, map, true}
 use Rattle.hashbag_csv.specs.Sheets.{KeepsHeader, fits_sheet, left, place}
 use Rattle.hashbag_words_lib.specs.Columns.{column_at}
-use Rattle.hashbag_words_lib.specs.Counts.{AddsTexts}
+use Rattle.hashbag_words_lib.specs.Counts.{HasTokens, Takes}
 use Rattle.hashbag_words_lib.specs.Tokens.{token_of}
 use Rattle.hashbag_words_lib.proofs.columns.add_records.Given as goal
 
@@ -10,7 +10,7 @@ abbrev pub invariant-records : goal.invariant-records
 invariant-records g l = record {
   D : List (List ℕ);
   all : column_at (place l.column) (left l.fn.sheet) ≡ D ++ column_at (place l.column) (left l.sheet);
-  so_far : AddsTexts l.fn.bag l.bag (map (token_of l.fold) D);
+  so_far : Takes HasTokens l.fn.bag l.bag (map (token_of l.fold) D);
   same : KeepsHeader l.fn.sheet l.sheet;
   fit : All (λ r. fits_sheet l.fn.sheet r ≡ true) (left l.sheet) → All (λ r. fits_sheet l.fn.sheet r ≡ true) (left l.fn.sheet);
 }

@@ -3,7 +3,7 @@ use Rattle.hashbag_csv.specs.Readers.{Record}
 use Rattle.hashbag_csv.specs.Sheets.{FitHeader, fits_header, left, place, read_last, width_of}
 use Rattle.hashbag_csv.proofs.LineLemmas.{only_place}
 use Rattle.hashbag_words_lib.specs.Columns.{HasColumn}
-use Rattle.hashbag_words_lib.specs.Counts.{AddsTexts}
+use Rattle.hashbag_words_lib.specs.Counts.{HasTokens, Takes}
 use Rattle.hashbag_words_lib.specs.Tokens.{token_of}
 use Rattle.hashbag_words_lib.proofs.ColumnLemmas.{all_fields}
 use Rattle.hashbag_words_lib.proofs.columns.count_column.Goals as goal
@@ -15,7 +15,7 @@ returns-clause-counts g c =
     let name = c.args.name.now in
     let p = place c.in_ok-column.column in
     let at = only_place name (read_last sheet) p c.in_ok-column.ensures.column in
-    subst (λ (l : List (List ℕ)). AddsTexts c.args.bag.now c.add_records.new.bag (map (token_of c.args.fold) l))
+    subst (λ (l : List (List ℕ)). Takes HasTokens c.args.bag.now c.add_records.new.bag (map (token_of c.args.fold) l))
     (all_fields name _ (read_last sheet) (left sheet) p c.in_ok-sheet.ensures.records at) c.in_ok-add_records.ensures.counts
 
 pub returns-clause-named : goal.returns-clause-named

@@ -1,7 +1,7 @@
 use Rattle.std.proofs.Common.{ℕ, List, sym, ◌∙◌, ap, subst}
 use Rattle.std.proofs.lemmas.Bool.{false≢true}
 use Rattle.std.proofs.lemmas.Str.{is_utf8-from_IsUtf8}
-use Rattle.hashbag_words_lib.specs.Counts.{AddsTexts}
+use Rattle.hashbag_words_lib.specs.Counts.{Takes}
 use Rattle.hashbag_words_lib.specs.Tokens.{tokens_of_line}
 use Rattle.hashbag_words_lib.proofs.ReadLemmas.{not_utf8, text_is_good, text_is_plain, tokens_of_text}
 use Rattle.hashbag_words_lib.proofs.counting.add_bytes.Goals as goal
@@ -10,7 +10,7 @@ pub returns-in_ok-add_line-in-Ok-clause-counts : goal.returns-in_ok-add_line-in-
 returns-in_ok-add_line-in-Ok-clause-counts g c =
     let line = c.args.line.now in
     let text = c.in-Ok.ensures.cases in
-    subst (λ (l : List (List ℕ)). AddsTexts c.args.bag.now c.add_line.new.bag l)
+    subst (λ (l : List (List ℕ)). Takes g.K.TokenSink.has c.args.sink.now c.add_line.new.sink l)
     (ap (λ (l : List ℕ). tokens_of_line c.args.rule.now l) text.0 ∙ tokens_of_text c.args.rule.now line (is_utf8-from_IsUtf8 line text.1)) c.in_ok-add_line-in-Ok.ensures
 
 pub returns-in_ok-add_line-in-Ok-clause-passed : goal.returns-in_ok-add_line-in-Ok-clause-passed

@@ -3,7 +3,7 @@ use Rattle.regex.specs.Locations.{location_count}
 use Rattle.regex.specs.Patterns.{Match, find_all_str}
 use Rattle.regex.specs.Strings.{captures_left, group_count, regex_pattern}
 use Rattle.regex.specs.Writes.{group_of}
-use Rattle.hashbag_words_lib.specs.Counts.{AddsTexts}
+use Rattle.hashbag_words_lib.specs.Counts.{Takes}
 use Rattle.hashbag_words_lib.specs.Tokens.{nonempty, part_of, token_of}
 use Rattle.hashbag_words_lib.proofs.counting.add_groups.Given as goal
 
@@ -11,7 +11,7 @@ use Rattle.hashbag_words_lib.proofs.counting.add_groups.Given as goal
 abbrev pub invariant-matches : goal.invariant-matches
 invariant-matches g l =
     (seen : List Match) × (seen ++ captures_left l.matches ≡ find_all_str (regex_pattern l.fn.pattern) l.line)
-    × AddsTexts l.fn.bag l.bag (map (token_of l.fn.fold) (nonempty (flat_map (λ m. part_of l.line (group_of m l.group)) seen)))
+    × Takes g.K.TokenSink.has l.fn.sink l.sink (map (token_of l.fn.fold) (nonempty (flat_map (λ m. part_of l.line (group_of m l.group)) seen)))
     × (location_count l.locations ≡ group_count l.fn.pattern)
 
 abbrev pub decreases-matches : goal.decreases-matches

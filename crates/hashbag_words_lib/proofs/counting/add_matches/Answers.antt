@@ -3,15 +3,15 @@ use Rattle.std.proofs.lemmas.Iterator.Consumers.{YieldsList-from_first}
 use Rattle.std.proofs.lemmas.List.{map-append}
 use Rattle.regex.specs.Patterns.{Re, find_all_str, span}
 use Rattle.regex.specs.Strings.{match_bytes, placed_span, placed_spans_left, spans_left, regex_pattern}
-use Rattle.hashbag_words_lib.specs.Counts.{AddsTexts}
+use Rattle.hashbag_words_lib.specs.Counts.{Takes}
 use Rattle.hashbag_words_lib.specs.Tokens.{nonempty, token_of}
-use Rattle.hashbag_words_lib.proofs.CountLemmas.{AddsTexts-nil, AddsTexts-append}
+use Rattle.hashbag_words_lib.proofs.CountLemmas.{Takes-nil, Takes-append}
 use Rattle.hashbag_words_lib.proofs.MatchLemmas.{next_match, all_matched}
 use Rattle.hashbag_core.proofs.CallerLemmas.{items_that_came}
 use Rattle.hashbag_words_lib.proofs.counting.add_matches.Goals as goal
 
 pub loop-found-init : goal.loop-found-init
-loop-found-init g c = AddsTexts-nil c.args.bag.now
+loop-found-init g c = Takes-nil g.K.TokenSink.has c.args.sink.now
 
 pub loop-found-preserved : goal.loop-found-preserved
 loop-found-preserved g c =
@@ -20,10 +20,10 @@ loop-found-preserved g c =
     let piece = match_bytes c.in-Some.found in
     let all : tokens (map match_bytes (c.loop-found.yielded ++ c.in-Some.found ∷ [])) ≡ tokens seen ++ tokens (piece ∷ []) =
     ap tokens (map-append match_bytes c.loop-found.yielded (c.in-Some.found ∷ [])) ∙ next_match c.args.fold seen piece in
-    let one : AddsTexts c.loop-found.bag c.add_match.new.bag (tokens (piece ∷ [])) =
-    subst (λ (t : List ℕ). AddsTexts c.loop-found.bag c.add_match.new.bag (tokens (t ∷ []))) c.as_str.ensures c.in_ok-add_match.ensures in
-    subst (λ (l : List (List ℕ)). AddsTexts c.args.bag.now c.add_match.new.bag l) (sym all)
-    (AddsTexts-append c.args.bag.now c.loop-found.bag c.add_match.new.bag (tokens seen) (tokens (piece ∷ [])) c.loop-found.invariant one)
+    let one : Takes g.K.TokenSink.has c.loop-found.sink c.add_match.new.sink (tokens (piece ∷ [])) =
+    subst (λ (t : List ℕ). Takes g.K.TokenSink.has c.loop-found.sink c.add_match.new.sink (tokens (t ∷ []))) c.as_str.ensures c.in_ok-add_match.ensures in
+    subst (λ (l : List (List ℕ)). Takes g.K.TokenSink.has c.args.sink.now c.add_match.new.sink l) (sym all)
+    (Takes-append g.K.TokenSink.has c.args.sink.now c.loop-found.sink c.add_match.new.sink (tokens seen) (tokens (piece ∷ [])) c.loop-found.invariant one)
 
 pub returns : goal.returns
 returns g c =
@@ -36,4 +36,4 @@ returns g c =
     let came : map placed_span c.loop-found.yielded ≡ map (λ p. (line, p)) places =
     items_that_came c.loop-found.yielded (c.next.new.self, (c.loop-found.found-iterator, rw (← c.into_iter-found-iterator.ensures.into_iter_gives) c.loop-found.yielded_by, c.in-None.ensures.steps))
     (YieldsList-from_first placed_span placed_spans_left {s = it} (map (λ p. (line, p)) places) left) in
-    subst (λ (l : List (List ℕ)). AddsTexts c.args.bag.now c.loop-found.bag (map (token_of c.args.fold) (nonempty l))) (all_matched c.loop-found.yielded line places came) c.loop-found.invariant
+    subst (λ (l : List (List ℕ)). Takes g.K.TokenSink.has c.args.sink.now c.loop-found.sink (map (token_of c.args.fold) (nonempty l))) (all_matched c.loop-found.yielded line places came) c.loop-found.invariant

@@ -1,8 +1,8 @@
 use Rattle.std.proofs.Common.{ℕ, List, ◌∷◌, [], map, ◌∙◌, ap, subst}
 use Rattle.std.proofs.lemmas.Str.{is_utf8-from_IsUtf8}
-use Rattle.hashbag_words_lib.specs.Counts.{AddsTexts}
+use Rattle.hashbag_words_lib.specs.Counts.{Takes}
 use Rattle.hashbag_words_lib.specs.Tokens.{nonempty, token_of}
-use Rattle.hashbag_words_lib.proofs.CountLemmas.{AddsTexts-nil}
+use Rattle.hashbag_words_lib.proofs.CountLemmas.{Takes-nil}
 use Rattle.hashbag_words_lib.proofs.GroupLemmas.{others_are_no_part, text_is_part}
 use Rattle.hashbag_words_lib.proofs.ReadLemmas.{not_utf8}
 use Rattle.hashbag_words_lib.proofs.counting.add_text.Goals as goal
@@ -16,5 +16,5 @@ returns-in-Ok g c =
 
 pub returns-in-Err : goal.returns-in-Err
 returns-in-Err g c =
-    subst (λ (l : List (List ℕ)). AddsTexts c.args.bag.now c.args.bag.now (map (token_of c.args.fold) (nonempty l))) (others_are_no_part c.args.bytes.now (not_utf8 c.args.bytes.now c.in-Err.ensures.cases.0))
-    (AddsTexts-nil c.args.bag.now)
+    subst (λ (l : List (List ℕ)). Takes g.K.TokenSink.has c.args.sink.now c.args.sink.now (map (token_of c.args.fold) (nonempty l))) (others_are_no_part c.args.bytes.now (not_utf8 c.args.bytes.now c.in-Err.ensures.cases.0))
+    (Takes-nil g.K.TokenSink.has c.args.sink.now)

@@ -7,7 +7,7 @@ returns-then-is_empty-clause-counted g c =
     let self = c.args.self.now in
     let did = c.add_bytes.ensures in
     let none = none_in self.partial.items self.partial.ok.0 c.is_empty.ensures c.if-is_empty.true in
-    Counted-line-ok c.add_bytes.result self.rule self.bag c.add_bytes.new.bag self.partial.items c.args.tail.now c.without_return.result.now self.partial.items self.reading c.add_bytes.new.reading c.requires
+    Counted-line-ok g.K.TokenSink.has c.add_bytes.result self.rule self.sink c.add_bytes.new.sink self.partial.items c.args.tail.now c.without_return.result.now self.partial.items self.reading c.add_bytes.new.reading c.requires
     (line_alone self.partial.items c.args.tail.now c.without_return.result.now none c.without_return.ensures) none did.counts
     (read_ok c.add_bytes.result self.rule self.reading c.add_bytes.new.reading c.without_return.result.now did.passed did.kept did.skipped did.plain did.replaced did.bad_lines did.line)
 
@@ -17,7 +17,7 @@ returns-then-is_empty-clause-bad g c =
     let did = c.add_bytes.ensures in
     let line = line_alone self.partial.items c.args.tail.now c.without_return.result.now (none_in self.partial.items self.partial.ok.0 c.is_empty.ensures c.if-is_empty.true) c.without_return.ensures in
     told c.add_bytes.result
-    (λ bad before runs text h more. Counted-bad self.rule before runs self.bag self.partial.items c.args.tail.now c.without_return.result.now self.reading c.add_bytes.new.reading text more c.requires
+    (λ bad before text h more. Counted-bad g.K.TokenSink.has self.rule before self.sink self.partial.items c.args.tail.now c.without_return.result.now self.reading c.add_bytes.new.reading text more c.requires
     line bad did.bad_lines did.line h)
     did.bad
 
@@ -26,7 +26,7 @@ pub returns-clause-counted : goal.returns-clause-counted
 returns-clause-counted g c =
     let self = c.args.self.now in
     let did = c.add_bytes-done.ensures in
-    Counted-line-ok c.add_bytes-done.result self.rule self.bag c.add_bytes-done.new.bag self.partial.items c.args.tail.now c.without_return-2.result.now c.clear.new.self.items self.reading c.add_bytes-done.new.reading c.requires
+    Counted-line-ok g.K.TokenSink.has c.add_bytes-done.result self.rule self.sink c.add_bytes-done.new.sink self.partial.items c.args.tail.now c.without_return-2.result.now c.clear.new.self.items self.reading c.add_bytes-done.new.reading c.requires
     (line_joined self.partial.items c.args.tail.now c.without_return-2.result.now c.deref.ensures.value c.in-Ok.ensures.items c.without_return-2.ensures) c.clear.ensures.items did.counts
     (read_ok c.add_bytes-done.result self.rule self.reading c.add_bytes-done.new.reading c.without_return-2.result.now did.passed did.kept did.skipped did.plain did.replaced did.bad_lines did.line)
 
@@ -36,6 +36,6 @@ returns-clause-bad g c =
     let did = c.add_bytes-done.ensures in
     let line = line_joined self.partial.items c.args.tail.now c.without_return-2.result.now c.deref.ensures.value c.in-Ok.ensures.items c.without_return-2.ensures in
     told c.add_bytes-done.result
-    (λ bad before runs text h more. Counted-bad self.rule before runs self.bag self.partial.items c.args.tail.now c.without_return-2.result.now self.reading c.add_bytes-done.new.reading text more c.requires
+    (λ bad before text h more. Counted-bad g.K.TokenSink.has self.rule before self.sink self.partial.items c.args.tail.now c.without_return-2.result.now self.reading c.add_bytes-done.new.reading text more c.requires
     line bad did.bad_lines did.line h)
     did.bad

@@ -1,47 +1,17 @@
-use Rattle.std.proofs.Common.{List, ℕ, [], ◌++◌, arith, refl, sym, ◌∙◌, subst}
-use Rattle.hashbag_words_lib.specs.Counted.{Counted, HasCounted, IsFirstBad}
-use Rattle.hashbag_words_lib.proofs.CountedLemmas.{told_same, Counted-rest, none_found}
-use Rattle.hashbag_words_lib.proofs.FedLemmas.{ends_at, feeds_all, feeds_at, feeds_bad, feeds_below, feeds_full, feeds_more, feeds_none, feeds_within}
+use Rattle.std.proofs.lemmas.Result.{on_ok_weaker}
+use Rattle.hashbag_words_lib.proofs.CountedLemmas.{Counted-kept, told, told_same}
 use Rattle.hashbag_words_lib.proofs.counter.TextCounter.feed.Goals as goal
 
-pub lines-init : goal.lines-init
-lines-init g c = (feeds_none HasCounted c.args.self.now c.args.block.now, refl, refl)
-
-pub lines-preserved : goal.lines-preserved
-lines-preserved g c = (
-  feeds_more c.lines.invariant.0 (ends_at c.lines.rest.now c.in-Some.is c.memchr.ensures) (record c.end_line.new.self { gauge = c.is_full_after_line.new.gauge }) c.in_ok-end_line.ensures.counted,
-  c.in_ok-end_line.ensures.rule ∙ c.lines.invariant.1,
-  c.in_ok-end_line.ensures.bad_lines ∙ c.lines.invariant.2,
-)
-
+-- the lines were added, and what the sink has stays
 pub returns-clause-counted : goal.returns-clause-counted
 returns-clause-counted g c =
-    let self = c.lines.self in
-    let rest = c.lines.rest.now in
-    feeds_all c.lines.invariant.0 (λ before runs t. Counted self.rule before runs self.bag c.extend_from_slice.new.self.items self.reading t)
-    (λ before runs text h. subst (λ (l : List ℕ). Counted self.rule before runs self.bag l self.reading (text ++ rest)) (sym c.in-Ok.ensures.items)
-    (Counted-rest self.rule before runs self.bag self.partial.items rest self.reading text (none_found c.memchr.result rest c.in_default.is c.memchr.ensures) h))
+    let to = c.add_lines.new.self in
+    on_ok_weaker c.flush.result
+    (λ keeps before text h. Counted-kept g.K.TokenSink.has to.rule before to.sink c.flush.new.self to.partial.items to.reading _ keeps (c.in_ok-add_lines.ensures.counted before text h))
+    c.flush.ensures.same
 
-pub end_line-requires : goal.end_line-requires
-end_line-requires g c = let found = ends_at c.lines.rest.now c.in-Some.is c.memchr.ensures in found.none
+pub returns-clause-bad : goal.returns-clause-bad
+returns-clause-bad g c = told c.flush.result (λ none. absurd none) c.flush.ensures.line
 
-pub returns-in_err-end_line-clause-bad : goal.returns-in_err-end_line-clause-bad
-returns-in_err-end_line-clause-bad g c =
-    told_same c.from_residual.result c.in_err-end_line.field-0.0 c.from_residual.ensures.1
-    (λ bad is. feeds_bad c.lines.invariant.0 (ends_at c.lines.rest.now c.in-Some.is c.memchr.ensures) (λ r t. IsFirstBad r t c.end_line.new.self.reading) c.lines.invariant.1 (c.in_err-end_line.ensures.bad bad is))
-
-pub overflow_add-rest : goal.overflow_add-rest
-overflow_add-rest g c = omega (arith, feeds_at c.lines.invariant.0 (ends_at c.lines.rest.now c.in-Some.is c.memchr.ensures) [])
-
-pub overflow_add-at : goal.overflow_add-at
-overflow_add-at g c = omega (arith, feeds_at c.lines.invariant.0 (ends_at c.lines.rest.now c.in-Some.is c.memchr.ensures) [])
-
--- the counter is full
-pub overflow_sub-result : goal.overflow_sub-result
-overflow_sub-result g c = feeds_below c.lines.invariant.0 (ends_at c.lines.rest.now c.in-Some.is c.memchr.ensures) []
-
-pub returns-then-is_full_after_line-clause-within : goal.returns-then-is_full_after_line-clause-within
-returns-then-is_full_after_line-clause-within g c = feeds_within c.lines.invariant.0 (ends_at c.lines.rest.now c.in-Some.is c.memchr.ensures) []
-
-pub returns-then-is_full_after_line-clause-counted : goal.returns-then-is_full_after_line-clause-counted
-returns-then-is_full_after_line-clause-counted g c = feeds_full c.lines.invariant.0 (ends_at c.lines.rest.now c.in-Some.is c.memchr.ensures) c.end_line.new.self c.in_ok-end_line.ensures.counted
+pub returns-in_err-add_lines-clause-bad : goal.returns-in_err-add_lines-clause-bad
+returns-in_err-add_lines-clause-bad g c = told_same c.from_residual.result c.in_err-add_lines.field-0.0 c.from_residual.ensures.1 c.in_err-add_lines.ensures.bad

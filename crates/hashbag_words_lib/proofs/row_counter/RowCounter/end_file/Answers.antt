@@ -4,7 +4,10 @@ use Rattle.hashbag_words_lib.proofs.row_counter.RowCounter.end_file.Goals as goa
 
 -- the next file begins
 pub returns-clause-added : goal.returns-clause-added
-returns-clause-added g c before runs text h =
+returns-clause-added g c shown before text h =
     let self = c.end_last.new.self in
-    let did = c.in_ok-end_last.ensures.added before runs text h in
-    (did.0, did.1, Added-nothing self.form (before ++ did.0) runs self.bag self.partial.items c.new-self.result did.2 c.in_ok-end_last.ensures.ended c.new-self.ensures.unread.0)
+    let did = c.in_ok-end_last.ensures.added shown before text h in (
+      did.0,
+      did.1,
+      Added-nothing g.K.RowSink.has self.form shown (before ++ did.0) self.sink self.partial.items c.new-self.result did.2 c.in_ok-end_last.ensures.ended c.new-self.ensures.unread.0,
+    )
