@@ -1,8 +1,7 @@
 #!/usr/bin/env bash
 # bash tests/programs/dates.sh [PROGRAM]: the dates and notes of movements in the databases of the program `hashbag_ledger`: what is kept, shown, undone,
-# sealed and rejected, the balance of a day, and databases of the second version, which keep neither. The values were found by hand; Python's own
-# module of SQLite reads the databases too, and changes them. The program is proved and compiled first, unless it is named. The last line is
-# 'dates: ok' or says what is wrong.
+# sealed and rejected, and the balance of a day. The values were found by hand; Python's own module of SQLite reads the databases too, and changes
+# them. The program is proved and compiled first, unless it is named. The last line is 'dates: ok' or says what is wrong.
 . "$(dirname "$0")/lib.sh"
 . "$(dirname "$0")/databases.sh"
 begin hashbag_ledger "$@"
@@ -99,33 +98,5 @@ done
 printf 'article,change\nbolt,9223372036854775807\nbolt,-9223372036854775807\nbolt,9223372036854775807\n' > moved.csv
 ends 0 '' enter --quiet --db moved.db moved.csv
 ends 5 "$p: moved.db: more than 18446744073709551615 moved up to that day" balance --db moved.db --at 9999-12-31
-
-# A stock of the second version, whose movements have no dates and no notes, goes on as it was
-printf 'article,change\nbolt,5\nnut,2\n' > a.csv
-printf 'article,change\nbolt,-3\nbolt,-9\nwasher,4\n' > b.csv
-ends 1 'b.csv:3: refused: out 9 of "bolt", 2 there' enter --quiet --db v.db a.csv b.csv
-cp v.db second.db
-as_second second.db
-ends 0 '' verify --db second.db
-has ../out '2 batches, 5 movements, 1 of them refused: the balance and the refusals agree\n' "a stock of the second version agrees"
-ends 0 '' enter --quiet --db second.db more.csv
-ends 0 '' undo --quiet --db second.db 2
-ends 2 "$p: second.db: keeps no dates and no notes; \`close --into NEW\` begins a stock that does" enter --quiet --db second.db --date on dated.csv
-ends 2 "$p: second.db: keeps no dates and no notes; \`close --into NEW\` begins a stock that does" enter --quiet --db second.db --note on dated.csv
-ends 0 '' verify --db second.db
-ends 0 '' balance --quiet --db second.db --at 1999-12-31 bolt
-has ../out 'article,number\nbolt,0\n' "the balance of a day before a stock of the second version"
-ends 0 '' balance --quiet --db second.db --at 9999-12-31 bolt
-has ../out 'article,number\nbolt,6\n' "the balance of a day after a stock of the second version"
-ends 0 '' history --db second.db bolt
-ends 0 '' show --db second.db 1
-has ../out 'line,date,article,change,outcome,number,note\n2,,bolt,5,entered,5,\n3,,nut,2,entered,2,\n' "a batch of the second version"
-ends 0 '' close --db second.db --into third.db
-ends 0 '' enter --quiet --db third.db --date on dated.csv
-ends 0 '' verify --db third.db
-cp v.db w.db
-as_second w.db
-sql w.db "update meta set value = 3 where name = 'hashbag_ledger'"
-ends 2 "$p: w.db: another version in the table meta than its tables have" balance --db w.db
 
 echo "dates: ok"

@@ -2,10 +2,11 @@
 # bash tests/programs/refused_programs.sh NAME..: refuses requests for memory of programs that were built, one in each run: the first one, then the
 # second, and so on, until a run makes fewer. Each program runs on the arguments, the input and the files beside its source, hashbag_words on
 # each of its other jobs, and hashbag_ledger also on a database.
-# Then it lets writes fail of the jobs that use temporary files, in the same way: such a run ends with status 4, and leaves all files as they were.
+# Then it lets writes fail of the jobs that write as they read, in the same way: such a run ends with status 4, and leaves all files as they were.
 # It lets changes of a database's files fail too: such a run ends with status 4, and the stock is the one before or after.
-# It watches how an output and temporary files are made: what is written is synced before it gets its name, and temporary files are their
-# owner's alone. Of two files whose numbers are the same but for those of their devices, neither is taken for the other.
+# It watches how an output is made. What is written is synced before it gets its name, and the folder after that. The file of an
+# output that is there is its owner's alone until it has that output's mode, and one that is new has the mode of any new file. Of two files
+# whose numbers are the same but for those of their devices, neither is taken for the other.
 #
 # A run in which a request was refused ends with status 3 and writes nothing but on standard error; or the program does without what was
 # refused, as std's sort does, and then ends as it does with all memory. If a subcommand of hashbag_ledger ends with 3, the stock is the one
@@ -96,9 +97,16 @@ int open(const char *path, int flags, ...) {
 }
 int fsync(int fd) {
   static int (*next)(int);
+  struct stat found;
   if (!next) next = (int (*)(int))dlsym(RTLD_NEXT, "fsync");
-  if (is_watched()) dprintf(8, "sync\n");
+  if (is_watched()) dprintf(8, fstat(fd, &found) == 0 && S_ISDIR(found.st_mode) ? "sync the folder\n" : "sync\n");
   return next(fd);
+}
+int fchmod(int fd, mode_t mode) {
+  static int (*next)(int, mode_t);
+  if (!next) next = (int (*)(int, mode_t))dlsym(RTLD_NEXT, "fchmod");
+  if (is_watched()) dprintf(8, "mode %o\n", mode & 07777);
+  return next(fd, mode);
 }
 int rename(const char *from, const char *to) {
   static int (*next)(const char *, const char *);
@@ -212,39 +220,39 @@ on_its_files() {
 # watch WORD..: a run on these words, in its folder of files. What it does with files is in $scratch/calls
 watch() {
   words=("$@")
-  rm -rf "$scratch/at" && cp -r "$scratch/files" "$scratch/at"
+  rm -rf "$scratch/at" && cp -rp "$scratch/files" "$scratch/at"
   (cd "$scratch/at" && WATCHED=1 REFUSED=0 LD_PRELOAD="$scratch/refuse.so" "$program" "${words[@]}" < "$input" > "$scratch/out" 2> "$scratch/err" 8> "$scratch/watched" 9> "$scratch/refused")
   status=$?
   uniq "$scratch/watched" > "$scratch/calls"
 }
 
-# keeps_an_output: the run beside the program's source with an output. A temporary file is written, synced, and only then gets the name
-keeps_an_output() {
-  local status
-  watch "${words[@]}" -o out
-  if [ "$status" = "${1:-0}" ] && printf 'create 666 .hashbag-0.tmp\nwrite\nsync\nrename .hashbag-0.tmp out\n' | cmp -s - "$scratch/calls"; then
-    echo "watched files: $name: an output is synced before it gets its name"
-    return
-  fi
+# makes_an_output STATUS CALLS WORD..: a run on these words with the output `out` ends with this status, and does this with files
+makes_an_output() {
+  local status wanted=$1 calls=$2
+  shift 2
+  watch "$@" -o out
+  [ "$status" != "$wanted" ] || ! printf %b "$calls" | cmp -s - "$scratch/calls" || return 0
   cat "$scratch/err" "$scratch/calls"
-  echo "watched files: $name ${words[*]}: status $status, and not created, written, synced and renamed"
+  echo "watched files: $name ${words[*]}: status $status, and not these calls:"
+  printf %b "$calls"
   return 1
 }
 
-# owns_temporary_files: each temporary file of hashbag_words is created for its owner alone, and its name is removed at once
-owns_temporary_files() {
-  local status n
-  printf 'b a\nc\nb\n' > "$scratch/files/text"
-  watch --memory 1 text
-  n=$(grep -c '^create 600 .*/hashbag\.[0-9]*\.[0-9]*$' "$scratch/calls")
-  if [ "$status" = 0 ] && [ "$n" -gt 1 ] && [ "$n" = "$(grep -c '^create' "$scratch/calls")" ] &&
-    [ "$n" = "$(grep -A 1 '^create' "$scratch/calls" | grep -c '^remove .*/hashbag\.')" ]; then
-    echo "watched files: $name: $n temporary files, each its owner's alone and without a name"
-    return
-  fi
-  cat "$scratch/err" "$scratch/calls"
-  echo "watched files: $name: status $status, and temporary files that others may open, or that keep a name"
-  return 1
+# keeps_an_output STATUS: the run beside the program's source with an output. A temporary file is created, written, synced, and only then gets the name.
+# If the output is there, the temporary file is created for its owner alone, with no more than the output's mode
+keeps_an_output() {
+  local given=("${words[@]}") modes=('600 600' '600 644') at mode
+  makes_an_output "$1" 'create 666 .hashbag-0.tmp\nwrite\nsync\nrename .hashbag-0.tmp out\nsync the folder\n' "${given[@]}" || return 1
+  at=$(cd "$scratch/at" && pwd -P)
+  # Only root can copy a file that may not be read.
+  [ "$(id -u)" != 0 ] || modes+=('200 200')
+  for mode in "${modes[@]}"; do
+    printf 'old\n' > "$scratch/files/out" && chmod "${mode#* }" "$scratch/files/out" || return 1
+    makes_an_output "$1" "create ${mode% *} $at/.hashbag-0.tmp\nmode ${mode#* }\nwrite\nsync\nrename $at/.hashbag-0.tmp $at/out\nsync the folder\n" \
+      "${given[@]}" || return 1
+  done
+  rm -f "$scratch/files/out"
+  echo "watched files: $name: an output is synced before it gets its name, and is its owner's alone until it has the mode of what it replaces"
 }
 
 # tells_devices: of files with one number on two devices hashbag_match takes the one for no other; on one device it does
@@ -291,25 +299,23 @@ on_counts() {
   printf 'cat\t2\ndog\t1\n' > "$scratch/files/a"
   printf 'cat\t1\na\\tb\t3\n' > "$scratch/files/b"
   printf '      2 cat\n' > "$scratch/files/uniq"
-  printf '[["cat",2],["dog",1]]' > "$scratch/files/tree"
   printf 'a\nb\n' > "$scratch/files/list"
   prints 'a\\tb\t3\ncat\t3\ndog\t1\n' merge a b && prints 'cat\t1\ndog\t1\n' less a b && prints 'cat\t1\n' common a b &&
-    prints 'cat\t2\n' merge --from uniq uniq && prints '[["cat",2],["dog",1]]\n' merge --from json --to json tree &&
-    prints '' merge --files-from list -o out && on_more_than_fits
+    prints 'cat\t2\n' merge --from uniq uniq && prints '[["cat",2],["dog",1]]\n' merge --to json a &&
+    prints '' merge --files-from list -o out && on_streams
 }
 
-# on_more_than_fits: counts in temporary files, and files whose rows are in ascending order
-on_more_than_fits() {
+# on_streams: tokens that are written as lines, and sums of rows in order, as they come
+on_streams() {
   rm -rf "$scratch/files" && mkdir "$scratch/files"
-  printf 'b a\nc\nb\n' > "$scratch/files/text"
-  printf 'a\\tb\t3\ncat\t1\n' > "$scratch/files/a"
-  printf 'cat\t2\ndog\t1\n' > "$scratch/files/b"
+  printf 'b a\nc\nb' > "$scratch/files/text"
+  printf 'a\\tb\t3\na\\tb\t2\ncat\t1\n' > "$scratch/files/sorted"
   printf 'b\nd\n' > "$scratch/files/stop"
   prints 'a\t1\n' --field 2 text && prints 'a\t1\nc\t1\n' --except stop text &&
-    prints 'a\t1\nb\t2\nc\t1\n' --memory 1 text && prints '[["b",2]]\n' --memory 1 --top 1 --to json text &&
-    prints 'a\t1\t25.00\nb\t2\t50.00\nc\t1\t25.00\n' --share text && prints 'b\t2\t50.00\n' --memory 1 --share --top 1 text &&
-    prints 'a\\tb\t3\ncat\t3\ndog\t1\n' merge --sorted a b && prints '' merge --sorted a b -o out &&
-    printf 'old\n' > "$scratch/files/out" && fail_writes --memory 1 text && fail_writes --memory 1 --top 1 text && fail_writes merge --sorted a b &&
+    prints 'a\t1\t25.00\nb\t2\t50.00\nc\t1\t25.00\n' --share text &&
+    prints 'b\na\nc\nb\n' tokens text && prints '' tokens --by lines --fold text -o out &&
+    prints '' merge --sorted sorted -o out &&
+    printf 'old\n' > "$scratch/files/out" && fail_writes tokens text && fail_writes merge --sorted sorted &&
     on_long_lines
 }
 
@@ -443,7 +449,6 @@ for name in "$@"; do
   [ -x "$program" ] || { echo "refused memory: $name isn't built"; exit 1; }
   on_its_files || exit 1
   [ "$name" != hashbag_words ] || { on_counts && counts_without_memory; } || exit 1
-  [ "$name" != hashbag_words ] || owns_temporary_files || exit 1
   [ "$name" != hashbag_match ] || tells_devices || exit 1
   [ "$name" != hashbag_ledger ] || on_a_stock || exit 1
 done

@@ -232,16 +232,20 @@ ends 2 "$p: no number: \`-1\`$typed" take --db typed.db bolt -- -1
 ends 2 "$p: no number: \`-1\`$typed" put --db typed.db bolt -- -1
 ends 2 "$p: whole numbers only: \`1.5\`" put --db typed.db bolt 1.5
 is typed.db 'select batch, file, kind, movements, refused from batch order by batch' '1|-|moves|1|0\n2|-|moves|1|0\n3|-|moves|1|1\n4|-|moves|1|0\n5|-|moves|1|0' "the batches of movements that were typed"
-# A misspelt article is new, or isn't there: a near one is named. One of which none is left isn't new
+# A misspelt article is new, or isn't there: a near one is named. One of which none is left is new again
 cp typed.db near.db
 ends 0 "$(printf -- '-: batch 6, 1 movement\n%s: near.db: "blot" is new; is it "bolt"?' "$p")" put --db near.db blot 1
 ends 0 '-: batch 7, 1 movement' take --db near.db blot 1
-ends 0 '-: batch 8, 1 movement' put --db near.db blot 1
+ends 0 "$(printf -- '-: batch 8, 1 movement\n%s: near.db: "blot" is new; is it "bolt"?' "$p")" put --db near.db blot 1
 ends 0 '' put --quiet --db near.db bolts 1
 ends 0 "$(printf -- '-: batch 10, 1 movement\n%s: near.db: "x" is new' "$p")" put --db near.db x 1
 ends 1 "$(printf -- '-:2: refused: out 1 of "bolq", 0 there; is it "bolt"?\n-: batch 11, 1 movement, 1 refused')" take --db near.db bolq 1
 ends 1 "$(printf -- '-:2: refused: out 9 of "bolt", 1 there\n-: batch 12, 1 movement, 1 refused')" take --db near.db bolt 9
 ends 1 '-:2: refused: out 1 of "washer", 0 there' take --quiet --db near.db washer 1
+# so is one that was refused once, and in a file each new one whose name is near; a refusal of a file names a near one too
+ends 0 "$(printf -- '-: batch 14, 1 movement\n%s: near.db: "bolq" is new; is it "bolt"?' "$p")" put --db near.db bolq 1
+printf 'article,change\nscrew,3\nbotl,5\nbotl,2\nboltt,-1\nnut,1\n' > spelt.csv
+ends 1 "$(printf 'spelt.csv:5: refused: out 1 of "boltt", 0 there; is it "bolt"?\nspelt.csv: batch 15, 5 movements, 1 refused\n%s: near.db: "botl" is new; is it "bolt"?' "$p")" enter --db near.db spelt.csv
 ends 0 '' verify --db near.db
 # of several near ones the nearest is named, and not the first
 printf 'article,change\nKabel 00,1\nKabel 08,1\nKabel 80,1\n' > cables.csv && ends 0 'cables.csv: batch 1, 3 movements' enter --db cables.db cables.csv
@@ -395,6 +399,9 @@ has ../out '[{"article":"salt","number":"4.5"}]\n' "the balance after movements 
 ends 0 '' undo --quiet --db kept.db 3
 ends 0 '' verify --db kept.db
 ends 0 '' close --db kept.db --into kept3.db
+ends 0 '' put --quiet --db kept3.db salt 0,5
+ends 0 '' balance --db kept3.db --to json
+has ../out '[{"article":"salt","number":"4.5"}]\n' "a number of JSON has a point, whatever the mark"
 is kept3.db 'select name, value from meta order by name' 'columns|Artikel,Art,Menge\ndelimiter|tab\nhashbag_ledger|3\nmark|,\nscale|1' "a new stock keeps what the old one kept"
 ends 0 '' close --db kept.db --into kept4.db --mark . -d ';' -c a,b
 is kept4.db 'select name, value from meta order by name' 'columns|a,b\ndelimiter|;\nhashbag_ledger|3\nmark|.\nscale|1' "a new stock keeps what close names"
@@ -505,7 +512,13 @@ ends 2 "$p: empty.db: no stock in it yet" balance --db empty.db
 ends 0 '' enter --quiet --db empty.db more.csv
 ends 0 '' verify --db empty.db
 mkdir folder.db
-opened="; the file and its folder must be there, and writable, also to be read"
+opened="; the file and its folder must be there, and writable, also to be read, and the file must have one name (no second hard link)"
+cp v.db linked.db && ln linked.db second.db
+ends 4 "$p: linked.db: unable to open database file$opened" balance --db linked.db
+cp v.db trigger.db
+sql trigger.db 'create trigger t after insert on movement begin select 1; end'
+ends 2 "$p: trigger.db: not supported; perhaps another program made a trigger, which has to be dropped" verify --db trigger.db
+ends 2 "$p: trigger.db: no such table; perhaps another program made a trigger, which has to be dropped" put --db trigger.db bolt 1
 ends 4 "$p: folder.db: unable to open database file$opened" balance --db folder.db
 ends 4 "$p: no/s.db: unable to open database file$opened" enter --quiet --db no/s.db more.csv
 sql other.db 'create table t (a)'
@@ -520,58 +533,26 @@ sum=$(sha256sum < later.db)
 ends 2 "$p: later.db: a stock of version 4, which is later than 3" enter --quiet --db later.db more.csv
 same later.db "$sum" "a stock of a later version is written"
 
-# A stock of the second version keeps its scale alone, and goes on as it was
-cp kg.db second.db
-as_second second.db
-ends 0 '' verify --db second.db
-ends 0 '' balance --db second.db
-has ../out 'article,number\nsalt,1.30\n' "the balance of a stock of the second version"
-printf 'article,change\nsalt,0.25\n' > second.csv
-ends 0 '' enter --quiet --db second.db second.csv
-printf 'Artikel;Menge\nsalt;0,5\n' > second2.csv
-ends 0 '' enter --quiet --db second.db -d ';' --mark , -c Artikel,Menge second2.csv
-ends 0 '' balance --db second.db
-has ../out 'article,number\nsalt,2.05\n' "the balance of a stock of the second version after a file with options"
-is second.db 'select name, value from meta order by name' 'hashbag_ledger|2\nscale|2' "a stock of the second version keeps its scale alone"
-ends 0 '' undo --quiet --db second.db --last
-ends 0 '' verify --db second.db
-ends 0 '' close --db second.db --into third.db --mark ,
-is third.db 'select name, value from meta order by name' 'columns|article,change\ndelimiter|,\nhashbag_ledger|3\nmark|,\nscale|2' "what a new stock keeps after one of the second version"
-ends 2 "$p: second.db: tables of version 2 take no count: \`close --into NEW\` makes newer ones" count --db second.db kept6.csv
-sql second.db "update meta set value = 3 where name = 'hashbag_ledger'"
-ends 2 "$p: second.db: another version in the table meta than its tables have" balance --db second.db
-
-# A stock of the first version, whose batches have no seals, goes on as it was
-# as_first DATABASE: gives its tables the form of the first version
-as_first() {
-  as_second "$1"
-  sql "$1" 'create table old (batch INTEGER PRIMARY KEY, file TEXT NOT NULL, sha256 TEXT NOT NULL, kind TEXT NOT NULL, undoes INTEGER, time TEXT NOT NULL, movements INTEGER NOT NULL, refused INTEGER NOT NULL) STRICT'
-  sql "$1" 'insert into old select batch, file, sha256, kind, undoes, time, movements, refused from batch'
-  sql "$1" 'drop table batch'
-  sql "$1" 'alter table old rename to batch'
-  sql "$1" "update meta set value = 1 where name = 'hashbag_ledger'"
-}
-cp v.db first.db
-as_first first.db
-ends 0 '' verify --db first.db
-has ../out '2 batches, 5 movements, 1 of them refused: the balance and the refusals agree; its batches have no seals\n' "a stock of the first version agrees"
-ends 0 '' enter --quiet --db first.db more.csv
-ends 0 '' undo --quiet --db first.db 2
-ends 0 '' verify --db first.db
-is first.db 'select batch, kind, undoes, movements from batch where batch > 2' '3|moves||1\n4|undo|2|2' "batches of a stock of the first version"
-ends 0 '' close --db first.db --into sealed.db
-ends 0 '' verify --db sealed.db
-has ../out '1 batch, 2 movements, 0 of them refused: the balance and the refusals agree\n' "a new stock has seals"
+# A stock of an earlier version isn't read: the message names what reads it
+cp v.db early.db
+for version in 1 2; do
+  sql early.db "update meta set value = $version where name = 'hashbag_ledger'"
+  sum=$(sha256sum < early.db)
+  ends 2 "$p: early.db: a stock of version $version: \`close --into NEW\` of the program of commit 2d845ddb makes one of version 3 of it" enter --quiet --db early.db more.csv
+  same early.db "$sum" "a stock of version $version is written"
+done
+sql early.db "update meta set value = 0 where name = 'hashbag_ledger'"
+ends 2 "$p: early.db: no version from 1 on in the table meta" balance --db early.db
+for change in 'movement rename column date to day' 'batch rename column seal to mark'; do
+  cp v.db other3.db
+  sql other3.db "alter table $change"
+  ends 2 "$p: other3.db: another version in the table meta than its tables have" balance --db other3.db
+done
 cp v.db nocase.db
 sql nocase.db 'drop table article'
 sql nocase.db 'create table article (article text primary key not null collate nocase, number integer not null)'
 sql nocase.db "insert into article values ('axe', 1), ('Bolt', 2)"
 ends 2 "$p: nocase.db: articles that don't rise in the table article" balance --db nocase.db
-cp v.db early.db
-sql early.db "update meta set value = 0 where name = 'hashbag_ledger'"
-ends 2 "$p: early.db: no version from 1 on in the table meta" balance --db early.db
-sql early.db "update meta set value = 1 where name = 'hashbag_ledger'"
-ends 2 "$p: early.db: another version in the table meta than its tables have" balance --db early.db
 for i in $(seq 1000); do echo "no database, line $i"; done > text.db
 head -c 9000 v.db > cut.db
 for name in text cut; do
@@ -655,6 +636,10 @@ has ../out 'article,number\nx,20\nx10,1\ny10,1\n' "the balance after two process
 ends 0 '' verify --db both.db
 has ../out '20 batches, 40 movements, 0 of them refused: the balance and the refusals agree\n' "two processes at a time"
 
+# A stock at the beginning isn't entered into a stock, nor with another file; a call with it alone reads no standard input
+ends 2 "$p: v.db: has a stock already, so it takes no other at the beginning" enter --quiet --db v.db --from stock.csv more.csv
+printf 'no header\n' > ../line && input=../line ends 0 '' enter --quiet --db alone.db --from stock.csv
+
 # A file that may not grow: the state is the one before
 for i in $(seq 3000); do echo "article $i,1"; done > ../rows
 (echo article,change; cat ../rows) > long.csv
@@ -674,6 +659,73 @@ is s.db 'select count(*), sum(number) from article' '3003|3109' "the same file o
 cp a.csv enter
 ends 0 '' ./enter
 has ../out 'article,number\nbolt,5\nnut,2\n' "a file that has the name of a subcommand"
+
+# A shop of two weeks: 20 articles, a dated stock at the beginning, sales and deliveries, a misspelt delivery that is undone, a misspelt sale that
+# is refused, and a count. What is wanted are sums by Python's SQLite over the files themselves, in the table `plain`
+mkdir shop && cd shop || exit 1
+python3 - << 'EOF'
+import csv
+articles = [f"{kind} M{size}" for kind in ("Schraube", "Mutter", "Scheibe", "Dübel", "Nagel") for size in (3, 4, 5, 6)]
+def put(name, header, rows):
+    with open(name, "w", newline="") as file:
+        csv.writer(file, lineterminator="\n").writerows([header, *rows])
+put("start.csv", ["article", "number"], [[name, 60 + at] for at, name in enumerate(articles)])
+for day in range(2, 16):
+    date = f"2026-11-{day:02}"
+    put(f"sold{day}.csv", ["date", "article", "change"], [[date, name, -((at * day) % 5 + 1)] for at, name in enumerate(articles) if (at + day) % 3])
+    put(f"came{day}.csv", ["date", "article", "change"], [[date, name, (at + day) % 9 + 2] for at, name in enumerate(articles) if (at + day) % 4 == 1])
+put("wrong.csv", ["date", "article", "change"], [["2026-11-06", "Schruabe M4", 5], ["2026-11-06", "Nagel M3", 7]])
+put("refused.csv", ["date", "article", "change"], [["2026-11-09", "Mutetr M5", -2]])
+EOF
+ends 0 'start.csv: batch 1, 20 movements' enter --db s.db --from start.csv --from-on 2026-11-01
+for day in $(seq 2 15); do
+  ends 0 '' enter --quiet --db s.db --date date "sold$day.csv" "came$day.csv"
+  if [ "$day" = 6 ]; then
+    "$program" enter --db s.db --date date wrong.csv 2> ../err || fail "a misspelt delivery"
+    [ "$(tail -n 1 ../err)" = "$p: s.db: \"Schruabe M4\" is new; is it \"Schraube M4\"?" ] || { cat ../err; fail "a misspelt delivery is named"; }
+    ends 0 '' undo --quiet --db s.db wrong.csv
+  elif [ "$day" = 9 ]; then
+    ends 1 'refused.csv:2: refused: out 2 of "Mutetr M5", 0 there; is it "Mutter M5"?' enter --quiet --db s.db --date date refused.csv
+  elif [ "$day" = 11 ]; then
+    printf 'article,number\nDübel M4,50\nNagel M6,0\n' > counted.csv
+    ends 0 '' count --quiet --db s.db --on 2026-11-11 counted.csv
+    ends 0 '' put --quiet --db s.db --on 2026-11-11 'Nagel M6' 9
+  fi
+done
+ends 0 '' verify --db s.db
+python3 - << 'EOF' || fail "the tables for the sums"
+import csv, sqlite3
+plain = sqlite3.connect("plain.db")
+plain.execute("create table plain (date text, article text, change integer)")
+def add(name):
+    with open(name, newline="") as file:
+        for row in csv.DictReader(file):
+            plain.execute("insert into plain values (?, ?, ?)", (row.get("date", "2026-11-01"), row["article"], row.get("change") or row["number"]))
+def counted(article, number):
+    plain.execute("insert into plain select '2026-11-11', ?, ? - sum(change) from plain where article = ?", (article, number, article))
+add("start.csv")
+for day in range(2, 16):
+    add(f"sold{day}.csv")
+    add(f"came{day}.csv")
+    if day == 11:
+        counted("Dübel M4", 50)
+        counted("Nagel M6", 0)
+        plain.execute("insert into plain values ('2026-11-11', 'Nagel M6', 9)")
+plain.commit()
+EOF
+ends 0 '' balance --db s.db
+[ "$(tail -n +2 ../out | tr , '|')" = "$(sql plain.db 'select article, sum(change) from plain group by 1 having sum(change) <> 0 order by 1')" ] || { cat ../out; fail "the balance of a shop"; }
+for day in $(seq -w 1 15); do
+  ends 0 '' balance --db s.db --at "2026-11-$day"
+  [ "$(tail -n +2 ../out | tr , '|')" = "$(sql plain.db "select article, sum(change) from plain where date <= '2026-11-$day' group by 1 having sum(change) <> 0 order by 1")" ] ||
+    { cat ../out; fail "the balance of a shop on the day $day"; }
+done
+for article in 'Dübel M4' 'Nagel M6' 'Mutter M5'; do
+  ends 0 '' history --db s.db "$article"
+  [ "$(tail -n +2 ../out | cut -d , -f 5,6,8 | tr , '|')" = "$(sql plain.db "select date, change, sum(change) over (order by rowid) from plain where article = '$article' order by rowid")" ] ||
+    { cat ../out; fail "the history of $article"; }
+done
+cd .. || exit 1
 
 # Arguments
 for words in "enter a.csv" "balance" "history --db s.db" "undo --quiet --db s.db" "undo --quiet --db s.db x" "close --db s.db" "verify --db" "balance --db s.db --wrong" \

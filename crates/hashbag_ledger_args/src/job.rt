@@ -41,6 +41,10 @@ pub struct Job<'a> {
     pub columns: Option<Columns<&'a str>>,
     /// The columns of dates and of notes, each `None` if it isn't named, and `Some(None)` if the arguments say that there is none.
     pub extras: ExtraColumns<Option<&'a str>>,
+    /// The date of the movement that is typed, or of the count, if one is named.
+    pub on: Option<&'a str>,
+    /// The date of the movements of the stock at the beginning, if one is named.
+    pub from_on: Option<&'a str>,
     /// The day of the balance, if one is named.
     pub at: Option<&'a str>,
     /// The scale, if one is named.
@@ -162,6 +166,8 @@ impl<'a> Job<'a> {
             encoding: encoding(given, "encoding"),
             columns,
             extras: extras_of(given),
+            on: given.get_str("on"),
+            from_on: given.get_str("from-on"),
             at: given.get_str("at"),
             scale,
             mark: mark_of(given),

@@ -106,6 +106,20 @@ fn with_output<'a>(alloc: Global, command: CommandResult<'a>) -> CommandResult<'
     options::with_output(alloc, with_form(alloc, command), help)
 }
 
+// Adds an option that takes a date.
+fn with_date<'a>(
+    alloc: Global,
+    command: CommandResult<'a>,
+    name: &'a str,
+    help: &'a str,
+) -> CommandResult<'a> {
+    let date = Arg::new(alloc, name)
+        .long(name)
+        .value_name("DATE")
+        .help(help);
+    with(command, date)
+}
+
 // Adds the columns of articles and of numbers.
 fn with_start_columns<'a>(
     alloc: Global,
@@ -127,7 +141,9 @@ fn with_start<'a>(alloc: Global, command: CommandResult<'a>) -> CommandResult<'a
         .value_name("STOCK.csv")
         .help("The stock at the beginning, for a database that has none");
     let help = "The columns of the stock at the beginning";
-    with_start_columns(alloc, with(command, from), help)
+    let command = with_start_columns(alloc, with(command, from), help);
+    let help = "The date of the stock at the beginning, as 2026-02-28; by default it has none";
+    with_date(alloc, command, "from-on", help)
 }
 
 // Adds the columns of movements.
@@ -230,7 +246,8 @@ fn typed<'a>(alloc: Global, name: &'a str, about: &'a str) -> CommandResult<'a> 
     let help =
         "Doesn't say which batch was entered, nor whether the article is new, and reports no progress";
     let command = with(with(job(alloc, name, about, help), article), number);
-    with_mark(alloc, command)
+    let help = "The date of the movement, as 2026-02-28; by default it has none";
+    with_mark(alloc, with_date(alloc, command, "on", help))
 }
 
 fn count<'a>(alloc: Global) -> CommandResult<'a> {
@@ -247,7 +264,8 @@ fn count<'a>(alloc: Global) -> CommandResult<'a> {
         "Enters and writes the differences between the stock and what was counted",
         "Doesn't say which batch was entered, and reports no progress",
     );
-    let command = with(with(command, counted), all);
+    let help = "The date of the count, as 2026-02-28; by default it has none";
+    let command = with_date(alloc, with(with(command, counted), all), "on", help);
     let command = with_start_columns(
         alloc,
         command,
@@ -268,7 +286,7 @@ fn balance<'a>(alloc: Global) -> CommandResult<'a> {
         .value_name("FORM")
         .value_parser(FORMS.as_slice())
         .default_value("csv")
-        .help("What is written; numbers with decimals are texts in JSON");
+        .help("What is written; numbers with decimals are texts in JSON, always with a point");
     let at = Arg::new(alloc, "at").long("at").value_name("DATE").help(
         "The sum of what was entered with this date or an earlier one; a movement without a date has the day of its entry, in UTC",
     );

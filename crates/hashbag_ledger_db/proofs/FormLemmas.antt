@@ -8,9 +8,8 @@ use Rattle.hashbag_ledger_db.specs.declared.movements.Input.{Input}
 use Rattle.hashbag_ledger_lib.specs.declared.filing.Filed.{Filed}
 use Rattle.hashbag_ledger_lib.specs.declared.reading.Columns.{Columns}
 use Rattle.hashbag_ledger_lib.specs.declared.style.Style.{Style}
-use Rattle.hashbag_stock.specs.declared.tables.Contents.{Contents}
-use Rattle.hashbag_stock.specs.declared.tables.Contents.TheVariants.{Empty, Stock}
-use Rattle.hashbag_stock.specs.declared.tables.Shape.{Shape}
+use Rattle.hashbag_ledger_db.specs.declared.stock.tables.Contents.{Contents}
+use Rattle.hashbag_ledger_db.specs.declared.stock.tables.Contents.TheVariants.{Empty, Stock}
 
 pub filed_as : (job : Job) (s t : Style) (given names : Columns (List ℕ)) (kept : Columns (List ℕ)) (reading : Reading) (inputs : List Input) (balance : List (String Global × ℕ)) (filed : Filed)
     → s ≡ t → given ≡ names_by job names → names ≡ kept → IsReadingOf job s reading → IsFiledOf job reading given inputs balance filed → IsFiledAs job t kept inputs balance filed
@@ -20,19 +19,19 @@ filed_as job s t given names kept reading inputs balance filed same by are is al
   all = subst (λ (n : Columns (List ℕ)). IsFiledOf job reading n inputs balance filed) (by ∙ ap (names_by job) are) all;
 }
 
-pub filed_on_kept : (job : Job) (contents : Contents) (s shape : Shape) (given names kept : Columns (List ℕ)) (reading : Reading) (inputs : List Input) (was balance : List (String Global × ℕ)) (filed : Filed)
-    → contents ≡ Stock s → contents ≡ Stock shape → was ≡ balance → given ≡ names_by job names → names ≡ kept → IsReadingOf job s.style reading → IsFiledOf job reading given inputs was filed
-    → IsFiledAs job shape.style kept inputs balance filed
-filed_on_kept job contents s shape given names kept reading inputs was balance filed was_contents is same by are read all =
-    let styles : s.style ≡ shape.style = cc in
-    filed_as job s.style shape.style given names kept reading inputs balance filed styles by are read
+pub filed_on_kept : (job : Job) (contents : Contents) (s style : Style) (given names kept : Columns (List ℕ)) (reading : Reading) (inputs : List Input) (was balance : List (String Global × ℕ)) (filed : Filed)
+    → contents ≡ Stock s → contents ≡ Stock style → was ≡ balance → given ≡ names_by job names → names ≡ kept → IsReadingOf job s reading → IsFiledOf job reading given inputs was filed
+    → IsFiledAs job style kept inputs balance filed
+filed_on_kept job contents s style given names kept reading inputs was balance filed was_contents is same by are read all =
+    let styles : s ≡ style = cc in
+    filed_as job s style given names kept reading inputs balance filed styles by are read
     (subst (λ (b : List (String Global × ℕ)). IsFiledOf job reading given inputs b filed) same all)
 
 pub filed_by_contents : (job : Job) (contents : Contents) (inputs : List Input) (names : Columns (List ℕ)) (balance : List (String Global × ℕ)) (filed : Filed)
     → (contents ≡ Empty → balance ≡ []) → (contents ≡ Empty → names ≡ plain_names) → (contents ≡ Empty → IsFiledAnew job inputs filed)
-    → ((shape : Shape) → contents ≡ Stock shape → IsFiledAs job shape.style names inputs balance filed)
+    → ((style : Style) → contents ≡ Stock style → IsFiledAs job style names inputs balance filed)
     → IsFiledAs job (style_in contents job) names inputs balance filed
 filed_by_contents job Empty inputs names balance filed none plain anew kept =
     subst (λ (n : Columns (List ℕ)). IsFiledAs job (asked_style job) n inputs balance filed) (sym (plain refl))
     (subst (λ (b : List (String Global × ℕ)). IsFiledAs job (asked_style job) plain_names inputs b filed) (sym (none refl)) (anew refl))
-filed_by_contents job (Stock shape) inputs names balance filed none plain anew kept = kept shape refl
+filed_by_contents job (Stock style) inputs names balance filed none plain anew kept = kept style refl

@@ -1,5 +1,9 @@
+pub mod CommitLemmas
 pub mod CountedLemmas
 pub mod FiledLemmas
 pub mod FormLemmas
 pub mod InputLemmas
+pub mod InsideLemmas
+pub mod RowLemmas
+pub mod StatementLemmas
 pub mod UnkeptLemmas

@@ -13,7 +13,6 @@ use Rattle.hashbag_ledger_lib.specs.declared.filing.Filed.{Filed}
 use Rattle.hashbag_ledger_lib.specs.declared.movements.Change.{Change}
 use Rattle.hashbag_ledger_lib.specs.declared.movements.Movement.{Movement}
 use Rattle.hashbag_ledger_lib.specs.declared.style.Style.{Style}
-use Rattle.hashbag_stock.specs.declared.tables.Shape.{Shape}
 use Rattle.hashbag_text.specs.Encodings.{text_in}
 
 -- what was counted: the records of the text and, with `--all`, a record with 0 for each article of the balance
@@ -39,6 +38,6 @@ pub record IsCountedIn (job : Job) (style : Style) (kept : List (String Global �
   pub decoded : text_in job.encoding bytes ≡ Some text
   pub all : IsCountedAs job style kept text filed
 
--- `counted` is what a count does to a stock of this shape; these bytes are the text of what was counted, in the encoding of the job
-abbrev pub IsCountOf : Job → Shape → List ℕ → Counted → Type 0
-IsCountOf job shape bytes counted = IsCountedIn job shape.style counted.kept.items bytes counted.filed
+-- `counted` is what a count does to a stock of this style; these bytes are the text of what was counted, in the encoding of the job
+abbrev pub IsCountOf : Job → Style → List ℕ → Counted → Type 0
+IsCountOf job style bytes counted = IsCountedIn job style counted.kept.items bytes counted.filed

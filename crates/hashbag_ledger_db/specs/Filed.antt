@@ -21,9 +21,8 @@ use Rattle.hashbag_ledger_lib.specs.declared.movements.Movement.{Movement}
 use Rattle.hashbag_ledger_lib.specs.declared.reading.ChangeColumns.TheVariants.{Signed}
 use Rattle.hashbag_ledger_lib.specs.declared.reading.Columns.{Columns}
 use Rattle.hashbag_ledger_lib.specs.declared.style.Style.{Style}
-use Rattle.hashbag_stock.specs.declared.tables.Contents.{Contents}
-use Rattle.hashbag_stock.specs.declared.tables.Contents.TheVariants.{Empty, Stock}
-use Rattle.hashbag_stock.specs.declared.tables.Shape.{Shape}
+use Rattle.hashbag_ledger_db.specs.declared.stock.tables.Contents.{Contents}
+use Rattle.hashbag_ledger_db.specs.declared.stock.tables.Contents.TheVariants.{Empty, Stock}
 
 -- a movement as a row has it: `Out 0` is `In 0`
 abbrev pub plain_movement : Movement (String Global) → Movement (String Global)
@@ -85,7 +84,7 @@ IsFiledAnew job inputs filed = IsFiledAs job (asked_style job) plain_names input
 -- how the files of a stock are written; numbers of a new stock have as many decimals as the job asks for
 abbrev pub style_in : Contents → Job → Style
 style_in Empty job = asked_style job
-style_in (Stock shape) job = shape.style
+style_in (Stock style) job = style
 
 -- `ready` is what the inputs do to a database with these contents. They are read by the options of the job, and without an option by what the
 -- database keeps. A database without a stock keeps the default columns, delimiter and mark, and the decimals that the job asks for
@@ -112,9 +111,9 @@ IsAnewIfThere job inputs anew = IfSome anew (IsFiledAnew job inputs)
 abbrev pub ReturnsAnew : {E : Type 0} → Job → List Input → Option Filed → Result Filed E → Type 0
 ReturnsAnew job inputs anew result = IsAnewIfThere job inputs anew → IfOk result (IsFiledAnew job inputs)
 
--- if the database has a stock, P holds of its shape
-abbrev pub IfStock : Contents → (Shape → Type 0) → Type 0
-IfStock contents P = (shape : Shape) → contents ≡ Stock shape → P shape
+-- if the database has a stock, P holds of its style
+abbrev pub IfStock : Contents → (Style → Type 0) → Type 0
+IfStock contents P = (style : Style) → contents ≡ Stock style → P style
 
 -- a `Ready` is there, and is what the inputs do to the balance that was read from the database
 abbrev pub IsSomeFiled : Job → Contents → List Input → Option Ready → Type 0

@@ -9,7 +9,7 @@ use Rattle.hashbag_ledger_db.specs.Filed.{IsFiledIn}
 use Rattle.hashbag_ledger_db.specs.declared.entering.Ready.{Ready}
 use Rattle.hashbag_ledger_db.specs.declared.entering.EnterReport.{EnterReport}
 use Rattle.hashbag_ledger_db.specs.declared.movements.Input.{Input}
-use Rattle.hashbag_stock.specs.declared.tables.Contents.{Contents}
+use Rattle.hashbag_ledger_db.specs.declared.stock.tables.Contents.{Contents}
 use Rattle.hashbag_text.specs.Encodings.{text_in}
 use Rattle.hashbag_text.specs.declared.encoding.Encoding.{Encoding}
 

@@ -1,4 +1,7 @@
+pub mod Commits
 pub mod Counted
 pub mod Filed
 pub mod Inputs
+pub mod Rows
+pub mod Statements
 pub mod Unkept

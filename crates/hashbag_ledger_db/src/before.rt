@@ -8,6 +8,9 @@ ghost use Rattle.hashbag_ledger_lib.specs.Movements.{names_now};
 use crate::messages::movements_in;
 use crate::movements::{Input, is_once};
 use crate::putting::in_database;
+use crate::stock::error::StockError;
+use crate::stock::reading::{balance_of, batches_of};
+use crate::stock::tables::{Contents, columns_of, extras_of};
 use crate::troubles::{entered_as, has_stock, of_stock, same_bytes};
 use hashbag_ledger_args::columns::{KeptColumns, KeptExtras, plain_columns};
 use hashbag_ledger_args::job::Job;
@@ -15,9 +18,6 @@ use hashbag_ledger_lib::extras::ExtraColumns;
 use hashbag_ledger_lib::once::{Batch, entered_before, next_number};
 use hashbag_ledger_lib::reading::Columns;
 use hashbag_shell::trouble::Trouble;
-use hashbag_stock::error::StockError;
-use hashbag_stock::reading::{balance_of, batches_of, movements_of_article};
-use hashbag_stock::tables::{Contents, Shape, columns_of, extras_of};
 use sqlite::{Alter, Connection};
 use std::alloc::Global;
 
@@ -30,8 +30,6 @@ pub struct Before {
     columns: KeptColumns,
     // The columns of dates and of notes that the database keeps.
     extras: KeptExtras,
-    // Whether the article of a movement that is typed has no movement yet.
-    is_new_article: bool,
     // The number of the next batch.
     number: i64,
     movements: u64,
@@ -57,11 +55,6 @@ impl Before {
         ensures { extras_now result ≡ kept_extras self.now.extras }
     {
         self.extras.names()
-    }
-
-    /// Returns whether the article of a movement that is typed has no movement yet.
-    pub fn is_new_article(&self) -> bool {
-        self.is_new_article
     }
 
     /// Returns the number of the next batch.
@@ -103,7 +96,7 @@ pub(crate) fn entered_twice<'a>(
     Ok(())
 }
 
-/// Returns the columns of movements that a stock keeps, or the default ones.
+/// Returns the columns of movements that a stock keeps.
 ///
 /// # Errors
 ///
@@ -112,11 +105,8 @@ pub fn kept_columns<'a, D: Alter>(
     alloc: Global,
     db: &'a str,
     conn: &mut Connection<D>,
-    shape: Shape,
 ) -> Result<KeptColumns, Trouble<'a>> {
-    let Some(names) = in_database(alloc, db, columns_of(conn, shape))? else {
-        return Ok(KeptColumns::copy_of(alloc, plain_columns())?);
-    };
+    let names = in_database(alloc, db, columns_of(conn))?;
     match KeptColumns::named(alloc, names.as_str())? {
         Some(columns) => Ok(columns),
         None => {
@@ -138,25 +128,6 @@ pub fn kept_extras<'a, D: Alter>(
 ) -> Result<KeptExtras, Trouble<'a>> {
     let (date, note) = in_database(alloc, db, extras_of(conn))?;
     Ok(KeptExtras { date, note })
-}
-
-// Returns whether the article of a movement that is typed has no movement yet. The movements are read only if `balance`, the balance of the
-// stock, lacks the article.
-fn lacks_movements<'a, D: Alter>(
-    alloc: Global,
-    job: &Job<'a>,
-    conn: &mut Connection<D>,
-    shape: Shape,
-    balance: &[(String, usize)],
-) -> Result<bool, Trouble<'a>> {
-    let Some(article) = job.articles.first().copied() else {
-        return Ok(false);
-    };
-    if balance.iter().any(|entry| entry.0.as_str() == article) {
-        return Ok(false);
-    }
-    let movements = movements_of_article(alloc, conn, shape, article);
-    Ok(in_database(alloc, job.db, movements)?.is_empty())
 }
 
 /// Returns what an open database has, if the inputs may be entered into it.
@@ -181,7 +152,7 @@ pub fn before_in<'a, D: Alter>(
     // The articles of the balance are in ascending order, each once.
     ensures rising { IfOk result (λ before. Rises before.balance.items) }
 {
-    let Contents::Stock(shape) = contents else {
+    let Contents::Stock(_) = contents else {
         return Ok(Before {
             contents,
             balance: Vec::new(alloc),
@@ -190,7 +161,6 @@ pub fn before_in<'a, D: Alter>(
                 date: None,
                 note: None,
             },
-            is_new_article: false,
             number: 1,
             movements: 0,
         });
@@ -199,16 +169,15 @@ pub fn before_in<'a, D: Alter>(
     if job.from.is_some() {
         return Err(has_stock(alloc, db));
     }
-    let batches = in_database(alloc, db, batches_of(alloc, conn, shape))?;
+    let batches = in_database(alloc, db, batches_of(alloc, conn))?;
     if !job.enters_again {
         entered_twice(alloc, inputs, &batches)?;
     }
     let balance = in_database(alloc, db, balance_of(alloc, conn))?;
     Ok(Before {
         contents,
-        is_new_article: lacks_movements(alloc, job, conn, shape, &balance)?,
         balance,
-        columns: kept_columns(alloc, db, conn, shape)?,
+        columns: kept_columns(alloc, db, conn)?,
         extras: kept_extras(alloc, db, conn)?,
         number: next_number(&batches),
         movements: movements_in(&batches),

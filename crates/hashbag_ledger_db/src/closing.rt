@@ -4,12 +4,13 @@ use crate::entering::{Ready, filed_of, new_stock_of, write};
 use crate::movements::{Input, input_of};
 use crate::putting::in_database;
 use crate::stages::Stages;
+use crate::stock::reading::balance_of;
+use crate::stock::tables::Contents;
 use hashbag_ledger_args::columns::{KeptColumns, KeptExtras, columns_text};
 use hashbag_ledger_args::job::Job;
 use hashbag_ledger_lib::output::balance_text;
+use hashbag_ledger_lib::style::Style;
 use hashbag_shell::trouble::Trouble;
-use hashbag_stock::reading::balance_of;
-use hashbag_stock::tables::{Contents, Shape};
 use sqlite::{Alter, Connection};
 use std::alloc::Global;
 use std::hash::BuildHasher;
@@ -17,8 +18,8 @@ use std::hash::BuildHasher;
 /// What a closed stock leaves to the new stock.
 #[derive(Drop)]
 pub struct Closed {
-    /// The shape of the closed stock.
-    pub shape: Shape,
+    /// The style of the closed stock.
+    pub style: Style,
     /// The columns of movements that it keeps.
     pub columns: KeptColumns,
     /// The columns of dates and of notes that it keeps.
@@ -35,13 +36,13 @@ pub struct Closed {
 pub fn closed_in<'a, D: Alter>(
     alloc: Global,
     job: &Job<'a>,
-    shape: Shape,
+    style: Style,
     conn: &mut Connection<D>,
 ) -> Result<Closed, Trouble<'a>> {
     let db = job.db;
     Ok(Closed {
-        shape,
-        columns: kept_columns(alloc, db, conn, shape)?,
+        style,
+        columns: kept_columns(alloc, db, conn)?,
         extras: kept_extras(alloc, db, conn)?,
         balance: in_database(alloc, db, balance_of(alloc, conn))?,
     })
@@ -57,7 +58,7 @@ pub fn beginning_of<'a>(
     job: &Job<'a>,
     closed: &Closed,
 ) -> Result<Input<'a>, Trouble<'a>> {
-    let reading = job.reading(closed.shape.style);
+    let reading = job.reading(closed.style);
     let text = balance_text(alloc, ("article", "number"), reading, &closed.balance)?;
     input_of(alloc, job.db, text, None, true)
 }
@@ -77,21 +78,21 @@ pub fn begin_in<'a, D: Alter, S: BuildHasher + Drop, G: Stages>(
     stages: &G,
 ) -> Result<(), Trouble<'a>> {
     let (contents, db) = (Contents::Empty, job.into);
-    let reading = job.reading(closed.shape.style);
+    let reading = job.reading(closed.style);
     let columns = job.columns_or(closed.columns.names());
     let ready = Ready {
         before: before_in(alloc, job, inputs, conn, contents)?,
         filed: filed_of(alloc, state, job, inputs, columns, reading, &[], stages)?,
     };
-    let shape = Shape::of_new(job.style(closed.shape.style));
+    let style = job.style(closed.style);
     let text = columns_text(alloc, columns)?;
     let extras = job.extras_or(closed.extras.names());
-    let new_stock = new_stock_of(contents, shape, text.as_str(), extras);
+    let new_stock = new_stock_of(contents, style, text.as_str(), extras);
     write(
         alloc,
         conn,
         db,
-        shape,
+        style,
         new_stock,
         inputs,
         &[],

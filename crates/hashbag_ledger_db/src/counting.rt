@@ -5,10 +5,12 @@ ghost use Rattle.hashbag_ledger_lib.specs.Changes.{Rises};
 
 use crate::before::entered_twice;
 use crate::messages::{entered_text, misspelt_text, movements_in};
-use crate::movements::{Input, input_of, read};
+use crate::movements::{Input, extras_on, input_of, read};
 use crate::putting::{in_database, put};
 use crate::stages::{Stage, Stages};
-use crate::troubles::{no_counts, start_too_many, too_large};
+use crate::stock::reading::{balance_of, batches_of, time_of};
+use crate::stock::statements::NewRows;
+use crate::troubles::{start_too_many, too_large};
 use hashbag_csv::counts::Reading;
 use hashbag_csv::fault::in_file;
 use hashbag_ledger_args::columns::plain_columns;
@@ -16,15 +18,14 @@ use hashbag_ledger_args::job::Job;
 use hashbag_ledger_lib::balance_forms::rows_of;
 use hashbag_ledger_lib::counting::{count_stock, name_all};
 use hashbag_ledger_lib::entering::LedgerError;
+use hashbag_ledger_lib::extras::Extra;
 use hashbag_ledger_lib::filing::Filed;
 use hashbag_ledger_lib::listing::differences_text;
 use hashbag_ledger_lib::movements::Movement;
 use hashbag_ledger_lib::once::{Batch, Kind, next_number};
 use hashbag_ledger_lib::sealing::{Draft, sealed_rows};
+use hashbag_ledger_lib::style::Style;
 use hashbag_shell::trouble::Trouble;
-use hashbag_stock::reading::{balance_of, batches_of, time_of};
-use hashbag_stock::tables::Shape;
-use hashbag_stock::writing::NewRows;
 use sqlite::{Alter, Connection};
 use std::alloc::Global;
 use std::hash::BuildHasher;
@@ -68,14 +69,14 @@ fn counted_of<'a, S: BuildHasher + Copy + Drop, G: Stages>(
     state: S,
     job: &Job<'a>,
     input: &Input<'a>,
-    shape: Shape,
+    style: Style,
     kept: &[(String, usize)],
     stages: &G,
 ) -> Result<Filed, Trouble<'a>>
     ensures { input.now.is_start ≡ true
-        → IfOk result (IsCountedAs job.now shape.style kept.now input.now.text.items) }
+        → IfOk result (IsCountedAs job.now style kept.now input.now.text.items) }
 {
-    let reading = job.reading(shape.style);
+    let reading = job.reading(style);
     let records = records_of(alloc, job, input, reading, kept)?;
     stages.begin(Stage::Booking(records.len()));
     match count_stock(alloc, state, kept, records) {
@@ -93,11 +94,12 @@ fn write<'a, D: Alter>(
     alloc: Global,
     conn: &mut Connection<D>,
     db: &'a str,
-    shape: Shape,
+    style: Style,
     input: &Input<'a>,
     batches: &[Batch],
     kept: &[(String, usize)],
     filed: &Filed,
+    extras: &[Extra],
 ) -> Result<String, Trouble<'a>> {
     let time = in_database(alloc, db, time_of(conn))?;
     let entries = &filed.booked.entries;
@@ -109,18 +111,19 @@ fn write<'a, D: Alter>(
         time: time.as_str(),
         movements: entries.len() as u64,
     };
-    let rows = sealed_rows(alloc, shape.style.scale, [draft].as_slice(), entries, &[])?;
+    let rows = sealed_rows(alloc, style.scale, [draft].as_slice(), entries, extras)?;
+    let before = movements_in(batches);
     let new = NewRows {
-        is_sealed: shape.is_sealed,
+        first: before.saturating_add(1),
         batches: &rows,
         entries,
-        extras: &[],
+        extras,
         changed: &filed.changed,
     };
-    let mut message = entered_text(alloc, db, movements_in(batches), &rows)?;
+    let mut message = entered_text(alloc, db, before, &rows)?;
     let misspelt = misspelt_text(alloc, db, &rows_of(alloc, kept)?, entries)?;
     message.push_str(misspelt.as_str())?;
-    put(alloc, db, conn, None, &new)?;
+    put(alloc, db, conn, None, new)?;
     Ok(message)
 }
 
@@ -135,31 +138,31 @@ pub fn count_in<'a, D: Alter, S: BuildHasher + Copy + Drop, G: Stages>(
     state: S,
     stages: &G,
     job: &Job<'a>,
-    shape: Shape,
+    style: Style,
     conn: &mut Connection<D>,
     bytes: Vec<u8>,
 ) -> Result<Counted, Trouble<'a>>
     // `filed` is what a count does to the balance `kept`. The count has the records of `bytes` and of `--all`. `bytes` are decoded by the job's
     // encoding, and read by the options of the job, and without an option as the stock says.
-    ensures counted { IfOk result (IsCountOf job.now shape bytes.items) }
+    ensures counted { IfOk result (IsCountOf job.now style bytes.items) }
     ensures rising { IfOk result (λ counted. Rises counted.kept.items) }
 {
     let db = job.db;
-    if !shape.may_have_counts() {
-        return Err(no_counts(alloc, db, shape.version));
-    }
     stages.begin(Stage::Reading);
     let input = input_of(alloc, job.counted, bytes, job.encoding, true)?;
-    let batches = in_database(alloc, db, batches_of(alloc, conn, shape))?;
+    let batches = in_database(alloc, db, batches_of(alloc, conn))?;
     if !job.enters_again {
         entered_twice(alloc, slice::from_ref(&input), &batches)?;
     }
     let kept = in_database(alloc, db, balance_of(alloc, conn))?;
-    let filed = counted_of(alloc, state, job, &input, shape, &kept, stages)?;
+    let filed = counted_of(alloc, state, job, &input, style, &kept, stages)?;
     let entries = &filed.booked.entries;
-    let table = differences_text(alloc, job.reading(shape.style), entries)?;
+    let extras = extras_on(alloc, job, entries.len())?;
+    let table = differences_text(alloc, job.reading(style), entries)?;
     stages.begin(Stage::Writing);
-    let message = write(alloc, conn, db, shape, &input, &batches, &kept, &filed)?;
+    let message = write(
+        alloc, conn, db, style, &input, &batches, &kept, &filed, &extras,
+    )?;
     Ok(Counted {
         table,
         message,

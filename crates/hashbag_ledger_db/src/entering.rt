@@ -1,15 +1,17 @@
 //! Files that are entered into a stock, in an open database.
 ghost use Rattle.std.specs.Prelude.{◌≡◌, [], None, IfOk, IsSomeAnd};
-ghost use Rattle.hashbag_stock.specs.declared.tables.Shape.{Shape};
 ghost use Rattle.hashbag_ledger_db.specs.Filed.{AreMovementsRead, ReturnsAnew, IsFiledOf, IsFiledOn, IsFiledAnew, IsFiledIn, has_refusal, status_after, IfStock, IsAnewIfThere, IsReportOf};
 ghost use Rattle.hashbag_ledger_lib.specs.Movements.{names_now};
 
 use crate::before::{Before, before_in, entered_twice};
-use crate::messages::{entered_text, new_text, refusal_end};
-use crate::movements::{Input, extras_of, has_extras, movements_of};
+use crate::messages::{entered_text, misspelt_text, refused_text, typed_new_text};
+use crate::movements::{Input, extras_of, movements_of};
 use crate::putting::{in_database, put};
 use crate::stages::{Stage, Stages};
-use crate::troubles::{no_dates, other_scale, start_too_many, too_large};
+use crate::stock::reading::time_of;
+use crate::stock::statements::{NewRows, NewStock};
+use crate::stock::tables::Contents;
+use crate::troubles::{other_scale, start_too_many, too_large};
 use hashbag_csv::counts::Reading;
 use hashbag_csv::delimiter::Delimiter;
 use hashbag_ledger_args::columns::{columns_text, plain_columns, plain_extras};
@@ -21,14 +23,12 @@ use hashbag_ledger_lib::filing::{Filed, enter_files, refusals_of};
 use hashbag_ledger_lib::ledger::booking::count_refused;
 use hashbag_ledger_lib::movements::Movement;
 use hashbag_ledger_lib::once::Kind;
-use hashbag_ledger_lib::output::{refusals_table, refusals_text};
+use hashbag_ledger_lib::output::refusals_table;
 use hashbag_ledger_lib::reading::Columns;
 use hashbag_ledger_lib::sealing::{Draft, sealed_rows};
+use hashbag_ledger_lib::style::Style;
 use hashbag_shell::status::{DENIED, DONE};
 use hashbag_shell::trouble::Trouble;
-use hashbag_stock::reading::time_of;
-use hashbag_stock::tables::{Contents, Shape};
-use hashbag_stock::writing::{NewRows, NewStock};
 use sqlite::{Alter, Connection};
 use std::alloc::{AllocError, Global};
 use std::hash::BuildHasher;
@@ -133,32 +133,28 @@ pub(crate) fn filed_of<'a, S: BuildHasher + Drop, G: Stages>(
     }
 }
 
-// Returns the shape of the stock, or the shape of a new stock if the database is empty.
-fn shape_of<'a>(alloc: Global, job: &Job<'a>, contents: Contents) -> Result<Shape, Trouble<'a>> {
+// Returns the style of the stock, or the style of a new stock if the database is empty.
+fn style_of<'a>(alloc: Global, job: &Job<'a>, contents: Contents) -> Result<Style, Trouble<'a>> {
     let db = job.db;
     match (contents, job.scale) {
-        (Contents::Empty, _) => Ok(Shape::of_new(job.style(job.asked_style()))),
-        (Contents::Stock(shape), Some(asked)) if shape.style.scale != asked => {
-            Err(other_scale(alloc, db, shape.style.scale, asked))
+        (Contents::Empty, _) => Ok(job.style(job.asked_style())),
+        (Contents::Stock(style), Some(asked)) if style.scale != asked => {
+            Err(other_scale(alloc, db, style.scale, asked))
         }
-        (Contents::Stock(shape), _)
-            if has_extras(job.extras_or(plain_extras())) && !shape.is_dated() => {
-            Err(no_dates(alloc, db))
-        }
-        (Contents::Stock(shape), _) => Ok(shape),
+        (Contents::Stock(style), _) => Ok(style),
     }
 }
 
-/// If the database is empty, returns what the new stock keeps: the style of this shape, and these columns.
+/// If the database is empty, returns what the new stock keeps: this style, and these columns.
 pub(crate) fn new_stock_of<'k>(
     contents: Contents,
-    shape: Shape,
+    style: Style,
     columns: &'k str,
     extras: ExtraColumns<&'k str>,
 ) -> Option<NewStock<'k>> {
     match contents {
         Contents::Empty => Some(NewStock {
-            style: shape.style,
+            style,
             columns,
             extras,
         }),
@@ -200,7 +196,7 @@ pub(crate) fn write<'a, D: Alter, G: Stages>(
     alloc: Global,
     conn: &mut Connection<D>,
     db: &'a str,
-    shape: Shape,
+    style: Style,
     new_stock: Option<NewStock<'_>>,
     inputs: &[Input<'a>],
     extras: &[Extra],
@@ -212,16 +208,16 @@ pub(crate) fn write<'a, D: Alter, G: Stages>(
     let (before, filed) = (&ready.before, &ready.filed);
     let drafts = drafts_of(alloc, inputs, &filed.counts, before.number(), time.as_str())?;
     let entries = &filed.booked.entries;
-    let batches = sealed_rows(alloc, shape.style.scale, &drafts, entries, extras)?;
+    let batches = sealed_rows(alloc, style.scale, &drafts, entries, extras)?;
     let new = NewRows {
-        is_sealed: shape.is_sealed,
+        first: before.movements().saturating_add(1),
         batches: &batches,
         entries,
         extras,
         changed: &filed.changed,
     };
     let message = entered_text(alloc, db, before.movements(), &batches)?;
-    put(alloc, db, conn, new_stock, &new)?;
+    put(alloc, db, conn, new_stock, new)?;
     Ok(message)
 }
 
@@ -240,6 +236,7 @@ fn text_of<'a>(
     job: &Job<'a>,
     inputs: &[Input<'a>],
     reading: Reading,
+    kept: &[(String, usize)],
     filed: &Filed,
 ) -> Result<Vec<u8>, AllocError> {
     let refusals = refusals_of(alloc, &filed.booked.entries, job.strict)?;
@@ -247,43 +244,28 @@ fn text_of<'a>(
     // A table for a file, lines for standard error.
     match job.refused {
         Some(_) => refusals_table(alloc, &names, reading, &refusals),
-        None => Ok(refusals_text(alloc, &names, reading.scale, &refusals)?.into_bytes()),
+        None => {
+            let balance = rows_of(alloc, kept)?;
+            Ok(refused_text(alloc, &names, reading.scale, &balance, &refusals)?.into_bytes())
+        }
     }
 }
 
-// If a typed movement is refused because the stock lacks its article, appends a near name.
-fn with_near(
-    alloc: Global,
-    job: &Job<'_>,
-    before: &Before,
-    refusals: Vec<u8>,
-) -> Result<Vec<u8>, AllocError> {
-    let mut text = refusals;
-    if let Some(article) = job.articles.first().copied()
-        && text.pop().is_some()
-    {
-        let balance = rows_of(alloc, before.balance())?;
-        text.extend_from_slice(refusal_end(alloc, &balance, article)?.as_bytes())?;
-    }
-    Ok(text)
-}
-
-// If a typed movement was entered and its article is new, appends a line that says that the article is new.
+// Appends a line for an article that was typed and is new, and for each new article of a file whose name is near to another one.
 fn with_new(
     alloc: Global,
     job: &Job<'_>,
     ready: &Ready,
     message: String,
 ) -> Result<String, AllocError> {
-    let before = &ready.before;
+    let balance = rows_of(alloc, ready.before.balance())?;
+    let entries = &ready.filed.booked.entries;
+    let new = match job.articles.first().copied() {
+        Some(article) => typed_new_text(alloc, job.db, &balance, entries, article)?,
+        None => misspelt_text(alloc, job.db, &balance, entries)?,
+    };
     let mut text = message;
-    if let Some(article) = job.articles.first().copied()
-        && before.is_new_article()
-        && !is_refused(&ready.filed)
-    {
-        let balance = rows_of(alloc, before.balance())?;
-        text.push_str(new_text(alloc, job.db, &balance, article)?.as_str())?;
-    }
+    text.push_str(new.as_str())?;
     Ok(text)
 }
 
@@ -339,13 +321,13 @@ fn filed_in<'a, S: BuildHasher + Drop, G: Stages>(
     stages: &G,
 ) -> Result<Filed, Trouble<'a>>
     ensures empty { contents ≡ Contents.Empty → ReturnsAnew job.now inputs.now anew result }
-    ensures stock { IfStock contents (λ shape. IfOk result (IsFiledOn job.now shape.style before.now inputs.now)) }
+    ensures stock { IfStock contents (λ style. IfOk result (IsFiledOn job.now style before.now inputs.now)) }
 {
     match (contents, anew) {
         (Contents::Empty, Some(filed)) => Ok(filed),
         (Contents::Empty, None) => filed_anew(alloc, state, job, inputs, stages),
-        (Contents::Stock(shape), _) => {
-            let reading = job.reading(shape.style);
+        (Contents::Stock(style), _) => {
+            let reading = job.reading(style);
             let columns = job.columns_or(before.names());
             filed_of(
                 alloc,
@@ -400,7 +382,7 @@ fn written<'a, D: Alter, G: Stages>(
     inputs: &[Input<'a>],
     conn: &mut Connection<D>,
     contents: Contents,
-    shape: Shape,
+    style: Style,
     extras: &[Extra],
     ready: &Ready,
     stages: &G,
@@ -408,9 +390,9 @@ fn written<'a, D: Alter, G: Stages>(
     let columns = job.columns_or(ready.before.names());
     let names = job.extras_or(ready.before.extras());
     let text = columns_text(alloc, columns)?;
-    let new_stock = new_stock_of(contents, shape, text.as_str(), names);
+    let new_stock = new_stock_of(contents, style, text.as_str(), names);
     let message = write(
-        alloc, conn, job.db, shape, new_stock, inputs, extras, ready, stages,
+        alloc, conn, job.db, style, new_stock, inputs, extras, ready, stages,
     )?;
     Ok(with_new(alloc, job, ready, message)?)
 }
@@ -439,17 +421,17 @@ pub fn report_in<'a, D: Alter, S: BuildHasher + Drop, G: Stages>(
     ensures status { IfOk result (λ report. IsSomeAnd report.ready (λ ready.
         report.status ≡ status_after ready.filed)) }
 {
-    let shape = shape_of(alloc, job, contents)?;
+    let style = style_of(alloc, job, contents)?;
     let ready = ready_in(alloc, state, job, inputs, conn, contents, anew, stages)?;
-    let reading = job.reading(shape.style);
+    let reading = job.reading(style);
     let extras = read_extras(alloc, job, inputs, &ready.before, reading.delimiter)?;
-    let refusals = text_of(alloc, job, inputs, reading, &ready.filed)?;
-    let refusals = with_near(alloc, job, &ready.before, refusals)?;
+    let kept = ready.before.balance();
+    let refusals = text_of(alloc, job, inputs, reading, kept, &ready.filed)?;
     let message = if job.strict && is_refused(&ready.filed) {
         String::new(alloc)
     } else {
         written(
-            alloc, job, inputs, conn, contents, shape, &extras, &ready, stages,
+            alloc, job, inputs, conn, contents, style, &extras, &ready, stages,
         )?
     };
     Ok(EnterReport {
@@ -476,7 +458,7 @@ pub fn denied_report(
 {
     let reading = job.reading(job.asked_style());
     Ok(EnterReport {
-        refusals: text_of(alloc, job, inputs, reading, filed)?,
+        refusals: text_of(alloc, job, inputs, reading, &[], filed)?,
         message: String::new(alloc),
         status: DENIED,
         ready: None,

@@ -1,17 +1,17 @@
 //! The files of a call: inputs, which are read whole, and databases. They are given as `Inputs` and `Databases`, so the clauses hold for any
 //! contents.
 ghost use Rattle.std.specs.Prelude.{◌≡◌, ℕ, List, None, true, IfOk, IfSome};
-ghost use Rattle.hashbag_stock.specs.declared.tables.Contents.{Contents};
+ghost use Rattle.hashbag_ledger_db.specs.declared.stock.tables.Contents.{Contents};
 ghost use Rattle.hashbag_ledger_db.specs.Filed.{status_after};
 ghost use Rattle.hashbag_ledger_db.specs.Inputs.{AreInputsOf, IsRead, IsReportReady, name_and_kind};
 
 use crate::entering::{EnterReport, denied_report, filed_anew, is_refused, report_in};
 use crate::movements::{Input, input_of};
 use crate::stages::{Stage, Stages};
+use crate::stock::tables::Contents;
 use hashbag_ledger_args::job::Job;
 use hashbag_shell::inputs::Inputs;
 use hashbag_shell::trouble::Trouble;
-use hashbag_stock::tables::Contents;
 use sqlite::{Alter, Connection};
 use std::alloc::{AllocError, Global};
 use std::hash::BuildHasher;

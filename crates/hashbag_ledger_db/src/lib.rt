@@ -12,6 +12,7 @@ pub mod movements;
 pub mod putting;
 pub mod showing;
 pub mod stages;
+pub mod stock;
 pub mod troubles;
 pub mod undoing;
 pub mod unkept;

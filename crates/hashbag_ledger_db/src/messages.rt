@@ -1,11 +1,14 @@
 //! The messages for standard error: what was done, and what isn't there.
 use hashbag_csv::escaped::Escaped;
+use hashbag_csv::scale::Scale;
 use hashbag_ledger_args::command::PROGRAM;
-use hashbag_ledger_lib::movements::{Change, Entry};
+use hashbag_ledger_lib::movements::{Change, Entry, Outcome, Refusal};
 use hashbag_ledger_lib::once::Batch;
+use hashbag_ledger_lib::output::refusals_text;
 use hashbag_shell::tips::Nearest;
 use std::alloc::{AllocError, Global};
 use std::fmt::Write;
+use std::slice;
 
 // If a database has this many movements or more, a new one is suggested. Opening a database of this size takes about a second.
 const MANY: u64 = 1_000_000;
@@ -157,16 +160,22 @@ pub fn new_text(
     Ok(text)
 }
 
-// Returns the articles of these movements that a balance lacks, or `None` if there are more than ten. The balance is in ascending order.
+// Returns whether a balance, which is in ascending order, lacks this article.
+fn lacks(balance: &[(&str, Change)], article: &str) -> bool {
+    balance.binary_search_by(|row| row.0.cmp(article)).is_err()
+}
+
+// Returns the articles of the movements that were entered and that a balance lacks, each once, or `None` if there are more than ten.
 fn new_of<'e>(
     alloc: Global,
     balance: &[(&str, Change)],
     entries: &'e [Entry<String>],
 ) -> Result<Option<Vec<&'e str>>, AllocError> {
-    let mut articles = Vec::new(alloc);
+    let mut articles: Vec<&'e str> = Vec::new(alloc);
     for entry in entries {
         let article = entry.movement.article.as_str();
-        if balance.binary_search_by(|row| row.0.cmp(article)).is_err() {
+        let is_entered = matches!(entry.outcome, Outcome::Entered { .. });
+        if is_entered && lacks(balance, article) && articles.iter().all(|one| *one != article) {
             if articles.len() == NEW {
                 return Ok(None);
             }
@@ -189,6 +198,9 @@ pub fn misspelt_text(
     entries: &[Entry<String>],
 ) -> Result<String, AllocError> {
     let mut text = String::new(alloc);
+    if balance.is_empty() {
+        return Ok(text);
+    }
     let Some(articles) = new_of(alloc, balance, entries)? else {
         return Ok(text);
     };
@@ -200,22 +212,52 @@ pub fn misspelt_text(
     Ok(text)
 }
 
-/// Returns how the line of a refusal of this article ends. If the balance lacks the article, and has another article whose name is near,
-/// the ending names the other article. Else the ending is the newline alone.
+/// Returns a line that says that the article of a typed movement is new, if the movement was entered and the balance lacks the article.
 ///
 /// # Errors
 ///
 /// An allocation fails.
-pub fn refusal_end(
+pub fn typed_new_text(
     alloc: Global,
+    db: &str,
     balance: &[(&str, Change)],
+    entries: &[Entry<String>],
     article: &str,
 ) -> Result<String, AllocError> {
+    let is_refused = entries
+        .iter()
+        .any(|entry| matches!(entry.outcome, Outcome::Refused { .. }));
+    if is_refused || !lacks(balance, article) {
+        return Ok(String::new(alloc));
+    }
+    new_text(alloc, db, balance, article)
+}
+
+/// Returns a line for each of these refusals. If the balance lacks the article, and has another article whose name is near, the line names the
+/// other article. This is done for ten lines at most.
+///
+/// # Errors
+///
+/// An allocation fails.
+pub fn refused_text(
+    alloc: Global,
+    files: &[&str],
+    scale: Scale,
+    balance: &[(&str, Change)],
+    refusals: &[Refusal<String>],
+) -> Result<String, AllocError> {
     let mut text = String::new(alloc);
-    if has(balance, article) {
-        text.push('\n')?;
-    } else {
-        end_with_near(alloc, &mut text, balance, article)?;
+    let mut absent = 0usize;
+    for refusal in refusals {
+        let line = refusals_text(alloc, files, scale, slice::from_ref(refusal))?;
+        let article = refusal.article.as_str();
+        if absent < NEW && lacks(balance, article) {
+            absent += 1;
+            text.push_str(line.as_str().trim_end_matches('\n'))?;
+            end_with_near(alloc, &mut text, balance, article)?;
+        } else {
+            text.push_str(line.as_str())?;
+        }
     }
     Ok(text)
 }

@@ -3,13 +3,14 @@ ghost use Rattle.std.specs.Prelude.{◌≡◌, map, IfOk};
 ghost use Rattle.hashbag_ledger_db.specs.Filed.{plain_movement, AreInputRows};
 ghost use Rattle.hashbag_ledger_db.specs.Inputs.{name_and_kind, HasTextOf};
 
-use crate::troubles::of_extras;
+use crate::troubles::{no_day, of_extras};
 use hashbag_csv::counts::{Reading, read_counts_as};
 use hashbag_csv::delimiter::Delimiter;
 use hashbag_csv::fault::{SheetError, in_file};
 use hashbag_ledger_args::columns::plain_extras;
 use hashbag_ledger_args::job::Job;
 use hashbag_ledger_args::start::in_start;
+use hashbag_ledger_lib::dates::is_date;
 use hashbag_ledger_lib::extras::{Extra, ExtraColumns, read_extras};
 use hashbag_ledger_lib::movements::Movement;
 use hashbag_ledger_lib::numbers::plain_change;
@@ -157,8 +158,8 @@ pub fn movements_of<'a>(
     in_file(alloc, input.file, read)
 }
 
-/// Returns whether there is a column of dates or of notes.
-pub fn has_extras(names: ExtraColumns<&str>) -> bool {
+// Returns whether there is a column of dates or of notes.
+fn has_extras(names: ExtraColumns<&str>) -> bool {
     names.date.is_some() || names.note.is_some()
 }
 
@@ -170,8 +171,61 @@ fn kept_of<'n>(job: &Job<'_>, names: ExtraColumns<&'n str>) -> ExtraColumns<&'n 
     }
 }
 
+// Fails if the word of `--on` or of `--from-on` is no date.
+fn check_dates<'a>(alloc: Global, job: &Job<'_>) -> Result<(), Trouble<'a>> {
+    for (option, word) in [("--on", job.on), ("--from-on", job.from_on)] {
+        if let Some(date) = word
+            && !is_date(date)
+        {
+            return Err(no_day(alloc, option));
+        }
+    }
+    Ok(())
+}
+
+// Returns these dates and notes. With a date, each has this date, and its own note.
+fn dated(alloc: Global, extras: Vec<Extra>, date: Option<&str>) -> Result<Vec<Extra>, AllocError> {
+    let Some(date) = date else {
+        return Ok(extras);
+    };
+    let mut all = Vec::new(alloc);
+    for extra in extras {
+        all.push(Extra {
+            date: Some(String::from_str(alloc, date)?),
+            note: extra.note,
+        })
+        .map_err(AllocError::from)?;
+    }
+    Ok(all)
+}
+
+/// Returns the date of `--on` for each of this many movements, without a note. Returns an empty list without `--on`.
+///
+/// # Errors
+///
+/// That the word of `--on` is no date, or a failed allocation.
+pub fn extras_on<'a>(
+    alloc: Global,
+    job: &Job<'_>,
+    movements: usize,
+) -> Result<Vec<Extra>, Trouble<'a>> {
+    check_dates(alloc, job)?;
+    let mut extras = Vec::new(alloc);
+    if let Some(date) = job.on {
+        for _ in 0..movements {
+            extras
+                .push(Extra {
+                    date: Some(String::from_str(alloc, date)?),
+                    note: None,
+                })
+                .map_err(AllocError::from)?;
+        }
+    }
+    Ok(extras)
+}
+
 /// Returns the dates and notes of all movements of the inputs, in turn. `names` are the names of their columns; without names the list is empty.
-/// The opening stock has no dates and no notes.
+/// The opening stock has the date of `--from-on` and no notes.
 ///
 /// # Errors
 ///
@@ -184,20 +238,18 @@ pub fn extras_of<'a>(
     delimiter: Delimiter,
 ) -> Result<Vec<Extra>, Trouble<'a>> {
     let mut extras = Vec::new(alloc);
-    if !has_extras(names) {
+    check_dates(alloc, job)?;
+    if !has_extras(names) && job.on.is_none() && job.from_on.is_none() {
         return Ok(extras);
     }
     for input in inputs {
-        let own = if input.is_start {
-            plain_extras()
+        let (own, date) = if input.is_start {
+            (plain_extras(), job.from_on)
         } else {
-            names
+            (names, job.on)
         };
         match read_extras(alloc, input.text.as_slice(), own, delimiter) {
-            Ok(read) => {
-                let mut own = read;
-                extras.append(&mut own)?;
-            }
+            Ok(read) => extras.append(&mut dated(alloc, read, date)?)?,
             Err(error) => return Err(of_extras(alloc, input.file, kept_of(job, names), error)),
         }
     }

@@ -1,10 +1,11 @@
 //! What is written into a database, and the errors of databases.
 ghost use Rattle.std.specs.Prelude.{◌≡◌, Ok, IfOk};
 
+use crate::stock::error::StockError;
+use crate::stock::statements::{NewRows, NewStock};
+use crate::stock::writing::put_batches;
 use crate::troubles::of_stock;
 use hashbag_shell::trouble::Trouble;
-use hashbag_stock::error::StockError;
-use hashbag_stock::writing::{NewRows, NewStock, put_batches};
 use sqlite::{Alter, Connection};
 use std::alloc::Global;
 
@@ -36,7 +37,7 @@ pub fn put<'a, D: Alter>(
     db: &str,
     conn: &mut Connection<D>,
     new_stock: Option<NewStock<'_>>,
-    new: &NewRows<'_>,
+    new: NewRows<'_>,
 ) -> Result<(), Trouble<'a>> {
-    in_database(alloc, db, put_batches(conn, new_stock, new))
+    in_database(alloc, db, put_batches(alloc, conn, new_stock, new))
 }

@@ -3,10 +3,14 @@ ghost use Rattle.std.specs.Prelude.{◌≡◌, Ok, IfOk};
 
 use crate::messages::{absent_text, unmoved_text};
 use crate::putting::in_database;
+use crate::stock::reading::{
+    balance_of, batches_of, dated_movements_of, movements_of_article, movements_until,
+};
 use crate::troubles::{moved_too_much, no_day, start_too_many};
 use crate::wanted::wanted_of;
+use hashbag_csv::scale::{Mark, Scale};
 use hashbag_ledger_args::job::Job;
-use hashbag_ledger_lib::balance_forms::{formed_text, rows_of};
+use hashbag_ledger_lib::balance_forms::{Form, formed_text, rows_of};
 use hashbag_ledger_lib::dated::{DatedError, balance_at};
 use hashbag_ledger_lib::dates::is_date;
 use hashbag_ledger_lib::entering::LedgerError;
@@ -14,11 +18,8 @@ use hashbag_ledger_lib::listing::{batches_text, history_text, movements_text};
 use hashbag_ledger_lib::movements::{Change, Entry};
 use hashbag_ledger_lib::numbers::size_of;
 use hashbag_ledger_lib::recalling::{recall, recall_batch};
+use hashbag_ledger_lib::style::Style;
 use hashbag_shell::trouble::Trouble;
-use hashbag_stock::reading::{
-    balance_of, batches_of, dated_movements_of, movements_of_article, movements_until,
-};
-use hashbag_stock::tables::Shape;
 use sqlite::{Alter, Connection};
 use std::alloc::{AllocError, Global};
 use std::hash::BuildHasher;
@@ -83,11 +84,15 @@ fn rows_with_some<'b>(
 fn shown_of(
     alloc: Global,
     job: &Job<'_>,
-    shape: Shape,
+    style: Style,
     rows: Vec<(&str, Change)>,
 ) -> Result<Shown, AllocError> {
     let message = absent_text(alloc, job.db, &rows, &job.articles)?;
-    let reading = job.reading(shape.style);
+    let mut reading = job.reading(style);
+    if job.form == Form::Json {
+        // A number of JSON has a point, whatever mark the stock has.
+        reading.scale = Scale::new(style.scale, Mark::Point).unwrap_or(reading.scale);
+    }
     let table = if job.articles.is_empty() {
         formed_text(alloc, reading, job.form, &rows)?
     } else {
@@ -105,11 +110,11 @@ fn shown_of(
 pub fn balance_in<'a, D: Alter>(
     alloc: Global,
     job: &Job<'a>,
-    shape: Shape,
+    style: Style,
     conn: &mut Connection<D>,
 ) -> Result<Shown, Trouble<'a>> {
     let all = in_database(alloc, job.db, balance_of(alloc, conn))?;
-    Ok(shown_of(alloc, job, shape, rows_of(alloc, &all)?)?)
+    Ok(shown_of(alloc, job, style, rows_of(alloc, &all)?)?)
 }
 
 /// Returns the balance of an open database on a day, or the numbers of the job's articles on that day. The message names the articles that
@@ -122,20 +127,20 @@ pub fn balance_at_in<'a, D: Alter, S: BuildHasher + Copy + Drop>(
     alloc: Global,
     state: S,
     job: &Job<'a>,
-    shape: Shape,
+    style: Style,
     conn: &mut Connection<D>,
     date: &str,
 ) -> Result<Shown, Trouble<'a>> {
     if !is_date(date) {
-        return Err(no_day(alloc));
+        return Err(no_day(alloc, "--at"));
     }
     let db = job.db;
-    let movements = in_database(alloc, db, dated_movements_of(alloc, conn, shape))?;
+    let movements = in_database(alloc, db, dated_movements_of(alloc, conn))?;
     let entries = recalled_in(alloc, db, recall(alloc, state, movements))?;
     match balance_at(alloc, state, date, &entries) {
         Ok(all) => {
             let rows = rows_with_some(alloc, &all)?;
-            Ok(shown_of(alloc, job, shape, rows)?)
+            Ok(shown_of(alloc, job, style, rows)?)
         }
         Err(DatedError::Memory) => Err(Trouble::Memory),
         Err(DatedError::MovedTooMuch) => Err(moved_too_much(alloc, db)),
@@ -167,16 +172,16 @@ pub fn show_in<'a, D: Alter, S: BuildHasher + Drop>(
     alloc: Global,
     state: S,
     job: &Job<'a>,
-    shape: Shape,
+    style: Style,
     conn: &mut Connection<D>,
 ) -> Result<Shown, Trouble<'a>> {
     let db = job.db;
-    let batches = in_database(alloc, db, batches_of(alloc, conn, shape))?;
+    let batches = in_database(alloc, db, batches_of(alloc, conn))?;
     let number = wanted_of(alloc, job, &batches)?.number;
-    let movements = in_database(alloc, db, movements_until(alloc, conn, shape, number))?;
+    let movements = in_database(alloc, db, movements_until(alloc, conn, number))?;
     let batch = number.unsigned_abs() as usize;
     let entries = recalled_in(alloc, db, recall_batch(alloc, state, movements, batch))?;
-    let table = movements_text(alloc, job.reading(shape.style), &entries)?;
+    let table = movements_text(alloc, job.reading(style), &entries)?;
     let message = String::new(alloc);
     Ok(Shown { table, message })
 }
@@ -190,13 +195,13 @@ pub fn history_in<'a, D: Alter, S: BuildHasher + Drop>(
     alloc: Global,
     state: S,
     job: &Job<'a>,
-    shape: Shape,
+    style: Style,
     conn: &mut Connection<D>,
 ) -> Result<Shown, Trouble<'a>> {
     let article = job.articles.first().copied().unwrap_or("");
     let db = job.db;
-    let batches = in_database(alloc, db, batches_of(alloc, conn, shape))?;
-    let movements = in_database(alloc, db, movements_of_article(alloc, conn, shape, article))?;
+    let batches = in_database(alloc, db, batches_of(alloc, conn))?;
+    let movements = in_database(alloc, db, movements_of_article(alloc, conn, article))?;
     let message = if movements.is_empty() {
         let balance = in_database(alloc, db, balance_of(alloc, conn))?;
         unmoved_text(alloc, db, &rows_of(alloc, &balance)?, article)?
@@ -204,7 +209,7 @@ pub fn history_in<'a, D: Alter, S: BuildHasher + Drop>(
         String::new(alloc)
     };
     let entries = recalled_in(alloc, db, recall(alloc, state, movements))?;
-    let table = history_text(alloc, job.reading(shape.style), &batches, &entries)?;
+    let table = history_text(alloc, job.reading(style), &batches, &entries)?;
     Ok(Shown { table, message })
 }
 
@@ -216,11 +221,11 @@ pub fn history_in<'a, D: Alter, S: BuildHasher + Drop>(
 pub fn batches_in<'a, D: Alter>(
     alloc: Global,
     job: &Job<'a>,
-    shape: Shape,
+    style: Style,
     conn: &mut Connection<D>,
 ) -> Result<Shown, Trouble<'a>> {
-    let batches = in_database(alloc, job.db, batches_of(alloc, conn, shape))?;
-    let table = batches_text(alloc, job.reading(shape.style), &batches)?;
+    let batches = in_database(alloc, job.db, batches_of(alloc, conn))?;
+    let table = batches_text(alloc, job.reading(style), &batches)?;
     let message = String::new(alloc);
     Ok(Shown { table, message })
 }

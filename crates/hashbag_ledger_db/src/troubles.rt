@@ -1,4 +1,5 @@
 //! Why a subcommand doesn't do all that it is asked, as the trouble of a program.
+use crate::stock::error::StockError;
 use hashbag_csv::counts::Reading;
 use hashbag_csv::decimals::write_decimal;
 use hashbag_csv::fault::{Fault, SheetError, in_file};
@@ -9,13 +10,17 @@ use hashbag_shell::status::{
     BAD_INPUT, DENIED, ENTERED_BEFORE, IN_USE, IO_FAILED, TOTAL_TOO_LARGE,
 };
 use hashbag_shell::trouble::Trouble;
-use hashbag_stock::error::StockError;
 use sqlite::ErrorCode;
 use std::alloc::{AllocError, Global};
 
 // Returns the trouble of bad arguments or bad contents.
 fn bad<'a>(what: Result<String, AllocError>) -> Trouble<'a> {
     Trouble::with_status(what, BAD_INPUT)
+}
+
+// Returns whether a message ends as that of a table which another program changed, such as by a trigger.
+fn is_unread(text: &str) -> bool {
+    text.ends_with("not supported") || text.ends_with("no such table")
 }
 
 /// Returns the trouble of a database that can't be read or written as a stock.
@@ -35,11 +40,17 @@ pub fn of_stock<'a>(alloc: Global, db: &str, error: StockError) -> Trouble<'a> {
     };
     let cure = match &error {
         StockError::Database(sqlite::Error::SqliteFailure(ErrorCode::CannotOpen)) => {
-            "; the file and its folder must be there, and writable, also to be read"
+            "; the file and its folder must be there, and writable, also to be read, and the file must have one name (no second hard link)"
         }
         _ => "",
     };
-    Trouble::with_status(format!(in alloc; "{db}: {error}{cure}"), status)
+    let what = match format!(in alloc; "{db}: {error}{cure}") {
+        Ok(text) if is_unread(text.as_str()) => format!(in alloc;
+            "{text}; perhaps another program made a trigger, which has to be dropped"
+        ),
+        said => said,
+    };
+    Trouble::with_status(what, status)
 }
 
 /// Returns the trouble of a stored balance past the maximum. No batch can cause it.
@@ -68,23 +79,9 @@ pub fn has_stock<'a>(alloc: Global, db: &str) -> Trouble<'a> {
     bad(format!(in alloc; "{db}: has a stock already, so it takes no other at the beginning"))
 }
 
-/// Returns the trouble of a stocktaking (`count`) in a database whose version of tables stores none.
-pub fn no_counts<'a>(alloc: Global, db: &str, version: i64) -> Trouble<'a> {
-    bad(format!(in alloc;
-        "{db}: tables of version {version} take no count: `close --into NEW` makes newer ones"
-    ))
-}
-
 /// Returns the trouble of a stock whose numbers have another scale.
 pub fn other_scale<'a>(alloc: Global, db: &str, kept: u32, asked: u32) -> Trouble<'a> {
     bad(format!(in alloc; "{db}: numbers have {kept} decimals, not {asked}"))
-}
-
-/// Returns the trouble of a stock that keeps no dates and no notes.
-pub fn no_dates<'a>(alloc: Global, db: &str) -> Trouble<'a> {
-    bad(format!(in alloc;
-        "{db}: keeps no dates and no notes; `close --into NEW` begins a stock that does"
-    ))
 }
 
 // If a text lacks a column of dates or of notes that the stock keeps, returns the option by which the text is read without that column.
@@ -141,9 +138,9 @@ pub fn of_extras<'a>(
     }
 }
 
-/// Returns the trouble of a balance on a day that is no date.
-pub fn no_day<'a>(alloc: Global) -> Trouble<'a> {
-    bad("--at takes a date, as 2026-02-28".to_string(alloc))
+/// Returns the trouble of an option whose word is no date.
+pub fn no_day<'a>(alloc: Global, option: &str) -> Trouble<'a> {
+    bad(format!(in alloc; "{option} takes a date, as 2026-02-28"))
 }
 
 /// Returns the trouble if the movements up to a day move too much to be added up.

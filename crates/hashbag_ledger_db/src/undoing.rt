@@ -2,6 +2,8 @@
 use crate::messages::{entered_text, movements_in};
 use crate::putting::{in_database, put as put_in};
 use crate::stages::{Stage, Stages};
+use crate::stock::reading::{balance_of, batches_of, entered_of, time_of};
+use crate::stock::statements::NewRows;
 use crate::troubles::{start_too_many, too_large, undone_before};
 use crate::wanted::wanted_of;
 use hashbag_ledger_args::job::Job;
@@ -18,9 +20,6 @@ use hashbag_ledger_lib::style::Style;
 use hashbag_ledger_lib::undoing::{Undo, undo_batch};
 use hashbag_shell::status::{DENIED, DONE};
 use hashbag_shell::trouble::Trouble;
-use hashbag_stock::reading::{balance_of, batches_of, entered_of, time_of};
-use hashbag_stock::tables::Shape;
-use hashbag_stock::writing::NewRows;
 use sqlite::{Alter, Connection};
 use std::alloc::{AllocError, Global};
 use std::hash::BuildHasher;
@@ -62,7 +61,7 @@ fn put<'a, D: Alter>(
     alloc: Global,
     conn: &mut Connection<D>,
     db: &'a str,
-    shape: Shape,
+    style: Style,
     found: &Found,
     booked: &Booked<String>,
     extras: &[Extra],
@@ -78,22 +77,16 @@ fn put<'a, D: Alter>(
         movements: booked.entries.len() as u64,
     };
     let entries = &booked.entries;
-    let batches = sealed_rows(
-        alloc,
-        shape.style.scale,
-        [draft].as_slice(),
-        entries,
-        extras,
-    )?;
+    let batches = sealed_rows(alloc, style.scale, [draft].as_slice(), entries, extras)?;
     let new = NewRows {
-        is_sealed: shape.is_sealed,
+        first: found.movements.saturating_add(1),
         batches: &batches,
         entries,
         extras,
         changed,
     };
     let message = entered_text(alloc, db, found.movements, &batches)?;
-    put_in(alloc, db, conn, None, &new)?;
+    put_in(alloc, db, conn, None, new)?;
     Ok(message)
 }
 
@@ -102,9 +95,9 @@ fn found_in<'a, D: Alter>(
     alloc: Global,
     conn: &mut Connection<D>,
     job: &Job<'a>,
-    shape: Shape,
+    style: Style,
 ) -> Result<Found, Trouble<'a>> {
-    let batches = in_database(alloc, job.db, batches_of(alloc, conn, shape))?;
+    let batches = in_database(alloc, job.db, batches_of(alloc, conn))?;
     found_of(alloc, job, &batches)
 }
 
@@ -134,22 +127,18 @@ fn take_back_in<'a, D: Alter, S: BuildHasher + Drop, G: Stages>(
     state: S,
     stages: &G,
     job: &Job<'a>,
-    shape: Shape,
+    style: Style,
     conn: &mut Connection<D>,
     found: &Found,
 ) -> Result<Undone, Trouble<'a>> {
     let db = job.db;
-    let entered = in_database(alloc, db, entered_of(alloc, conn, shape, found.number))?;
-    let extras = if shape.is_dated() {
-        opposite_extras(alloc, &entered)?
-    } else {
-        Vec::new(alloc)
-    };
+    let entered = in_database(alloc, db, entered_of(alloc, conn, found.number))?;
+    let extras = opposite_extras(alloc, &entered)?;
     let (entered, _) = unzip(alloc, entered)?;
     let kept = in_database(alloc, db, balance_of(alloc, conn))?;
     let file = found.file.as_str();
     stages.begin(Stage::Booking(entered.len()));
-    let (undo, changed) = undo_of(alloc, state, job, shape.style, file, &kept, entered)?;
+    let (undo, changed) = undo_of(alloc, state, job, style, file, &kept, entered)?;
     match undo {
         Undo::Refused(refusals) => Ok(Undone {
             refusals,
@@ -159,7 +148,7 @@ fn take_back_in<'a, D: Alter, S: BuildHasher + Drop, G: Stages>(
             stages.begin(Stage::Writing);
             Ok(Undone {
                 refusals: Vec::new(alloc),
-                message: put(alloc, conn, db, shape, found, &booked, &extras, &changed)?,
+                message: put(alloc, conn, db, style, found, &booked, &extras, &changed)?,
             })
         }
     }
@@ -180,12 +169,12 @@ pub struct UndoReport {
 fn report_of(
     alloc: Global,
     job: &Job<'_>,
-    shape: Shape,
+    style: Style,
     file: &str,
     undone: Undone,
 ) -> Result<UndoReport, AllocError> {
     let names = [file];
-    let reading = job.reading(shape.style);
+    let reading = job.reading(style);
     let refusals = refusals_text(alloc, names.as_slice(), reading.scale, &undone.refusals)?;
     Ok(UndoReport {
         refusals,
@@ -208,11 +197,11 @@ pub fn undo_in<'a, D: Alter, S: BuildHasher + Drop, G: Stages>(
     state: S,
     stages: &G,
     job: &Job<'a>,
-    shape: Shape,
+    style: Style,
     conn: &mut Connection<D>,
 ) -> Result<UndoReport, Trouble<'a>> {
     stages.begin(Stage::Reading);
-    let found = found_in(alloc, conn, job, shape)?;
-    let undone = take_back_in(alloc, state, stages, job, shape, conn, &found)?;
-    Ok(report_of(alloc, job, shape, found.file.as_str(), undone)?)
+    let found = found_in(alloc, conn, job, style)?;
+    let undone = take_back_in(alloc, state, stages, job, style, conn, &found)?;
+    Ok(report_of(alloc, job, style, found.file.as_str(), undone)?)
 }

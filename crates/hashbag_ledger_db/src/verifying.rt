@@ -1,6 +1,7 @@
 //! A stock that is counted again from all its movements, in an open database.
 use crate::putting::in_database;
 use crate::stages::{Stage, Stages};
+use crate::stock::reading::{Kept, everything_of};
 use hashbag_csv::counts::Reading;
 use hashbag_csv::decimals::write_decimal;
 use hashbag_csv::escaped::Escaped;
@@ -11,12 +12,11 @@ use hashbag_ledger_lib::ledger::booking::{Booked, book_batch, refusals_from};
 use hashbag_ledger_lib::numbers::MOST;
 use hashbag_ledger_lib::once::Batch;
 use hashbag_ledger_lib::sealing::wrong_seal;
+use hashbag_ledger_lib::style::Style;
 use hashbag_ledger_lib::verifying::{
     KeptRefusal, movements_from, wrong_batch, wrong_number, wrong_refusal,
 };
 use hashbag_shell::trouble::Trouble;
-use hashbag_stock::reading::{Kept, everything_of};
-use hashbag_stock::tables::Shape;
 use sqlite::{Alter, Connection};
 use std::alloc::{AllocError, Global};
 use std::hash::BuildHasher;
@@ -41,7 +41,7 @@ fn wrong_article(
 fn wrong_row(
     alloc: Global,
     reading: Reading,
-    shape: Shape,
+    style: Style,
     batches: &[Batch],
     balance: &[(String, usize)],
     refusals: &[KeptRefusal],
@@ -51,15 +51,7 @@ fn wrong_row(
     if let Some(message) = wrong_article(alloc, reading, balance, &booked.balance)? {
         return Ok(Some(message));
     }
-    if shape.is_sealed
-        && let Some(number) = wrong_seal(
-            alloc,
-            shape.style.scale,
-            batches,
-            &booked.entries,
-            extras,
-        )?
-    {
+    if let Some(number) = wrong_seal(alloc, style.scale, batches, &booked.entries, extras)? {
         return Ok(Some(format!(in alloc;
             "batch {number}: not as it was entered: the scale, its row, or a row of its movements was changed"
         )?));
@@ -83,10 +75,10 @@ fn difference_of<'a, S: BuildHasher + Drop>(
     alloc: Global,
     state: S,
     kept: Kept,
+    style: Style,
     reading: Reading,
 ) -> Result<Option<String>, Trouble<'a>> {
     let Kept {
-        shape,
         movements,
         refusals,
         balance,
@@ -101,7 +93,7 @@ fn difference_of<'a, S: BuildHasher + Drop>(
     match book_batch(alloc, state, Vec::new(alloc), movements) {
         Ok(booked) => {
             Ok(wrong_row(
-                alloc, reading, shape, &batches, &balance, &refusals, &extras, booked,
+                alloc, reading, style, &batches, &balance, &refusals, &extras, booked,
             )?)
         }
         Err(LedgerError::TooMany(place)) => Ok(Some(past_the_most(alloc, reading, place.file)?)),
@@ -121,17 +113,11 @@ fn agreement(
     batches: usize,
     movements: usize,
     refused: usize,
-    is_sealed: bool,
 ) -> Result<String, AllocError> {
     let batches = counted(alloc, batches, "batch", "es")?;
     let movements = counted(alloc, movements, "movement", "s")?;
-    let seals = if is_sealed {
-        ""
-    } else {
-        "; its batches have no seals"
-    };
     format!(in alloc;
-        "{batches}, {movements}, {refused} of them refused: the balance and the refusals agree{seals}\n"
+        "{batches}, {movements}, {refused} of them refused: the balance and the refusals agree\n"
     )
 }
 
@@ -154,21 +140,20 @@ pub fn verify_in<'a, D: Alter, S: BuildHasher + Drop, G: Stages>(
     state: S,
     stages: &G,
     job: &Job<'a>,
-    shape: Shape,
+    style: Style,
     conn: &mut Connection<D>,
 ) -> Result<Verdict, Trouble<'a>> {
     let db = job.db;
     stages.begin(Stage::Reading);
-    let kept = in_database(alloc, db, everything_of(alloc, conn, shape))?;
+    let kept = in_database(alloc, db, everything_of(alloc, conn))?;
     stages.begin(Stage::Booking(kept.movements.len()));
     let message = agreement(
         alloc,
         kept.batches.len(),
         kept.movements.len(),
         kept.refusals.len(),
-        shape.is_sealed,
     )?;
-    match difference_of(alloc, state, kept, job.reading(shape.style))? {
+    match difference_of(alloc, state, kept, style, job.reading(style))? {
         Some(what) => Ok(Verdict::Differs(format!(in alloc; "{db}: {what}\n")?)),
         None => Ok(Verdict::Agrees(message)),
     }

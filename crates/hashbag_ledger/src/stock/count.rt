@@ -32,8 +32,8 @@ fn counted_by<'a>(
     bytes: Vec<u8>,
 ) -> Result<Counted, Trouble<'a>> {
     let state = random_state(rt)?;
-    let (mut conn, shape) = open(rt, stages, job)?;
-    let done = count_in(rt.alloc(), state, stages, job, shape, &mut conn, bytes);
+    let (mut conn, style) = open(rt, stages, job)?;
+    let done = count_in(rt.alloc(), state, stages, job, style, &mut conn, bytes);
     ended(conn, done)
 }
 

@@ -7,10 +7,11 @@ use hashbag_ledger_args::job::Job;
 use hashbag_ledger_db::files::Databases;
 use hashbag_ledger_db::putting::in_database;
 use hashbag_ledger_db::stages::{Stage, Stages};
+use hashbag_ledger_db::stock::error::StockError;
+use hashbag_ledger_db::stock::tables::{Contents, contents_of};
 use hashbag_ledger_db::troubles::{no_file, no_stock, of_stock};
+use hashbag_ledger_lib::style::Style;
 use hashbag_shell::trouble::Trouble;
-use hashbag_stock::error::StockError;
-use hashbag_stock::tables::{Contents, Shape, contents_of};
 use sqlite::{Connection, Error, ErrorCode, File, FileStore};
 use std::io::ErrorKind;
 use std::time::Duration;
@@ -93,7 +94,7 @@ pub fn open_or_make<'a>(
     }
 }
 
-/// Opens the database of a stock, and returns the shape of the stock.
+/// Opens the database of a stock, and returns the style of the stock.
 ///
 /// # Errors
 ///
@@ -102,7 +103,7 @@ pub fn open<'a>(
     rt: &HostRuntime,
     stages: &HostStages<'_>,
     job: &Job<'a>,
-) -> Result<(Db, Shape), Trouble<'a>> {
+) -> Result<(Db, Style), Trouble<'a>> {
     let db = job.db;
     if is_new(rt, db)? {
         return Err(match fs::metadata(rt, db) {
@@ -113,7 +114,7 @@ pub fn open<'a>(
     stages.begin(Stage::Opening);
     let (conn, contents) = open_or_make(rt, db, job.wait)?;
     match contents {
-        Contents::Stock(shape) => Ok((conn, shape)),
+        Contents::Stock(style) => Ok((conn, style)),
         Contents::Empty => {
             close(conn);
             Err(no_stock(rt.alloc(), db))

@@ -6,18 +6,20 @@ use crate::stock::database::{HostDatabases, ended, is_new, is_of_database, open,
 use crate::stock::say::{random_state, say};
 use crate::stock::stages::HostStages;
 use hashbag_csv::delimiter::Delimiter;
+use hashbag_ledger_args::command::PROGRAM;
 use hashbag_ledger_args::job::Job;
 use hashbag_ledger_db::closing::{Closed, begin_in, beginning_of, closed_in};
 use hashbag_ledger_db::entering::EnterReport;
 use hashbag_ledger_db::files::enter_named;
 use hashbag_ledger_db::stages::{Stage, Stages};
+use hashbag_ledger_db::stock::tables::Contents;
 use hashbag_ledger_db::troubles;
 use hashbag_ledger_lib::output::typed_text;
 use hashbag_shell::inputs::{HostInputs, Inputs};
 use hashbag_shell::output::Output;
 use hashbag_shell::status::{BAD_INPUT, DONE};
 use hashbag_shell::trouble::Trouble;
-use hashbag_stock::tables::Contents;
+use std::fs;
 
 // Returns a file that the arguments name for two uses, if there is one.
 fn conflict<'a>(rt: &HostRuntime, job: &Job<'a>) -> Result<Option<&'a str>, Trouble<'a>> {
@@ -192,9 +194,9 @@ fn begin<'a>(
 fn closed<'a>(rt: &HostRuntime, job: &Job<'a>) -> Result<Closed, Trouble<'a>> {
     let stages = HostStages::new(rt, job.reports, job.db, &[]);
     let closed = match open(rt, &stages, job) {
-        Ok((mut conn, shape)) => {
+        Ok((mut conn, style)) => {
             stages.begin(Stage::Reading);
-            let closed = closed_in(rt.alloc(), job, shape, &mut conn);
+            let closed = closed_in(rt.alloc(), job, style, &mut conn);
             ended(conn, closed)
         }
         Err(trouble) => Err(trouble),
@@ -213,9 +215,16 @@ pub fn close<'a>(rt: &HostRuntime, job: &Job<'a>) -> Result<u8, Trouble<'a>> {
         return Err(troubles::conflict(rt.alloc(), job.into));
     }
     let closed = closed(rt, job)?;
+    let was_new = is_new(rt, job.into)?;
     let stages = HostStages::new(rt, job.reports, job.into, &[]);
     let begun = begin(rt, &stages, job, &closed);
     stages.end();
+    if begun.is_err() && was_new && fs::metadata(rt, job.into).is_ok() {
+        let new = job.into;
+        let _ = eprintln!(rt;
+            "{PROGRAM}: {new}: nothing was entered; remove it, and {new}-wal if it is there"
+        );
+    }
     begun?;
     Ok(DONE)
 }

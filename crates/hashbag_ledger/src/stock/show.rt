@@ -45,14 +45,14 @@ fn shown<'a>(
     view: View,
 ) -> Result<Shown, Trouble<'a>> {
     let (alloc, state) = (rt.alloc(), random_state(rt)?);
-    let (mut conn, shape) = open(rt, stages, job)?;
+    let (mut conn, style) = open(rt, stages, job)?;
     stages.begin(Stage::Reading);
     let shown = match (view, job.at) {
-        (View::Balance, Some(date)) => balance_at_in(alloc, state, job, shape, &mut conn, date),
-        (View::Balance, None) => balance_in(alloc, job, shape, &mut conn),
-        (View::History, _) => history_in(alloc, state, job, shape, &mut conn),
-        (View::Batches, _) => batches_in(alloc, job, shape, &mut conn),
-        (View::Batch, _) => show_in(alloc, state, job, shape, &mut conn),
+        (View::Balance, Some(date)) => balance_at_in(alloc, state, job, style, &mut conn, date),
+        (View::Balance, None) => balance_in(alloc, job, style, &mut conn),
+        (View::History, _) => history_in(alloc, state, job, style, &mut conn),
+        (View::Batches, _) => batches_in(alloc, job, style, &mut conn),
+        (View::Batch, _) => show_in(alloc, state, job, style, &mut conn),
     };
     ended(conn, shown)
 }

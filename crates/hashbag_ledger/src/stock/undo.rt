@@ -17,8 +17,8 @@ fn undone<'a>(
     job: &Job<'a>,
 ) -> Result<UndoReport, Trouble<'a>> {
     let state = random_state(rt)?;
-    let (mut conn, shape) = open(rt, stages, job)?;
-    let done = undo_in(rt.alloc(), state, stages, job, shape, &mut conn);
+    let (mut conn, style) = open(rt, stages, job)?;
+    let done = undo_in(rt.alloc(), state, stages, job, style, &mut conn);
     ended(conn, done)
 }
 

@@ -16,8 +16,8 @@ fn verdict<'a>(
     job: &Job<'a>,
 ) -> Result<Verdict, Trouble<'a>> {
     let state = random_state(rt)?;
-    let (mut conn, shape) = open(rt, stages, job)?;
-    let verdict = verify_in(rt.alloc(), state, stages, job, shape, &mut conn);
+    let (mut conn, style) = open(rt, stages, job)?;
+    let verdict = verify_in(rt.alloc(), state, stages, job, style, &mut conn);
     ended(conn, verdict)
 }
 

@@ -1,2 +1,0 @@
-pub mod Commits
-pub mod Extras
