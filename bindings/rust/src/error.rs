@@ -14,7 +14,7 @@ use std::fmt;
 /// bag.set_limit(1).unwrap();
 /// let error = bag.try_insert(6).unwrap_err();
 /// assert_eq!(error, BagError::TooMany);
-/// assert_eq!(error.to_string(), "total past its limit");
+/// assert_eq!(error.to_string(), "total past its end");
 /// ```
 #[derive(Clone, Copy, Debug, PartialEq, Eq, Hash)]
 #[non_exhaustive]
@@ -31,7 +31,7 @@ impl fmt::Display for BagError {
     fn fmt(&self, f: &mut fmt::Formatter<'_>) -> fmt::Result {
         f.write_str(match self {
             BagError::Memory => "no memory",
-            BagError::TooMany => "total past its limit",
+            BagError::TooMany => "total past its end",
             BagError::BelowTotal => "limit below total",
         })
     }

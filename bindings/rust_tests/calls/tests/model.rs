@@ -158,7 +158,7 @@ fn limits() {
     assert_eq!(bag.entry(1).try_and_modify(|n| *n = 4).map(drop), Err(BagError::TooMany));
     assert_eq!(bag.entry(2).try_or_insert_many(2), Err(BagError::TooMany));
     assert_eq!(bag.sorted(), [(&1, 2)]);
-    assert_eq!(BagError::TooMany.to_string(), "total past its limit");
+    assert_eq!(BagError::TooMany.to_string(), "total past its end");
 }
 
 /// The clone panics if there would be more than so many instances.

@@ -48,7 +48,7 @@ fn limit() {
 #[test]
 fn rejected() {
     let error = |text: &str| serde_json::from_str::<HashBag<u8>>(text).unwrap_err().to_string();
-    assert!(error("[[5,18446744073709551615],[6,1]]").contains("total past its limit"));
+    assert!(error("[[5,18446744073709551615],[6,1]]").contains("total past its end"));
     assert!(error("{}").contains("a sequence of pairs of a value and its count"));
     for text in ["[[5]]", "[[5,-1]]", "[[300,1]]", "[5]", "[[5,1,1]]", "[[5,1]"] {
         error(text);
