@@ -281,6 +281,7 @@ if [ "${1-}" = built ]; then
   # The examples of share/examples run, in turn.
   cd at && cp "$top"/crates/hashbag_ledger/data/* .
   printf 'cat\t1\n' | tee monday.tsv > tuesday.tsv
+  echo 'The cat' > letter.txt
   printf 'article,number\nbolt,9\n' > counted.csv
   ../real/bin/hashbag_ledger enter --db stock.db --from stock.csv monday.csv > ../out 2> ../err
   while read -r name words; do
