@@ -186,6 +186,25 @@ fn begun<'a>(alloc: Global, said: &'a str) -> Command<'a>
     Command::new(alloc, cut(said).0).about(about)
 }
 
+/// Returns the command of the program that has this table, with its subcommands, but without arguments of the program itself.
+///
+/// # Errors
+///
+/// An allocation fails.
+pub fn jobs_of<'a>(alloc: Global, lines: &[&'a str]) -> CommandResult<'a>
+    ensures { IfOk result (λ made. args_of made ≡ []) }
+{
+    let program = lines.first().map_or("", |line| cut(line).1);
+    let mut command = begun(alloc, program);
+    'jobs: for line in lines {
+        if let Some(name) = job_in(line) {
+            let job = with_lines(alloc, begun(alloc, cut(line).1), lines, name)?;
+            command = command.subcommand(job)?;
+        }
+    }
+    Ok(command)
+}
+
 /// Returns the command of the program that has this table, with its subcommands.
 ///
 /// # Errors
@@ -195,15 +214,7 @@ pub fn command_of<'a>(alloc: Global, lines: &[&'a str]) -> CommandResult<'a>
     // The program has the arguments that the lines declare for it, by name and in order. No clause speaks of its subcommands.
     ensures { IfOk result (λ made. argument_names made ≡ arguments_of [] lines.now) }
 {
-    let program = lines.first().map_or("", |line| cut(line).1);
-    let mut command = with_lines(alloc, begun(alloc, program), lines, "")?;
-    'jobs: for line in lines {
-        if let Some(name) = job_in(line) {
-            let job = with_lines(alloc, begun(alloc, cut(line).1), lines, name)?;
-            command = command.subcommand(job)?;
-        }
-    }
-    Ok(command)
+    with_lines(alloc, jobs_of(alloc, lines)?, lines, "")
 }
 
 /// Returns the value of an option that has a default.
