@@ -1,6 +1,6 @@
-# Read before table.awk and help.awk: reads the text after the options, and writes records. A record is a line of fields with a tab after each: the
+# Read before table.awk: reads the text after the options, and writes records. A record is a line of fields with a tab after each: the
 # command (none: the program), a kind, and what the kind has:
-#   about TEXT; usage TEXT; command NAME, except `help`; default NAME: the command if none is named
+#   about TEXT; usage TEXT; command NAME; default NAME: the command if none is named
 #   argument, option: SHORT LONG VALUE TEXT DEFAULT VALUES; some are empty, and an argument has a VALUE alone
 #   group HEADING: that of the options that follow
 #   text TEXT: a paragraph; item NAMES TEXT: a line of a list
@@ -55,17 +55,11 @@ function cut_example(at, from, rest, end) {
   put("example", rest)
 }
 
-# Writes the commands that a sentence names: `first word is A, B or C, it is a subcommand`, and `Without a command, A is meant`, A in backticks.
-function put_named(said, many, i, names) {
-  if (match(said, /Without a command, `[a-z-]+` is meant/)) {
-    split(substr(said, RSTART, RLENGTH), names, "`")
-    put("default", names[2])
-  }
-  if (!has_commands && match(said, /first word is [a-z, -]+, it is a subcommand/)) {
-    said = substr(said, RSTART + 14, RLENGTH - 14 - 20)
-    many = split(said, names, /,? or |, /)
-    for (i = 1; i <= many; i++) put("command", names[i])
-  }
+# Writes the command that a sentence names: `Without a command, A is meant`, A in backticks.
+function put_named(said, names) {
+  if (!match(said, /Without a command, `[a-z-]+` is meant/)) return
+  split(substr(said, RSTART, RLENGTH), names, "`")
+  put("default", names[2])
 }
 
 # Writes the paragraph that was read.

@@ -104,14 +104,16 @@ function keep_after(line, i) {
 }
 
 # Writes the records of a command: "" is the program.
-function put_command(job, i) {
+function put_command(job, own, i) {
   command = jobs[1] = job
   many_jobs = 1
   if (usage == "") keep_help()
   put("about", about_of[job])
+  own = options_of[job] usage_of[job]
   if (usage != "") put("usage", usage)
-  else if (job == "" && all_jobs) put("usage", name " <COMMAND>")
-  else put("usage", name (job == "" ? "" : " " job) options_of[job] usage_of[job])
+  else if (job != "") put("usage", name " " job own)
+  else if (own != "" || !all_jobs) put("usage", name own)
+  if (job == "" && all_jobs) put("usage", name " <COMMAND>")
   for (i = 1; job == "" && i <= all_jobs; i++) put("command", order[i])
   printf "%s", records_of[job]
   for (i = 1; i <= many_after[job]; i++) read_after(after[job, i])
@@ -149,7 +151,6 @@ END {
     if (!(i in has)) report("such name")
   }
   put_command("")
-  has_commands = all_jobs
   for (i = 1; i <= all_jobs; i++) put_command(order[i])
   exit failed || !("" in about_of)
 }

@@ -44,14 +44,9 @@ files() {
   [ "$(cd "$folder" && echo *)" = "$*" ] || fail "not the files $* of $folder: $(ls -A "$folder")"
 }
 
-# stand_in NAME: a program that prints the file of `helps` with its name as its help, and those of its commands, if there is one
+# stand_in NAME: a program that prints its name
 stand_in() {
-  cat > "$scratch/copy/crates/$1/out/$1" << END
-#!/bin/sh
-name=$1
-[ "\$1" = --help ] || name=$1-\$1
-exec cat "$scratch/helps/\$name"
-END
+  printf '#!/bin/sh\necho %s\n' "$1" > "$scratch/copy/crates/$1/out/$1"
   chmod +x "$scratch/copy/crates/$1/out/$1"
 }
 
@@ -82,16 +77,13 @@ done
 mkdir "$scratch/copy/crates/hashbag_shell/proofs"
 cp "$top/crates/hashbag_shell/src/lib.rt" "$scratch/copy/crates/hashbag_shell/src/lib.rt"
 cp -r "$top/share" "$scratch/copy"
-cp -r "$top/tests/programs/installed/help" "$scratch/helps"
-for crate in hashbag_words_lib hashbag_match; do
+for crate in hashbag_words_lib hashbag_match hashbag_ledger_db; do
   cp "$top/tests/programs/installed/table/$crate.rs" "$scratch/copy/crates/$crate/src/options.rt"
 done
 find "$scratch/copy" -exec touch -d 2026-01-01 {} +
 for name in $programs; do stand_in "$name"; done
-# hashbag_run says nothing of itself: a page does.
-printf '#!/bin/sh\necho "a json []"\n' > "$scratch/copy/crates/hashbag_run/out/hashbag_run"
 mkdir -p "$scratch/copy/docs/use"
-cp "$scratch/helps/hashbag_run" "$scratch/copy/docs/use/hashbag_run.txt"
+cp "$top/tests/programs/installed/hashbag_run.txt" "$scratch/copy/docs/use"
 find "$scratch/copy/crates" -path '*/out/*' -exec touch -d 2026-01-02T12:00Z {} +
 cat > "$scratch/tools/rt" << END
 #!/bin/sh
@@ -181,18 +173,9 @@ status=$?
 if [ -z "$(PATH=/usr/bin:/bin type -P rt)" ]; then
   [ $status = 1 ] && grep -q '^install: there is no command rt' err || { cat err; fail "status $status without rt"; }
 fi
-mv away tools/rt && rm refuses
+mv away tools/rt && rm refuses && stand_in hashbag_ledger
 
-# A program that fails at --help
-printf '#!/bin/sh\nexit 3\n' > copy/crates/hashbag_ledger/out/hashbag_ledger
-ends 1 "install: hashbag_ledger  --help failed" other && proved
-[ -z "$(find other -type f)" ] || fail "files after a program that fails"
-stand_in hashbag_ledger
-
-# A help that isn't one of the command; and a table with a line that can't be read
-cp helps/hashbag_ledger-undo helps/hashbag_ledger-enter
-ends 1 "install: the help of hashbag_ledger enter has no usage of it" other && proved
-cp "$top/tests/programs/installed/help/hashbag_ledger-enter" helps
+# A table with a line that can't be read
 for edit in 's/| of x y/| off x y/ no note' 's/| A form |/| A form | not --tu |/ no such name' 's/"A.csv/"@ a/ no job' 's/ | A list// no help'; do
   sed -i "${edit% no *}" copy/crates/hashbag_match/src/options.rt
   touch copy/crates/hashbag_match/out/hashbag_match
@@ -270,7 +253,7 @@ if [ "${1-}" = built ]; then
   for name in hashbag_words hashbag_match hashbag_ledger; do
     [ "$(real/bin/"$name" --version | cut -d ' ' -f 1-2)" = "$name $version" ] || fail "the version of $name"
   done
-  # Each command has a page. hashbag_ledger names them in a sentence.
+  # Each command has a page.
   jobs="balance batches close count enter history put show take undo verify"
   # shellcheck disable=SC2046,SC2086
   files real/share/man/man1 $(printf 'hashbag_ledger-%s.1 ' $jobs) hashbag_ledger.1 hashbag_match.1 hashbag_run.1 \

@@ -84,7 +84,7 @@ for word in --version -V; do
   ends 0 "" $word
   grep -Eqx 'hashbag_ledger 0\.1\.13-[0-9]+' ../out || fail "the version"
 done
-for word in --help -h; do
+for word in --help -h help; do
   ends 0 "" $word
   for name in --start --start-columns --columns --scale --mark --delimiter --output --refused --strict MOVES.csv; do
     grep -q -e "$name" ../out || fail "no $name in the help"
@@ -143,6 +143,12 @@ has not.csv 'file,line,article,asked,there\nquotes.csv,2,"5"" tube, long",3,0\n'
 printf '\357\273\277article,change\r\nbolt,5\r\nnut,7\r\nbolt,-2' > crlf.csv
 ends 0 "" crlf.csv
 has ../out 'article,number\nbolt,3\nnut,7\n' "a byte order mark, CRLF and no last line feed"
+
+# Behind another word, the name of a subcommand is that of a file
+cp crlf.csv count
+ends 0 "" --strict count
+has ../out 'article,number\nbolt,3\nnut,7\n' "a file with the name of a subcommand"
+rm count
 
 # Movements in UTF-16 with a mark, and a stock in Windows-1252
 printf 'Größe,5\n' > rest && { printf 'article,change\n'; cat rest; } | iconv -f UTF-8 -t UTF-16 > wide.csv

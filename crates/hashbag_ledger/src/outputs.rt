@@ -1,5 +1,5 @@
 //! The outputs: the refusals and the balance.
-use hashbag_ledger_args::arguments::Settings;
+use hashbag_ledger_db::settings::Settings;
 use hashbag_ledger_db::unkept::UnkeptReport;
 use hashbag_shell::one_file::is_one_file;
 use hashbag_shell::output::{Output, write_text};

@@ -10,14 +10,15 @@ mod verify;
 
 use crate::stock::show::View;
 use clap::ArgMatches;
-use hashbag_ledger_args::job::Job;
-use hashbag_ledger_args::jobs::command;
-use hashbag_shell::program::given_to;
-use hashbag_shell::status::BAD_INPUT;
+use hashbag_ledger_db::job::Job;
 use hashbag_shell::trouble::Trouble;
 
-// Does a job, and returns the status.
-fn do_job<'a>(rt: &HostRuntime, name: &str, given: &ArgMatches<'a>) -> Result<u8, Trouble<'a>> {
+/// Does the job of this name, and returns the status.
+///
+/// # Errors
+///
+/// Why it isn't done.
+pub fn run<'a>(rt: &HostRuntime, name: &str, given: &ArgMatches<'a>) -> Result<u8, Trouble<'a>> {
     let job = Job::of(rt.alloc(), given)?;
     match name {
         "enter" => enter::enter(rt, &job),
@@ -31,18 +32,5 @@ fn do_job<'a>(rt: &HostRuntime, name: &str, given: &ArgMatches<'a>) -> Result<u8
         "undo" => undo::undo(rt, &job),
         "close" => enter::close(rt, &job),
         _ => verify::verify(rt, &job),
-    }
-}
-
-/// Does what the words of a subcommand ask for, and returns the status.
-///
-/// # Errors
-///
-/// Why it isn't done.
-pub fn run<'a>(rt: &HostRuntime, words: &'a [String]) -> Result<u8, Trouble<'a>> {
-    let given = given_to(rt, command(rt.alloc()), words)?;
-    match given.subcommand() {
-        Some((name, given)) => do_job(rt, name, given),
-        None => Ok(BAD_INPUT),
     }
 }

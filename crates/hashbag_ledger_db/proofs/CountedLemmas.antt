@@ -1,6 +1,6 @@
 -- What a count does to the balance that was read.
 use Rattle.std.proofs.Common.{◌≡◌, ℕ, Bool, true, List, String, Global, ap, subst}
-use Rattle.hashbag_ledger_args.specs.declared.job.Job.{Job}
+use Rattle.hashbag_ledger_db.specs.declared.job.Job.{Job}
 use Rattle.hashbag_ledger_db.specs.Counted.{IsCountedAs, IsCountedIn}
 use Rattle.hashbag_ledger_db.specs.Inputs.{HasTextOf, name_and_kind}
 use Rattle.hashbag_ledger_db.specs.declared.movements.Input.{Input}

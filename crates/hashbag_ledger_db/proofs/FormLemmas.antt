@@ -1,8 +1,8 @@
 -- What the inputs of a call do to a new stock, and to one that is kept.
 use Rattle.std.proofs.Common.{◌≡◌, ℕ, List, [], String, Global, refl, sym, ◌∙◌, ap, subst}
 use Rattle.hashbag_csv.specs.declared.counts.Reading.{Reading}
-use Rattle.hashbag_ledger_args.specs.Readings.{IsReadingOf, asked_style, names_by, plain_names}
-use Rattle.hashbag_ledger_args.specs.declared.job.Job.{Job}
+use Rattle.hashbag_ledger_db.specs.Readings.{IsReadingOf, asked_style, names_by, plain_names}
+use Rattle.hashbag_ledger_db.specs.declared.job.Job.{Job}
 use Rattle.hashbag_ledger_db.specs.Filed.{IsFiledOf, IsFiledAs, IsFiledAnew, style_in}
 use Rattle.hashbag_ledger_db.specs.declared.movements.Input.{Input}
 use Rattle.hashbag_ledger_lib.specs.declared.filing.Filed.{Filed}

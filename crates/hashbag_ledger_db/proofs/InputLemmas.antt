@@ -3,8 +3,8 @@ use Rattle.std.proofs.Common.{◌≡◌, ℕ, ◌+◌, ◌<◌, Bool, false, Lis
 use Rattle.std.specs.Borrow.{Bor}
 use Rattle.std.proofs.lemmas.List.{append_assoc, map-append, take_more}
 use Rattle.hashbag_ledger_db.specs.Inputs.{IsRead, HasTextOf, name_and_kind}
-use Rattle.hashbag_ledger_args.specs.Readings.{encoding_of}
-use Rattle.hashbag_ledger_args.specs.declared.job.Job.{Job}
+use Rattle.hashbag_ledger_db.specs.Readings.{encoding_of}
+use Rattle.hashbag_ledger_db.specs.declared.job.Job.{Job}
 use Rattle.hashbag_ledger_db.specs.declared.movements.Input.{Input}
 use Rattle.hashbag_text.specs.declared.encoding.Encoding.{Encoding}
 

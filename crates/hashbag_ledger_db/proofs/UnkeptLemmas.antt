@@ -2,7 +2,7 @@
 use Rattle.std.proofs.Common.{◌≡◌, ℕ, ◌+◌, ◌<◌, Bor, List, [], ◌∷◌, ◌++◌, length, take, get_or, String, Global, refl, sym, ◌∙◌, ap, subst, append_assoc, arith}
 use Rattle.std.proofs.lemmas.List.{append-nil, length-take-le, take_more}
 use Rattle.std.specs.String.{string_eq}
-use Rattle.hashbag_ledger_args.specs.declared.arguments.Settings.{Settings}
+use Rattle.hashbag_ledger_db.specs.declared.settings.Settings.{Settings}
 use Rattle.hashbag_ledger_db.specs.Unkept.{AreMovementsFrom, AreMovementsIn, EntersAll, EntersFileOf, EntersFiles}
 use Rattle.hashbag_ledger_lib.specs.Settled.{IsLedgerOf}
 use Rattle.hashbag_ledger_lib.specs.declared.ledger.Ledger.{Ledger}

@@ -2,8 +2,8 @@
 use Rattle.std.specs.Prelude.{◌≡◌, ℕ, ◌++◌, if◌then◌else◌, List, [], map, Some, String}
 use Rattle.std.specs.Global.{Global}
 use Rattle.hashbag_csv.specs.declared.counts.Reading.{Reading}
-use Rattle.hashbag_ledger_args.specs.Readings.{IsReadingOf}
-use Rattle.hashbag_ledger_args.specs.declared.job.Job.{Job}
+use Rattle.hashbag_ledger_db.specs.Readings.{IsReadingOf}
+use Rattle.hashbag_ledger_db.specs.declared.job.Job.{Job}
 use Rattle.hashbag_ledger_db.specs.Filed.{plain_content, start_names}
 use Rattle.hashbag_ledger_db.specs.declared.counting.Counted.{Counted}
 use Rattle.hashbag_ledger_db.specs.declared.movements.Input.{Input}

@@ -4,8 +4,8 @@ use Rattle.std.specs.Borrow.{Bor}
 use Rattle.std.specs.Global.{Global, Vec}
 use Rattle.std.specs.String.{string_eq}
 use Rattle.hashbag_csv.specs.declared.counts.Reading.{Reading}
-use Rattle.hashbag_ledger_args.specs.Readings.{IsReadingOf, asked_style, kept_names, names_by, plain_names}
-use Rattle.hashbag_ledger_args.specs.declared.job.Job.{Job}
+use Rattle.hashbag_ledger_db.specs.Readings.{IsReadingOf, asked_style, kept_names, names_by, plain_names}
+use Rattle.hashbag_ledger_db.specs.declared.job.Job.{Job}
 use Rattle.hashbag_ledger_db.specs.declared.before.Before.{Before}
 use Rattle.hashbag_ledger_db.specs.declared.entering.Ready.{Ready}
 use Rattle.hashbag_ledger_db.specs.declared.entering.EnterReport.{EnterReport}

@@ -3,8 +3,8 @@ use Rattle.std.specs.Prelude.{◌≡◌, ◌++◌, ℕ, Bool, true, false, List,
 use Rattle.std.specs.Option.{option_to_list}
 use Rattle.hex.specs.Hex.{encode_lower}
 use Rattle.sha2.specs.Sha256.{sha256}
-use Rattle.hashbag_ledger_args.specs.Readings.{encoding_of}
-use Rattle.hashbag_ledger_args.specs.declared.job.Job.{Job}
+use Rattle.hashbag_ledger_db.specs.Readings.{encoding_of}
+use Rattle.hashbag_ledger_db.specs.declared.job.Job.{Job}
 use Rattle.hashbag_ledger_db.specs.Filed.{IsFiledIn}
 use Rattle.hashbag_ledger_db.specs.declared.entering.Ready.{Ready}
 use Rattle.hashbag_ledger_db.specs.declared.entering.EnterReport.{EnterReport}

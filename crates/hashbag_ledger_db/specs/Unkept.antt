@@ -5,7 +5,7 @@ use Rattle.std.specs.Global.{Global}
 use Rattle.std.specs.String.{string_eq}
 use Rattle.hashbag_csv.specs.Counts.{count_line, counts_in}
 use Rattle.hashbag_csv.specs.Quantities.{IsBalance}
-use Rattle.hashbag_ledger_args.specs.declared.arguments.Settings.{Settings}
+use Rattle.hashbag_ledger_db.specs.declared.settings.Settings.{Settings}
 use Rattle.hashbag_ledger_lib.specs.Ledger.{in_the_end, refused_of, Leaves}
 use Rattle.hashbag_ledger_lib.specs.Movements.{movements_in, names_now, content_of}
 use Rattle.hashbag_ledger_lib.specs.Settled.{listed, IsLedgerOf}

@@ -1,10 +1,12 @@
 //! What a database has before the inputs of a job are entered. Only [`before_in`] makes a `Before`, so a `Before` is what was read from the
 //! database.
 ghost use Rattle.std.specs.Prelude.{◌≡◌, [], IfOk};
-ghost use Rattle.hashbag_ledger_args.specs.Readings.{extras_now, kept_extras, kept_names, no_extras, plain_names};
+ghost use Rattle.hashbag_ledger_db.specs.Readings.{extras_now, kept_extras, kept_names, no_extras, plain_names};
 ghost use Rattle.hashbag_ledger_lib.specs.Changes.{Rises};
 ghost use Rattle.hashbag_ledger_lib.specs.Movements.{names_now};
 
+use crate::columns::{KeptColumns, KeptExtras, plain_columns};
+use crate::job::Job;
 use crate::messages::movements_in;
 use crate::movements::{Input, is_once};
 use crate::putting::in_database;
@@ -12,8 +14,6 @@ use crate::stock::error::StockError;
 use crate::stock::reading::{balance_of, batches_of};
 use crate::stock::tables::{Contents, columns_of, extras_of};
 use crate::troubles::{entered_as, has_stock, of_stock, same_bytes};
-use hashbag_ledger_args::columns::{KeptColumns, KeptExtras, plain_columns};
-use hashbag_ledger_args::job::Job;
 use hashbag_ledger_lib::extras::ExtraColumns;
 use hashbag_ledger_lib::once::{Batch, entered_before, next_number};
 use hashbag_ledger_lib::reading::Columns;

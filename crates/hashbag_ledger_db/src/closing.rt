@@ -1,13 +1,13 @@
 //! A stock that is closed: a new stock begins with its balance, in an open database.
 use crate::before::{before_in, kept_columns, kept_extras};
+use crate::columns::{KeptColumns, KeptExtras, columns_text};
 use crate::entering::{Ready, filed_of, new_stock_of, write};
+use crate::job::Job;
 use crate::movements::{Input, input_of};
 use crate::putting::in_database;
 use crate::stages::Stages;
 use crate::stock::reading::balance_of;
 use crate::stock::tables::Contents;
-use hashbag_ledger_args::columns::{KeptColumns, KeptExtras, columns_text};
-use hashbag_ledger_args::job::Job;
 use hashbag_ledger_lib::output::balance_text;
 use hashbag_ledger_lib::style::Style;
 use hashbag_shell::trouble::Trouble;

@@ -4,6 +4,8 @@ ghost use Rattle.hashbag_ledger_db.specs.Counted.{AreRecordsOf, IsCountedAs, IsC
 ghost use Rattle.hashbag_ledger_lib.specs.Changes.{Rises};
 
 use crate::before::entered_twice;
+use crate::columns::plain_columns;
+use crate::job::Job;
 use crate::messages::{entered_text, misspelt_text, movements_in};
 use crate::movements::{Input, extras_on, input_of, read};
 use crate::putting::{in_database, put};
@@ -13,8 +15,6 @@ use crate::stock::statements::NewRows;
 use crate::troubles::{start_too_many, too_large};
 use hashbag_csv::counts::Reading;
 use hashbag_csv::fault::in_file;
-use hashbag_ledger_args::columns::plain_columns;
-use hashbag_ledger_args::job::Job;
 use hashbag_ledger_lib::balance_forms::rows_of;
 use hashbag_ledger_lib::counting::{count_stock, name_all};
 use hashbag_ledger_lib::entering::LedgerError;

@@ -4,6 +4,8 @@ ghost use Rattle.hashbag_ledger_db.specs.Filed.{AreMovementsRead, ReturnsAnew, I
 ghost use Rattle.hashbag_ledger_lib.specs.Movements.{names_now};
 
 use crate::before::{Before, before_in, entered_twice};
+use crate::columns::{columns_text, plain_columns, plain_extras};
+use crate::job::Job;
 use crate::messages::{entered_text, misspelt_text, refused_text, typed_new_text};
 use crate::movements::{Input, extras_of, movements_of};
 use crate::putting::{in_database, put};
@@ -14,8 +16,6 @@ use crate::stock::tables::Contents;
 use crate::troubles::{other_scale, start_too_many, too_large};
 use hashbag_csv::counts::Reading;
 use hashbag_csv::delimiter::Delimiter;
-use hashbag_ledger_args::columns::{columns_text, plain_columns, plain_extras};
-use hashbag_ledger_args::job::Job;
 use hashbag_ledger_lib::balance_forms::rows_of;
 use hashbag_ledger_lib::entering::LedgerError;
 use hashbag_ledger_lib::extras::{Extra, ExtraColumns};

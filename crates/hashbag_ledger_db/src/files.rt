@@ -6,10 +6,10 @@ ghost use Rattle.hashbag_ledger_db.specs.Filed.{status_after};
 ghost use Rattle.hashbag_ledger_db.specs.Inputs.{AreInputsOf, IsRead, IsReportReady, name_and_kind};
 
 use crate::entering::{EnterReport, denied_report, filed_anew, is_refused, report_in};
+use crate::job::Job;
 use crate::movements::{Input, input_of};
 use crate::stages::{Stage, Stages};
 use crate::stock::tables::Contents;
-use hashbag_ledger_args::job::Job;
 use hashbag_shell::inputs::Inputs;
 use hashbag_shell::trouble::Trouble;
 use sqlite::{Alter, Connection};

@@ -1,15 +1,19 @@
-//! What the subcommands of `hashbag_ledger` do in a database, whatever stores it, and what a call without a database does. Databases are opened
-//! by [`files::Databases`] alone, and other files by [`hashbag_shell::inputs::Inputs`] alone.
+//! The options of `hashbag_ledger`, what its subcommands do in a database, whatever stores it, and what a call without a database does. Databases
+//! are opened by [`files::Databases`] alone, and other files by [`hashbag_shell::inputs::Inputs`] alone.
 #![tactic(auto)]
 
 pub mod before;
 pub mod closing;
+pub mod columns;
 pub mod counting;
 pub mod entering;
 pub mod files;
+pub mod job;
 pub mod messages;
 pub mod movements;
+pub mod options;
 pub mod putting;
+pub mod settings;
 pub mod showing;
 pub mod stages;
 pub mod stock;

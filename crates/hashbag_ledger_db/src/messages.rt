@@ -1,7 +1,6 @@
 //! The messages for standard error: what was done, and what isn't there.
 use hashbag_csv::escaped::Escaped;
 use hashbag_csv::scale::Scale;
-use hashbag_ledger_args::command::PROGRAM;
 use hashbag_ledger_lib::movements::{Change, Entry, Outcome, Refusal};
 use hashbag_ledger_lib::once::Batch;
 use hashbag_ledger_lib::output::refusals_text;
@@ -9,6 +8,9 @@ use hashbag_shell::tips::Nearest;
 use std::alloc::{AllocError, Global};
 use std::fmt::Write;
 use std::slice;
+
+/// The name of the program, with which its messages on standard error begin.
+pub const PROGRAM: &str = "hashbag_ledger";
 
 // If a database has this many movements or more, a new one is suggested. Opening a database of this size takes about a second.
 const MANY: u64 = 1_000_000;

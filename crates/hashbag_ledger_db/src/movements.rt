@@ -3,13 +3,12 @@ ghost use Rattle.std.specs.Prelude.{◌≡◌, map, IfOk};
 ghost use Rattle.hashbag_ledger_db.specs.Filed.{plain_movement, AreInputRows};
 ghost use Rattle.hashbag_ledger_db.specs.Inputs.{name_and_kind, HasTextOf};
 
-use crate::troubles::{no_day, of_extras};
+use crate::columns::plain_extras;
+use crate::job::Job;
+use crate::troubles::{in_start, no_day, of_extras};
 use hashbag_csv::counts::{Reading, read_counts_as};
 use hashbag_csv::delimiter::Delimiter;
 use hashbag_csv::fault::{SheetError, in_file};
-use hashbag_ledger_args::columns::plain_extras;
-use hashbag_ledger_args::job::Job;
-use hashbag_ledger_args::start::in_start;
 use hashbag_ledger_lib::dates::is_date;
 use hashbag_ledger_lib::extras::{Extra, ExtraColumns, read_extras};
 use hashbag_ledger_lib::movements::Movement;

@@ -1,6 +1,7 @@
 //! What is shown of a stock: its balance, the history of an article, the batches, and the movements of a batch.
 ghost use Rattle.std.specs.Prelude.{◌≡◌, Ok, IfOk};
 
+use crate::job::Job;
 use crate::messages::{absent_text, unmoved_text};
 use crate::putting::in_database;
 use crate::stock::reading::{
@@ -9,7 +10,6 @@ use crate::stock::reading::{
 use crate::troubles::{moved_too_much, no_day, start_too_many};
 use crate::wanted::wanted_of;
 use hashbag_csv::scale::{Mark, Scale};
-use hashbag_ledger_args::job::Job;
 use hashbag_ledger_lib::balance_forms::{Form, formed_text, rows_of};
 use hashbag_ledger_lib::dated::{DatedError, balance_at};
 use hashbag_ledger_lib::dates::is_date;

@@ -1,4 +1,6 @@
 //! Why a subcommand doesn't do all that it is asked, as the trouble of a program.
+ghost use Rattle.std.specs.Prelude.{◌≡◌, IfOk};
+
 use crate::stock::error::StockError;
 use hashbag_csv::counts::Reading;
 use hashbag_csv::decimals::write_decimal;
@@ -9,6 +11,7 @@ use hashbag_ledger_lib::once::{Batch, Kind};
 use hashbag_shell::status::{
     BAD_INPUT, DENIED, ENTERED_BEFORE, IN_USE, IO_FAILED, TOTAL_TOO_LARGE,
 };
+use hashbag_shell::text::with_option;
 use hashbag_shell::trouble::Trouble;
 use sqlite::ErrorCode;
 use std::alloc::{AllocError, Global};
@@ -199,4 +202,22 @@ pub fn no_batch_named<'a>(alloc: Global) -> Trouble<'a> {
 pub fn undone_before<'a>(alloc: Global, db: &str, number: i64, by: i64) -> Trouble<'a> {
     let what = format!(in alloc; "{db}: batch {number} was undone by batch {by}");
     Trouble::with_status(what, DENIED)
+}
+
+/// Returns what was read. An error names the file of the stock at the beginning, as [`in_file`] names other files.
+///
+/// # Errors
+///
+/// `BadLine` if a line is bad; its message names `--start-encoding` if the text is in another encoding. `Memory` if an allocation failed or fails.
+pub fn in_start<T: Drop>(
+    alloc: Global,
+    file: &str,
+    read: Result<T, SheetError>,
+) -> Result<T, Trouble<'_>>
+    ensures { IfOk result (λ value. read ≡ Ok value) }
+{
+    match in_file(alloc, file, read) {
+        Ok(value) => Ok(value),
+        Err(trouble) => Err(with_option(alloc, trouble, "--start-encoding")),
+    }
 }

@@ -1,4 +1,5 @@
 //! A batch that is taken back, in an open database.
+use crate::job::Job;
 use crate::messages::{entered_text, movements_in};
 use crate::putting::{in_database, put as put_in};
 use crate::stages::{Stage, Stages};
@@ -6,7 +7,6 @@ use crate::stock::reading::{balance_of, batches_of, entered_of, time_of};
 use crate::stock::statements::NewRows;
 use crate::troubles::{start_too_many, too_large, undone_before};
 use crate::wanted::wanted_of;
-use hashbag_ledger_args::job::Job;
 use hashbag_ledger_lib::entering::LedgerError;
 use hashbag_ledger_lib::extras::{Extra, opposite_extras};
 use hashbag_ledger_lib::ledger::booking::Booked;

@@ -2,10 +2,10 @@
 ghost use Rattle.std.specs.Prelude.{◌≡◌, ◌↔◌, None, true, IfOk, OnOk};
 ghost use Rattle.hashbag_ledger_db.specs.Unkept.{EntersFileOf, EntersFiles, IsBegunFrom, IsEnteredOf, IsStartOf, has_refused, status_with};
 
+use crate::settings::Settings;
+use crate::troubles::in_start;
 use hashbag_csv::counts::read_counts_as;
 use hashbag_csv::fault::in_file;
-use hashbag_ledger_args::arguments::Settings;
-use hashbag_ledger_args::start::in_start;
 use hashbag_ledger_lib::ledger::{Entered, Ledger, end};
 use hashbag_ledger_lib::movements::Refusal;
 use hashbag_ledger_lib::output::{balance_text, refusals_table, refusals_text};

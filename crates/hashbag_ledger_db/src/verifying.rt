@@ -1,11 +1,11 @@
 //! A stock that is counted again from all its movements, in an open database.
+use crate::job::Job;
 use crate::putting::in_database;
 use crate::stages::{Stage, Stages};
 use crate::stock::reading::{Kept, everything_of};
 use hashbag_csv::counts::Reading;
 use hashbag_csv::decimals::write_decimal;
 use hashbag_csv::escaped::Escaped;
-use hashbag_ledger_args::job::Job;
 use hashbag_ledger_lib::entering::LedgerError;
 use hashbag_ledger_lib::extras::Extra;
 use hashbag_ledger_lib::ledger::booking::{Booked, book_batch, refusals_from};

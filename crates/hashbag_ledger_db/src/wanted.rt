@@ -1,6 +1,6 @@
 //! The batch that is asked for, by its number or the name of its file.
+use crate::job::Job;
 use crate::troubles::no_batch;
-use hashbag_ledger_args::job::Job;
 use hashbag_ledger_lib::once::{Batch, batch_of, undone_by};
 use hashbag_shell::trouble::Trouble;
 use std::alloc::Global;

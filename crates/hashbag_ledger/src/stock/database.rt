@@ -3,8 +3,8 @@ ghost use Rattle.std.specs.Prelude.{⊤};
 
 use crate::outputs::is_same;
 use crate::stock::stages::HostStages;
-use hashbag_ledger_args::job::Job;
 use hashbag_ledger_db::files::Databases;
+use hashbag_ledger_db::job::Job;
 use hashbag_ledger_db::putting::in_database;
 use hashbag_ledger_db::stages::{Stage, Stages};
 use hashbag_ledger_db::stock::error::StockError;

@@ -6,11 +6,11 @@ use crate::stock::database::{HostDatabases, ended, is_new, is_of_database, open,
 use crate::stock::say::{random_state, say};
 use crate::stock::stages::HostStages;
 use hashbag_csv::delimiter::Delimiter;
-use hashbag_ledger_args::command::PROGRAM;
-use hashbag_ledger_args::job::Job;
 use hashbag_ledger_db::closing::{Closed, begin_in, beginning_of, closed_in};
 use hashbag_ledger_db::entering::EnterReport;
 use hashbag_ledger_db::files::enter_named;
+use hashbag_ledger_db::job::Job;
+use hashbag_ledger_db::messages::PROGRAM;
 use hashbag_ledger_db::stages::{Stage, Stages};
 use hashbag_ledger_db::stock::tables::Contents;
 use hashbag_ledger_db::troubles;

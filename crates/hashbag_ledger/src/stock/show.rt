@@ -2,7 +2,7 @@
 use crate::stock::database::{ended, is_of_database, open};
 use crate::stock::say::{random_state, say};
 use crate::stock::stages::HostStages;
-use hashbag_ledger_args::job::Job;
+use hashbag_ledger_db::job::Job;
 use hashbag_ledger_db::showing::{
     Shown, balance_at_in, balance_in, batches_in, history_in, show_in,
 };

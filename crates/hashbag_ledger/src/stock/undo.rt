@@ -2,8 +2,8 @@
 use crate::stock::database::{ended, open};
 use crate::stock::say::{random_state, say};
 use crate::stock::stages::HostStages;
-use hashbag_ledger_args::command::PROGRAM;
-use hashbag_ledger_args::job::Job;
+use hashbag_ledger_db::job::Job;
+use hashbag_ledger_db::messages::PROGRAM;
 use hashbag_ledger_db::troubles;
 use hashbag_ledger_db::undoing::{UndoReport, undo_in};
 use hashbag_shell::output::write_text;

@@ -2,7 +2,7 @@
 use crate::stock::database::{ended, open};
 use crate::stock::say::random_state;
 use crate::stock::stages::HostStages;
-use hashbag_ledger_args::job::Job;
+use hashbag_ledger_db::job::Job;
 use hashbag_ledger_db::verifying::{Verdict, verify_in};
 use hashbag_shell::output::write_text;
 use hashbag_shell::status::{DENIED, DONE};

@@ -1,4 +1,4 @@
-use Rattle.hashbag_ledger_args.specs.Readings.{asked_style, plain_names}
+use Rattle.hashbag_ledger_db.specs.Readings.{asked_style, plain_names}
 use Rattle.hashbag_ledger_lib.specs.Movements.{names_now}
 use Rattle.hashbag_ledger_db.proofs.FormLemmas.{filed_as}
 use Rattle.hashbag_ledger_db.proofs.entering.filed_anew.Goals as goal

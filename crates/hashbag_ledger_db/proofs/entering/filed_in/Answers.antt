@@ -1,5 +1,5 @@
 use Rattle.std.proofs.lemmas.Result.{IfOk-weaker}
-use Rattle.hashbag_ledger_args.specs.Readings.{kept_names}
+use Rattle.hashbag_ledger_db.specs.Readings.{kept_names}
 use Rattle.hashbag_ledger_lib.specs.Movements.{names_now}
 use Rattle.hashbag_ledger_db.proofs.FormLemmas.{filed_on_kept}
 use Rattle.hashbag_ledger_db.proofs.entering.filed_in.Goals as goal

@@ -1,4 +1,4 @@
-use Rattle.hashbag_ledger_args.specs.Readings.{kept_names}
+use Rattle.hashbag_ledger_db.specs.Readings.{kept_names}
 use Rattle.hashbag_ledger_db.proofs.FormLemmas.{filed_by_contents}
 use Rattle.hashbag_ledger_db.proofs.entering.ready_in.Goals as goal
 

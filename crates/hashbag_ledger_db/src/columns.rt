@@ -1,6 +1,6 @@
 //! The names of columns that are given as one word.
 ghost use Rattle.std.specs.Prelude.{◌≡◌, IfOk, option_map, string_bytes};
-ghost use Rattle.hashbag_ledger_args.specs.Readings.{extras_now, kept_extras, kept_names, no_extras, plain_names};
+ghost use Rattle.hashbag_ledger_db.specs.Readings.{extras_now, kept_extras, kept_names, no_extras, plain_names};
 ghost use Rattle.hashbag_ledger_lib.specs.Movements.{names_now};
 
 use hashbag_ledger_lib::extras::ExtraColumns;
@@ -22,15 +22,6 @@ fn split_columns(names: &str) -> Option<Columns<&str>> {
         None => ChangeColumns::Signed(second),
     };
     Some(Columns { article, change })
-}
-
-// Returns the two names of a text with one comma, or `None` for any other text.
-fn split_pair(names: &str) -> Option<(&str, &str)> {
-    let (first, second) = names.split_once(',')?;
-    if second.contains(',') {
-        return None;
-    }
-    Some((first, second))
 }
 
 /// Returns the columns of movements with these names.
@@ -182,9 +173,9 @@ pub fn start_columns_of<'a>(
     alloc: Global,
     names: &'a str,
 ) -> Result<(&'a str, &'a str), Trouble<'a>> {
-    match split_pair(names) {
-        Some(pair) => Ok(pair),
-        None => {
+    match names.split_once(',') {
+        Some((article, number)) if !number.contains(',') => Ok((article, number)),
+        _ => {
             let what = format!(in alloc; "--start-columns takes two names: {names}")?;
             Err(Trouble::Arguments(what))
         }

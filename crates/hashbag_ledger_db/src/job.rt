@@ -1,10 +1,9 @@
 //! What is asked of a database, by a subcommand's arguments.
 ghost use Rattle.std.specs.Prelude.{◌≡◌};
-ghost use Rattle.hashbag_ledger_args.specs.Readings.{asked_style, encoding_of, extras_by, extras_now, names_by, style_by, IsReadingOf};
+ghost use Rattle.hashbag_ledger_db.specs.Readings.{asked_style, encoding_of, extras_by, extras_now, names_by, style_by, IsReadingOf};
 ghost use Rattle.hashbag_ledger_lib.specs.Movements.{names_now};
 
 use crate::columns::{columns_of, plain_columns, start_columns_of};
-use crate::command::START_COLUMNS;
 use clap::ArgMatches;
 use hashbag_csv::counts::Reading;
 use hashbag_csv::delimiter::Delimiter;
@@ -16,6 +15,7 @@ use hashbag_ledger_lib::reading::Columns;
 use hashbag_ledger_lib::style::Style;
 use hashbag_shell::options::{encoding, reports, word};
 use hashbag_shell::progress::Reports;
+use hashbag_shell::table::value;
 use hashbag_shell::trouble::Trouble;
 use hashbag_text::encoding::Encoding;
 use std::alloc::{AllocError, Global};
@@ -83,6 +83,9 @@ pub struct Job<'a> {
     pub into: &'a str,
 }
 
+// The columns of articles and of numbers for a subcommand without the option that names them.
+const START_COLUMNS: &str = "article,number";
+
 // Returns the words of the argument `name`, which is a list.
 fn words_of<'a>(
     alloc: Global,
@@ -97,9 +100,12 @@ fn words_of<'a>(
 }
 
 // Returns the files of movements: standard input if neither a file nor a stock at the beginning is named.
-fn files_of<'a>(alloc: Global, given: &ArgMatches<'a>) -> Result<Vec<&'a str>, AllocError> {
+pub(crate) fn files_of<'a>(
+    alloc: Global,
+    given: &ArgMatches<'a>,
+) -> Result<Vec<&'a str>, AllocError> {
     let mut files = words_of(alloc, given, "MOVES.csv")?;
-    if files.is_empty() && given.get_str("from").is_none() {
+    if files.is_empty() && given.get_str("--from").is_none() {
         files.push("-")?;
     }
     Ok(files)
@@ -107,17 +113,9 @@ fn files_of<'a>(alloc: Global, given: &ArgMatches<'a>) -> Result<Vec<&'a str>, A
 
 // Returns the mark before decimals, if it is named.
 fn mark_of(given: &ArgMatches<'_>) -> Option<Mark> {
-    match given.get_str("mark") {
+    match given.get_str("--mark") {
         Some(",") => Some(Mark::Comma),
         Some(_) => Some(Mark::Point),
-        None => None,
-    }
-}
-
-// Returns the delimiter of fields, if it is named.
-fn delimiter_of(given: &ArgMatches<'_>) -> Option<Delimiter> {
-    match given.get_str("delimiter") {
-        Some(name) => Some(Delimiter::named(name)),
         None => None,
     }
 }
@@ -135,8 +133,8 @@ fn extra_of<'a>(given: &ArgMatches<'a>, option: &str) -> Option<Option<&'a str>>
 // Returns the columns of dates and of notes that are named.
 fn extras_of<'a>(given: &ArgMatches<'a>) -> ExtraColumns<Option<&'a str>> {
     ExtraColumns {
-        date: extra_of(given, "date"),
-        note: extra_of(given, "note"),
+        date: extra_of(given, "--date"),
+        note: extra_of(given, "--note"),
     }
 }
 
@@ -147,45 +145,45 @@ impl<'a> Job<'a> {
     ///
     /// `Arguments` if columns have too few or too many names, `Memory` if an allocation fails.
     pub fn of(alloc: Global, given: &ArgMatches<'a>) -> Result<Job<'a>, Trouble<'a>> {
-        let columns = match given.get_str("columns") {
+        let columns = match given.get_str("--columns") {
             Some(names) => Some(columns_of(alloc, names)?),
             None => None,
         };
-        let start_columns = start_columns_of(alloc, word(given, "start-columns", START_COLUMNS))?;
-        let scale = match given.get_str("scale") {
-            Some(digits) => digits.parse().ok(),
-            None => None,
-        };
+        let start_columns = start_columns_of(alloc, word(given, "--start-columns", START_COLUMNS))?;
         Ok(Job {
-            db: given.get_str("db").unwrap_or(""),
-            wait: given.get_one::<usize>("wait").unwrap_or(5),
+            db: value(given, "--db"),
+            wait: given.get_one::<usize>("--wait").unwrap_or(0),
             files: files_of(alloc, given)?,
-            from: given.get_str("from"),
+            from: given.get_str("--from"),
             start_columns,
-            start_encoding: encoding(given, "start-encoding"),
-            encoding: encoding(given, "encoding"),
+            start_encoding: encoding(given, "--start-encoding"),
+            encoding: encoding(given, "--encoding"),
             columns,
             extras: extras_of(given),
-            on: given.get_str("on"),
-            from_on: given.get_str("from-on"),
-            at: given.get_str("at"),
-            scale,
+            on: given.get_str("--on"),
+            from_on: given.get_str("--from-on"),
+            at: given.get_str("--at"),
+            scale: given
+                .get_str("--scale")
+                .and_then(|digits| digits.parse().ok()),
             mark: mark_of(given),
-            delimiter: delimiter_of(given),
-            refused: given.get_str("refused"),
-            output: given.get_str("output"),
-            strict: given.get_flag("strict"),
-            enters_again: given.get_flag("again"),
-            form: Form::named(word(given, "to", "csv")),
+            delimiter: given
+                .get_str("--delimiter")
+                .map(|name| Delimiter::named(name)),
+            refused: given.get_str("--refused"),
+            output: given.get_str("--output"),
+            strict: given.get_flag("--strict"),
+            enters_again: given.get_flag("--again"),
+            form: Form::named(value(given, "--to")),
             counted: given.get_str("COUNTED.csv").unwrap_or("-"),
-            counts_all: given.get_flag("all"),
+            counts_all: given.get_flag("--all"),
             articles: words_of(alloc, given, "ARTICLE")?,
-            quantity: given.get_str("NUMBER").unwrap_or(""),
+            quantity: value(given, "NUMBER"),
             wanted_batch: given.get_str("BATCH"),
-            last: given.get_flag("last"),
-            quiet: given.get_flag("quiet"),
+            last: given.get_flag("--last"),
+            quiet: given.get_flag("--quiet"),
             reports: reports(given),
-            into: given.get_str("into").unwrap_or(""),
+            into: value(given, "--into"),
         })
     }
 

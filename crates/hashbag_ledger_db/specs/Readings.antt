@@ -6,9 +6,9 @@ use Rattle.hashbag_csv.specs.Decimals.{most_decimals}
 use Rattle.hashbag_csv.specs.declared.counts.Reading.{Reading}
 use Rattle.hashbag_csv.specs.declared.scale.Mark.{Mark}
 use Rattle.hashbag_csv.specs.declared.scale.Mark.TheVariants.{Point}
-use Rattle.hashbag_ledger_args.specs.declared.columns.KeptColumns.{KeptColumns}
-use Rattle.hashbag_ledger_args.specs.declared.columns.KeptExtras.{KeptExtras}
-use Rattle.hashbag_ledger_args.specs.declared.job.Job.{Job}
+use Rattle.hashbag_ledger_db.specs.declared.columns.KeptColumns.{KeptColumns}
+use Rattle.hashbag_ledger_db.specs.declared.columns.KeptExtras.{KeptExtras}
+use Rattle.hashbag_ledger_db.specs.declared.job.Job.{Job}
 use Rattle.hashbag_ledger_lib.specs.Extras.{columns_of}
 use Rattle.hashbag_ledger_lib.specs.Movements.{names_now}
 use Rattle.hashbag_ledger_lib.specs.Styles.{plain_style}
