@@ -1,15 +1,5 @@
 //! The encodings, by their names.
 
-/// The names of all encodings, UTF-8 first.
-pub static NAMES: [&str; 6] = [
-    "UTF-8",
-    "UTF-16",
-    "UTF-16LE",
-    "UTF-16BE",
-    "Latin-1",
-    "Windows-1252",
-];
-
 /// An encoding other than UTF-8.
 #[derive(Clone, Copy, PartialEq, Eq, Debug)]
 pub enum Encoding {
@@ -26,7 +16,7 @@ pub enum Encoding {
 }
 
 impl Encoding {
-    /// Returns the encoding with this name of [`NAMES`], in upper or lower case, and `None` for UTF-8 and for any other name.
+    /// Returns the encoding with this name, in upper or lower case, and `None` for `UTF-8` and for any other name.
     pub fn named(name: &str) -> Option<Encoding> {
         let is = |other: &str| name.eq_ignore_ascii_case(other);
         if is("UTF-16") {
