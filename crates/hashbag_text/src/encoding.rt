@@ -1,4 +1,7 @@
 //! The encodings, by their names.
+ghost use Rattle.std.specs.Prelude.{◌≡◌};
+ghost use Rattle.std.specs.Str.{str_eq_ignore_ascii_case};
+ghost use Rattle.hashbag_text.specs.Names.{encodings, named_in};
 
 /// An encoding other than UTF-8.
 #[derive(Clone, Copy, PartialEq, Eq, Debug)]
@@ -17,7 +20,10 @@ pub enum Encoding {
 
 impl Encoding {
     /// Returns the encoding with this name, in upper or lower case, and `None` for `UTF-8` and for any other name.
-    pub fn named(name: &str) -> Option<Encoding> {
+    pub fn named(name: &str) -> Option<Encoding>
+        // The meaning of the name in the table `encodings`.
+        ensures { result ≡ named_in encodings (str_eq_ignore_ascii_case name.now) }
+    {
         let is = |other: &str| name.eq_ignore_ascii_case(other);
         if is("UTF-16") {
             Some(Encoding::Utf16)
