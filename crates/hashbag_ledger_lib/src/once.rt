@@ -1,6 +1,6 @@
 //! The batches of a stock, their kinds, and whether a file was entered before.
 ghost use Rattle.std.specs.Prelude.{◌≡◌};
-ghost use Rattle.hashbag_ledger_lib.specs.Kinds.{name_of, undone_of, IsBatchOfDigest};
+ghost use Rattle.hashbag_ledger_lib.specs.Kinds.{name_of, undone_of, HasDigest, IsBatchWith, Undoes};
 
 /// The kind of a batch.
 #[derive(Clone, Copy, PartialEq, Eq, Debug)]
@@ -65,34 +65,23 @@ pub struct Batch {
 /// Returns the first batch whose file has this SHA-256, or `None`.
 pub fn entered_before<'a>(batches: &'a [Batch], sha256: &str) -> Option<&'a Batch>
     // The result is `None` exactly if no batch has this digest, else a batch of the list that has it.
-    ensures { IsBatchOfDigest sha256.now batches.now result }
+    ensures { IsBatchWith (HasDigest sha256.now) batches.now result }
 {
-    for batch in batches {
-        if batch.sha256.as_str() == sha256 {
-            return Some(batch);
-        }
-    }
-    None
+    batches.iter().find(|batch| batch.sha256.as_str() == sha256)
 }
 
 /// Returns the batch of this number, or `None`.
-pub fn batch_of(batches: &[Batch], number: i64) -> Option<&Batch> {
-    for batch in batches {
-        if batch.number == number {
-            return Some(batch);
-        }
-    }
-    None
+pub fn batch_of(batches: &[Batch], number: i64) -> Option<&Batch>
+    ensures { IsBatchWith (λ b. b.number ≡ number) batches.now result }
+{
+    batches.iter().find(|batch| batch.number == number)
 }
 
 /// Returns the first batch that undoes the batch of this number, or `None`.
-pub fn undone_by(batches: &[Batch], number: i64) -> Option<&Batch> {
-    for batch in batches {
-        if batch.undoes == Some(number) {
-            return Some(batch);
-        }
-    }
-    None
+pub fn undone_by(batches: &[Batch], number: i64) -> Option<&Batch>
+    ensures { IsBatchWith (Undoes number) batches.now result }
+{
+    batches.iter().find(|batch| batch.undoes == Some(number))
 }
 
 /// Returns the number of the next batch.

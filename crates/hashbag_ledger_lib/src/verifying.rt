@@ -1,11 +1,13 @@
 //! The kept balance and refusals, compared with those that are computed from the movements.
-ghost use Rattle.std.specs.Prelude.{◌≡◌, ◌≢◌, ◌≤◌, ◌↔◌, IsTrue, IsNone, IfNone, IfOk, IfSome, map, slice_get};
+ghost use Rattle.std.specs.Prelude.{◌≡◌, ◌≢◌, ◌≤◌, ◌↔◌, IsTrue, IsNone, IfNone, IfOk, IfSome, map, replicate, slice_get, take};
 ghost use Rattle.std.specs.Option.{option_copied, option_map};
+ghost use Rattle.hashbag_ledger_lib.specs.Kinds.{batch_number, numbers_of};
 ghost use Rattle.hashbag_ledger_lib.specs.Rows.{row, rows_of, kept_of, wrong_row, wrong_movement, AgreeBefore, IsFirstDifference, IsFirstWrongRow, article_with_both, lower_row_of, row_there};
 
 use crate::extras::Extra;
 use crate::movements::{Movement, Refusal};
 use crate::once::Batch;
+use crate::sealing::cut;
 use std::alloc::{AllocError, Global};
 use std::cmp::Ordering;
 
@@ -179,36 +181,29 @@ pub fn wrong_refusal(kept: &[KeptRefusal], counted: &[Refusal<String>]) -> Optio
     None
 }
 
-// How many movements and refusals have been read.
-#[derive(Clone, Copy)]
-struct Read {
-    movements: usize,
-    refusals: usize,
-}
-
-// Reads the movements of a batch and their refusals, and returns how many have then been read.
-fn read_batch(
-    movements: &[KeptMovement],
-    refusals: &[KeptRefusal],
-    batch: u64,
-    from: Read,
-) -> Read {
-    let mut read = from;
-    'movements: for _ in 0..movements.len() {
-        let Some(kept) = movements.get(read.movements) else {
-            break;
-        };
-        if kept.batch != batch {
-            break;
-        }
-        read.movements = read.movements.saturating_add(1);
-        if let Some(refusal) = refusals.get(read.refusals)
-            && refusal.movement == kept.movement.place.file
-        {
-            read.refusals = read.refusals.saturating_add(1);
+// Returns how many movements there are before the first one of another batch.
+fn own_of(movements: &[KeptMovement], batch: u64) -> u64
+    ensures { map batch_number (take result movements.now) ≡ replicate result batch }
+{
+    for i in 0..movements.len() {
+        if movements[i].batch != batch {
+            return i as u64;
         }
     }
-    read
+    movements.len() as u64
+}
+
+// Returns how many of these refusals, in turn, are of these movements.
+fn refusals_of(movements: &[KeptMovement], refusals: &[KeptRefusal]) -> u64 {
+    let mut read = 0usize;
+    for kept in movements {
+        if let Some(refusal) = refusals.get(read)
+            && refusal.movement == kept.movement.place.file
+        {
+            read = read.saturating_add(1);
+        }
+    }
+    read as u64
 }
 
 /// Returns the number of the first batch that has not as many movements or refusals as its row says. If all rows are right, but a
@@ -219,22 +214,22 @@ pub fn wrong_batch(
     batches: &[Batch],
     movements: &[KeptMovement],
     refusals: &[KeptRefusal],
-) -> Option<i64> {
-    let mut read = Read {
-        movements: 0,
-        refusals: 0,
-    };
-    for batch in batches {
-        let next = read_batch(movements, refusals, batch.number.unsigned_abs(), read);
-        let count = next.movements.saturating_sub(read.movements) as u64;
-        let refused = next.refusals.saturating_sub(read.refusals) as u64;
+) -> Option<i64>
+    // `None` only if each batch has the next movements, as many as its row says, and none is left over.
+    ensures { IsNone result → map batch_number movements.now ≡ numbers_of batches.now }
+{
+    let (mut rest, mut left, mut left_refusals) = (batches, movements, refusals);
+    'batches: while let Some((batch, others)) = rest.split_first() {
+        let count = own_of(left, batch.number.unsigned_abs());
+        let (own, later) = cut(left, count);
+        let refused = refusals_of(own, left_refusals);
         if count != batch.movements || refused != batch.refused {
             return Some(batch.number);
         }
-        read = next;
+        (rest, left, left_refusals) = (others, later, cut(left_refusals, refused).1);
     }
-    let kept = movements.get(read.movements)?;
-    i64::try_from(kept.batch).ok()
+    let kept = left.first()?;
+    Some(i64::try_from(kept.batch).unwrap_or(i64::MAX))
 }
 
 /// Returns the movements, in turn, and what they carry along.
