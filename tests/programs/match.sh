@@ -40,6 +40,7 @@ printf 'article\tlot\tnumber\nbolt\tx\t1\nbolt\ty\t2\n' > lots.csv
 printf 'sku\tbatch\tqty\nbolt\ty\t3\n' > qty.csv
 ends 1 "" lots.csv qty.csv --delimiter tab --key article,lot --delivered-key sku,batch --delivered-number qty --to csv
 has ../out 'article\tlot\tordered\tdelivered\tmissing\tsurplus\nbolt\tx\t1\t0\t1\t0\nbolt\ty\t2\t3\t0\t1\n' "two key columns"
+for how in "--key lot,lot" "--key article,lot --delivered-key lot,lot"; do ends 2 'hashbag_match: key column `lot` is named twice' lots.csv lots.csv --delimiter tab $how; done
 
 # Excel's "Unicode text" is UTF-16 with a mark, between tabs, and its CSV is Windows-1252, here between semicolons
 printf 'Stück\tMenge\r\n„Größe“\t2\r\n€\t3\r\n' > text.utf8

@@ -237,6 +237,7 @@ for how in "less tree whole" "common whole tree -o none/out" "merge --sorted tre
 # What is no text in UTF-8 by its first bytes is named, with what makes it that; and NUL bytes are never silent
 printf 'a\n' | gzip > packed.gz
 ends 2 "hashbag_words: packed.gz: gzip; \`zcat\` makes it text" packed.gz
+head -c 65536 text > later && cat packed.gz >> later && "$program" --lossy -q later > found || fail "the bytes that gzip begins with, behind the first block"
 printf '\377\376a\0\n\0' > wide.txt
 printf '\376\377\0a\0\n' > big.txt
 for name in wide.txt big.txt; do
