@@ -4,6 +4,7 @@ pub mod FiledLemmas
 pub mod FormLemmas
 pub mod InputLemmas
 pub mod InsideLemmas
+pub mod OnceLemmas
 pub mod RowLemmas
 pub mod StatementLemmas
 pub mod UnkeptLemmas

@@ -1,11 +1,12 @@
 -- What the inputs of a call do to the balance that is kept.
-use Rattle.std.specs.Prelude.{◌≡◌, ℕ, ◌^◌, ◌-◌, nat_lt, if◌then◌else◌, Bool, List, [], length, map, vec_len, String, string_cmp, Option, IfSome, IsSomeAnd, Result, IfOk}
+use Rattle.std.specs.Prelude.{◌≡◌, ℕ, ◌^◌, ◌-◌, nat_lt, if◌then◌else◌, Bool, false, List, [], length, map, vec_len, String, string_cmp, Option, None, IfSome, IsSomeAnd, Result, IfOk}
 use Rattle.std.specs.Borrow.{Bor}
 use Rattle.std.specs.Global.{Global, Vec}
 use Rattle.std.specs.String.{string_eq}
 use Rattle.hashbag_csv.specs.declared.counts.Reading.{Reading}
 use Rattle.hashbag_ledger_db.specs.Readings.{IsReadingOf, asked_style, kept_names, names_by, plain_names}
 use Rattle.hashbag_ledger_db.specs.declared.job.Job.{Job}
+use Rattle.hashbag_ledger_db.specs.Once.{AreNew}
 use Rattle.hashbag_ledger_db.specs.declared.before.Before.{Before}
 use Rattle.hashbag_ledger_db.specs.declared.entering.Ready.{Ready}
 use Rattle.hashbag_ledger_db.specs.declared.entering.EnterReport.{EnterReport}
@@ -86,13 +87,19 @@ abbrev pub style_in : Contents → Job → Style
 style_in Empty job = asked_style job
 style_in (Stock style) job = style
 
--- `ready` is what the inputs do to a database with these contents. They are read by the options of the job, and without an option by what the
--- database keeps. A database without a stock keeps the default columns, delimiter and mark, and the decimals that the job asks for
+-- if the database has a stock, P holds of its style
+abbrev pub IfStock : Contents → (Style → Type 0) → Type 0
+IfStock contents P = (style : Style) → contents ≡ Stock style → P style
+
+-- `ready` is what the inputs do to a database with these contents, in which no file is entered twice, and no stock begins twice. They are read by
+-- the options of the job, and without an option by what the database keeps. A database without a stock keeps the default columns, delimiter and mark, and the decimals that the job asks for
 pub record IsFiledIn (job : Job) (contents : Contents) (inputs : List Input) (ready : Ready) : Type 0 where
   pub is : ready.before.contents ≡ contents
   pub empty : contents ≡ Empty → ready.before.balance.items ≡ []
   pub new : contents ≡ Empty → kept_names ready.before.columns ≡ plain_names
   pub rising : Rises ready.before.balance.items
+  pub once : job.enters_again ≡ false → AreNew inputs ready.before.batches.items
+  pub begun : IfStock contents (λ _. job.from ≡ None)
   pub all : IsFiledOn job (style_in contents job) ready.before inputs ready.filed
 
 -- whether a movement was refused
@@ -110,10 +117,6 @@ IsAnewIfThere job inputs anew = IfSome anew (IsFiledAnew job inputs)
 -- if `IsAnewIfThere` holds of `anew`, a result that is `Ok` is what the inputs do to an empty stock
 abbrev pub ReturnsAnew : {E : Type 0} → Job → List Input → Option Filed → Result Filed E → Type 0
 ReturnsAnew job inputs anew result = IsAnewIfThere job inputs anew → IfOk result (IsFiledAnew job inputs)
-
--- if the database has a stock, P holds of its style
-abbrev pub IfStock : Contents → (Style → Type 0) → Type 0
-IfStock contents P = (style : Style) → contents ≡ Stock style → P style
 
 -- a `Ready` is there, and is what the inputs do to the balance that was read from the database
 abbrev pub IsSomeFiled : Job → Contents → List Input → Option Ready → Type 0

@@ -2,6 +2,7 @@ pub mod Commits
 pub mod Counted
 pub mod Filed
 pub mod Inputs
+pub mod Once
 pub mod Readings
 pub mod Rows
 pub mod Statements

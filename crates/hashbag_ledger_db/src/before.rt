@@ -1,6 +1,8 @@
 //! What a database has before the inputs of a job are entered. Only [`before_in`] makes a `Before`, so a `Before` is what was read from the
 //! database.
-ghost use Rattle.std.specs.Prelude.{◌≡◌, [], IfOk};
+ghost use Rattle.std.specs.Prelude.{◌≡◌, [], None, false, IfOk, OnOk};
+ghost use Rattle.hashbag_ledger_db.specs.Filed.{IfStock};
+ghost use Rattle.hashbag_ledger_db.specs.Once.{AreNew, IsNewIfOnce};
 ghost use Rattle.hashbag_ledger_db.specs.Readings.{extras_now, kept_extras, kept_names, no_extras, plain_names};
 ghost use Rattle.hashbag_ledger_lib.specs.Changes.{Rises};
 ghost use Rattle.hashbag_ledger_lib.specs.Movements.{names_now};
@@ -30,9 +32,8 @@ pub struct Before {
     columns: KeptColumns,
     // The columns of dates and of notes that the database keeps.
     extras: KeptExtras,
-    // The number of the next batch.
-    number: i64,
-    movements: u64,
+    // All batches.
+    batches: Vec<Batch>,
 }
 
 impl Before {
@@ -58,42 +59,72 @@ impl Before {
     }
 
     /// Returns the number of the next batch.
-    pub fn number(&self) -> i64
-        ensures { result ≡ self.now.number }
-    {
-        self.number
+    pub fn number(&self) -> i64 {
+        next_number(&self.batches)
     }
 
     /// Returns how many movements there are.
-    pub fn movements(&self) -> u64
-        ensures { result ≡ self.now.movements }
-    {
-        self.movements
+    pub fn movements(&self) -> u64 {
+        movements_in(&self.batches)
     }
 }
 
-// Fails if a file was entered before, or if two of the files have the same bytes. Standard input, and a file without movements, may be entered
-// again.
+// Fails if a file was entered before, or has the bytes of an earlier input. Standard input, and a file without movements, may be entered again.
+fn check_new<'a>(
+    alloc: Global,
+    input: &Input<'a>,
+    earlier: &[Input<'a>],
+    batches: &[Batch],
+) -> Result<(), Trouble<'a>>
+    ensures { OnOk result (IsNewIfOnce batches.now earlier.now input.now) }
+{
+    if !is_once(input) {
+        return Ok(());
+    }
+    let digest = input.sha256.as_str();
+    if let Some(batch) = entered_before(batches, digest) {
+        return Err(entered_as(alloc, input.file, batch));
+    }
+    match earlier.iter().find(|other| other.sha256.as_str() == digest) {
+        Some(other) => Err(same_bytes(alloc, input.file, other.file)),
+        None => Ok(()),
+    }
+}
+
+/// Fails if a file was entered before, or if two of the files have the same bytes.
 pub(crate) fn entered_twice<'a>(
     alloc: Global,
     inputs: &[Input<'a>],
     batches: &[Batch],
-) -> Result<(), Trouble<'a>> {
+) -> Result<(), Trouble<'a>>
+    ensures { OnOk result (AreNew inputs.now batches.now) }
+{
     for i in 0..inputs.len() {
-        let input = &inputs[i];
-        if !is_once(input) {
-            continue;
-        }
-        if let Some(batch) = entered_before(batches, input.sha256.as_str()) {
-            return Err(entered_as(alloc, input.file, batch));
-        }
-        for other in &inputs[..i] {
-            if other.sha256.as_str() == input.sha256.as_str() {
-                return Err(same_bytes(alloc, input.file, other.file));
-            }
-        }
+        check_new(alloc, &inputs[i], &inputs[..i], batches)?;
     }
     Ok(())
+}
+
+// Returns the batches that a database has, if the inputs may be entered after them.
+fn batches_before<'a, D: Alter>(
+    alloc: Global,
+    job: &Job<'a>,
+    inputs: &[Input<'a>],
+    conn: &mut Connection<D>,
+    contents: Contents,
+) -> Result<Vec<Batch>, Trouble<'a>>
+    ensures once { job.now.enters_again ≡ false → IfOk result (λ batches. AreNew inputs.now batches.items) }
+    ensures begun { IfOk result (λ _. IfStock contents (λ _. job.now.from ≡ None)) }
+{
+    let batches = match contents {
+        Contents::Empty => Vec::new(alloc),
+        Contents::Stock(_) if job.from.is_some() => return Err(has_stock(alloc, job.db)),
+        Contents::Stock(_) => in_database(alloc, job.db, batches_of(alloc, conn))?,
+    };
+    if !job.enters_again {
+        entered_twice(alloc, inputs, &batches)?;
+    }
+    Ok(batches)
 }
 
 /// Returns the columns of movements that a stock keeps.
@@ -151,7 +182,12 @@ pub fn before_in<'a, D: Alter>(
 
     // The articles of the balance are in ascending order, each once.
     ensures rising { IfOk result (λ before. Rises before.balance.items) }
+
+    // No file is entered twice, unless the job says so. A stock doesn't begin twice.
+    ensures once { job.now.enters_again ≡ false → IfOk result (λ before. AreNew inputs.now before.batches.items) }
+    ensures begun { IfOk result (λ _. IfStock contents (λ _. job.now.from ≡ None)) }
 {
+    let batches = batches_before(alloc, job, inputs, conn, contents)?;
     let Contents::Stock(_) = contents else {
         return Ok(Before {
             contents,
@@ -161,25 +197,16 @@ pub fn before_in<'a, D: Alter>(
                 date: None,
                 note: None,
             },
-            number: 1,
-            movements: 0,
+            batches,
         });
     };
     let db = job.db;
-    if job.from.is_some() {
-        return Err(has_stock(alloc, db));
-    }
-    let batches = in_database(alloc, db, batches_of(alloc, conn))?;
-    if !job.enters_again {
-        entered_twice(alloc, inputs, &batches)?;
-    }
     let balance = in_database(alloc, db, balance_of(alloc, conn))?;
     Ok(Before {
         contents,
         balance,
         columns: kept_columns(alloc, db, conn)?,
         extras: kept_extras(alloc, db, conn)?,
-        number: next_number(&batches),
-        movements: movements_in(&batches),
+        batches,
     })
 }

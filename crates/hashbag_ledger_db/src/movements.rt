@@ -2,6 +2,7 @@
 ghost use Rattle.std.specs.Prelude.{◌≡◌, map, IfOk};
 ghost use Rattle.hashbag_ledger_db.specs.Filed.{plain_movement, AreInputRows};
 ghost use Rattle.hashbag_ledger_db.specs.Inputs.{name_and_kind, HasTextOf};
+ghost use Rattle.hashbag_ledger_db.specs.Once.{comes_once, ends_line, has_content, has_rows};
 
 use crate::columns::plain_extras;
 use crate::job::Job;
@@ -61,21 +62,41 @@ pub fn input_of<'a>(
     })
 }
 
+// Returns whether a byte ends a line.
+fn ends_line(byte: u8) -> bool
+    ensures { result ≡ ends_line byte }
+{
+    byte == b'\n' || byte == b'\r'
+}
+
+// Returns whether one of these bytes ends no line.
+fn has_content(bytes: &[u8]) -> bool
+    ensures { result ≡ has_content bytes.now }
+{
+    for i in 0..bytes.len() {
+        if !ends_line(bytes[i]) {
+            return true;
+        }
+    }
+    false
+}
+
 // Returns whether a text of CSV has a line after its header that isn't empty.
-fn has_rows(text: &[u8]) -> bool {
-    let mut is_behind = false;
-    for byte in text {
-        match *byte {
-            b'\n' | b'\r' => is_behind = true,
-            _ if is_behind => return true,
-            _ => {}
+fn has_rows(text: &[u8]) -> bool
+    ensures { result ≡ has_rows text.now }
+{
+    for i in 0..text.len() {
+        if ends_line(text[i]) {
+            return has_content(&text[i..]);
         }
     }
     false
 }
 
 /// Returns whether an input may be entered only once: it is a file, not standard input, and has movements.
-pub fn is_once(input: &Input<'_>) -> bool {
+pub fn is_once(input: &Input<'_>) -> bool
+    ensures { result ≡ comes_once input.now }
+{
     input.file != "-" && has_rows(input.text.as_slice())
 }
 

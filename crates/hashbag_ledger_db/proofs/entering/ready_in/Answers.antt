@@ -8,6 +8,8 @@ returns g c known = record {
   empty = c.in_ok-before.ensures.empty;
   new = c.in_ok-before.ensures.new;
   rising = c.in_ok-before.ensures.rising;
+  once = c.in_ok-before.ensures.once;
+  begun = c.in_ok-before.ensures.begun;
   all = filed_by_contents c.args.job.now c.args.contents c.args.inputs.now (kept_names c.in_ok-before.before.columns) c.in_ok-before.before.balance.items c.in_ok-filed.filed c.in_ok-before.ensures.empty
       c.in_ok-before.ensures.new (λ e. c.in_ok-filed.ensures.empty e known) c.in_ok-filed.ensures.stock;
 }
