@@ -8,3 +8,4 @@ pub mod OnceLemmas
 pub mod RowLemmas
 pub mod StatementLemmas
 pub mod UnkeptLemmas
+pub mod VerifiedLemmas

@@ -7,3 +7,4 @@ pub mod Readings
 pub mod Rows
 pub mod Statements
 pub mod Unkept
+pub mod Verified

@@ -1,8 +1,12 @@
-//! A stock that is counted again from all its movements, in an open database.
+//! A stock that is counted again from all its movements. Only [`kept_in`] makes a `Kept`, so a `Kept` is what was read from the database.
+ghost use Rattle.std.specs.Prelude.{◌≡◌, ◌↔◌, IfOk, IsNone};
+ghost use Rattle.hashbag_ledger_db.specs.Verified.{AgreesWithMovements, AreAsBooked, IsTrueOf};
+ghost use Rattle.hashbag_ledger_lib.specs.Rows.{rows_of};
+
 use crate::job::Job;
 use crate::putting::in_database;
 use crate::stages::{Stage, Stages};
-use crate::stock::reading::{Kept, everything_of};
+use crate::stock::reading::{balance_of, batches_of, movements_of, refusals_of};
 use hashbag_csv::counts::Reading;
 use hashbag_csv::decimals::write_decimal;
 use hashbag_csv::escaped::Escaped;
@@ -14,12 +18,43 @@ use hashbag_ledger_lib::once::Batch;
 use hashbag_ledger_lib::sealing::wrong_seal;
 use hashbag_ledger_lib::style::Style;
 use hashbag_ledger_lib::verifying::{
-    KeptRefusal, movements_from, wrong_batch, wrong_number, wrong_refusal,
+    KeptMovement, KeptRefusal, movements_from, wrong_batch, wrong_number, wrong_refusal,
 };
 use hashbag_shell::trouble::Trouble;
 use sqlite::{Alter, Connection};
 use std::alloc::{AllocError, Global};
 use std::hash::BuildHasher;
+
+/// All that a stock keeps.
+#[derive(Drop)]
+pub struct Kept {
+    // All movements, in turn; `place.file` is the number of the movement.
+    movements: Vec<KeptMovement>,
+    // All refusals, in turn.
+    refusals: Vec<KeptRefusal>,
+    // The balance, articles in ascending order.
+    balance: Vec<(String, usize)>,
+    // All batches, in turn.
+    batches: Vec<Batch>,
+}
+
+/// Returns all that an open database keeps of a stock.
+///
+/// # Errors
+///
+/// Why it can't be read.
+pub fn kept_in<'a, D: Alter>(
+    alloc: Global,
+    db: &'a str,
+    conn: &mut Connection<D>,
+) -> Result<Kept, Trouble<'a>> {
+    Ok(Kept {
+        movements: in_database(alloc, db, movements_of(alloc, conn))?,
+        refusals: in_database(alloc, db, refusals_of(alloc, conn))?,
+        balance: in_database(alloc, db, balance_of(alloc, conn))?,
+        batches: in_database(alloc, db, batches_of(alloc, conn))?,
+    })
+}
 
 // Returns the first article whose row of the balance isn't what the movements make.
 fn wrong_article(
@@ -27,7 +62,9 @@ fn wrong_article(
     reading: Reading,
     balance: &[(String, usize)],
     counted: &[(String, usize)],
-) -> Result<Option<String>, AllocError> {
+) -> Result<Option<String>, AllocError>
+    ensures { IfOk result (λ wrong. IsNone wrong ↔ (rows_of balance.now ≡ rows_of counted.now)) }
+{
     let Some(wrong) = wrong_number(balance, counted) else {
         return Ok(None);
     };
@@ -47,7 +84,9 @@ fn wrong_row(
     refusals: &[KeptRefusal],
     extras: &[Extra],
     booked: Booked<String>,
-) -> Result<Option<String>, AllocError> {
+) -> Result<Option<String>, AllocError>
+    ensures { IfOk result (λ wrong. IsNone wrong → AreAsBooked style.scale batches.now balance.now refusals.now extras.now booked) }
+{
     if let Some(message) = wrong_article(alloc, reading, balance, &booked.balance)? {
         return Ok(Some(message));
     }
@@ -77,7 +116,9 @@ fn difference_of<'a, S: BuildHasher + Drop>(
     kept: Kept,
     style: Style,
     reading: Reading,
-) -> Result<Option<String>, Trouble<'a>> {
+) -> Result<Option<String>, Trouble<'a>>
+    ensures { IfOk result (λ wrong. IsNone wrong → AgreesWithMovements style.scale kept) }
+{
     let Kept {
         movements,
         refusals,
@@ -130,22 +171,24 @@ pub enum Verdict {
     Differs(String),
 }
 
-/// Counts all movements of an open database again, and compares the balance, the refusals and the seals that are kept.
+/// Counts all movements of a stock again, and compares the balance, the refusals and the seals that are kept.
 ///
 /// # Errors
 ///
-/// Why they can't be read.
-pub fn verify_in<'a, D: Alter, S: BuildHasher + Drop, G: Stages>(
+/// An allocation fails.
+pub fn verdict_of<'a, S: BuildHasher + Drop, G: Stages>(
     alloc: Global,
     state: S,
     stages: &G,
     job: &Job<'a>,
     style: Style,
-    conn: &mut Connection<D>,
-) -> Result<Verdict, Trouble<'a>> {
+    kept: Kept,
+) -> Result<Verdict, Trouble<'a>>
+    // `Agrees` only if each batch has the movements that its row says, and its seal, and the movements, entered again, leave the balance and the
+    // refusals that are kept.
+    ensures { IfOk result (IsTrueOf style.scale kept) }
+{
     let db = job.db;
-    stages.begin(Stage::Reading);
-    let kept = in_database(alloc, db, everything_of(alloc, conn))?;
     stages.begin(Stage::Booking(kept.movements.len()));
     let message = agreement(
         alloc,

@@ -3,7 +3,8 @@ use crate::stock::database::{ended, open};
 use crate::stock::say::random_state;
 use crate::stock::stages::HostStages;
 use hashbag_ledger_db::job::Job;
-use hashbag_ledger_db::verifying::{Verdict, verify_in};
+use hashbag_ledger_db::stages::{Stage, Stages};
+use hashbag_ledger_db::verifying::{Verdict, kept_in, verdict_of};
 use hashbag_shell::output::write_text;
 use hashbag_shell::status::{DENIED, DONE};
 use hashbag_shell::trouble::Trouble;
@@ -17,8 +18,9 @@ fn verdict<'a>(
 ) -> Result<Verdict, Trouble<'a>> {
     let state = random_state(rt)?;
     let (mut conn, style) = open(rt, stages, job)?;
-    let verdict = verify_in(rt.alloc(), state, stages, job, style, &mut conn);
-    ended(conn, verdict)
+    stages.begin(Stage::Reading);
+    let kept = kept_in(rt.alloc(), job.db, &mut conn);
+    verdict_of(rt.alloc(), state, stages, job, style, ended(conn, kept)?)
 }
 
 /// Counts all movements again, compares the balance, the refusals and the seals that are kept, and says whether they agree.

@@ -296,33 +296,3 @@ pub fn movements_of_article<S: Alter>(
     let rest = "WHERE m.article = ?1";
     movements_with_extras(alloc, conn, "m.batch", rest, params![article])
 }
-
-/// All that a stock keeps.
-#[derive(Drop)]
-pub struct Kept {
-    /// All movements, in turn: [`movements_of`].
-    pub movements: Vec<KeptMovement>,
-    /// All refusals, in turn.
-    pub refusals: Vec<KeptRefusal>,
-    /// The balance, articles in ascending order.
-    pub balance: Vec<(String, usize)>,
-    /// All batches, in turn.
-    pub batches: Vec<Batch>,
-}
-
-/// Returns all that a stock keeps.
-///
-/// # Errors
-///
-/// Same as [`balance_of`] and [`batches_of`].
-pub fn everything_of<S: Alter>(
-    alloc: Global,
-    conn: &mut Connection<S>,
-) -> Result<Kept, StockError> {
-    Ok(Kept {
-        movements: movements_of(alloc, conn)?,
-        refusals: refusals_of(alloc, conn)?,
-        balance: balance_of(alloc, conn)?,
-        batches: batches_of(alloc, conn)?,
-    })
-}
