@@ -7,5 +7,6 @@ pub mod InsideLemmas
 pub mod OnceLemmas
 pub mod RowLemmas
 pub mod StatementLemmas
+pub mod UndoneLemmas
 pub mod UnkeptLemmas
 pub mod VerifiedLemmas

@@ -6,5 +6,6 @@ pub mod Once
 pub mod Readings
 pub mod Rows
 pub mod Statements
+pub mod Undone
 pub mod Unkept
 pub mod Verified

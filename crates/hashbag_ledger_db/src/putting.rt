@@ -1,5 +1,6 @@
 //! What is written into a database, and the errors of databases.
-ghost use Rattle.std.specs.Prelude.{◌≡◌, Ok, IfOk};
+ghost use Rattle.std.specs.Prelude.{◌≡◌, Ok, IfOk, OnOk};
+ghost use Rattle.hashbag_ledger_db.specs.Undone.{IsPut};
 
 use crate::stock::error::StockError;
 use crate::stock::statements::{NewRows, NewStock};
@@ -38,6 +39,9 @@ pub fn put<'a, D: Alter>(
     conn: &mut Connection<D>,
     new_stock: Option<NewStock<'_>>,
     new: NewRows<'_>,
-) -> Result<(), Trouble<'a>> {
+) -> Result<(), Trouble<'a>>
+    // If the disk doesn't fail: what the statements of `new` make is committed.
+    ensures { OnOk result (IsPut D.Store new_stock.entry new.entry conn.old conn.new) }
+{
     in_database(alloc, db, put_batches(alloc, conn, new_stock, new))
 }

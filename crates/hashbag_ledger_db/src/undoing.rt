@@ -1,16 +1,24 @@
-//! A batch that is taken back, in an open database.
+//! A batch that is taken back, in an open database. Only [`found_in`] makes a `Found`, so a `Found` is what was read from the database.
+ghost use Rattle.std.specs.Prelude.{◌≡◌, All, IfOk, string_cmp};
+ghost use Rattle.std.specs.String.{string_eq};
+ghost use Rattle.hashbag_ledger_db.specs.Undone.{IsUndoOf, IsUndone, IsUndoPut, MayBeUndone};
+ghost use Rattle.hashbag_ledger_lib.specs.Changes.{Rises};
+ghost use Rattle.hashbag_ledger_lib.specs.Kinds.{Undoes};
+ghost use Rattle.hashbag_ledger_lib.specs.Settled.{listed};
+ghost use Rattle.hashbag_ledger_lib.specs.Undos.{EntersOrRefuses, IsChangedBy, IsUndo};
+
 use crate::job::Job;
 use crate::messages::{entered_text, movements_in};
 use crate::putting::{in_database, put as put_in};
 use crate::stages::{Stage, Stages};
-use crate::stock::reading::{balance_of, batches_of, entered_of, time_of};
+use crate::stock::reading::{EnteredBatch, balance_of, batches_of, entered_of, time_of};
 use crate::stock::statements::NewRows;
 use crate::troubles::{start_too_many, too_large, undone_before};
 use crate::wanted::wanted_of;
 use hashbag_ledger_lib::entering::LedgerError;
 use hashbag_ledger_lib::extras::{Extra, opposite_extras};
 use hashbag_ledger_lib::ledger::booking::Booked;
-use hashbag_ledger_lib::movements::{Movement, Refusal};
+use hashbag_ledger_lib::movements::{Entry, Movement, Refusal};
 use hashbag_ledger_lib::once::{Batch, Kind, next_number, undone_by};
 use hashbag_ledger_lib::output::refusals_text;
 use hashbag_ledger_lib::pairs::unzip;
@@ -24,85 +32,125 @@ use sqlite::{Alter, Connection};
 use std::alloc::{AllocError, Global};
 use std::hash::BuildHasher;
 
-// What is known of the batch that is to be undone.
+// What the row of an undo is made of, other than its movements.
 #[derive(Drop)]
-struct Found {
-    number: i64,
+struct Source {
+    // The file of the batch that is undone.
     file: String,
-    // The number that the batch of the undo will have.
-    undo_number: i64,
-    // How many movements there are before the undo.
-    movements: u64,
+    // All batches, in turn.
+    batches: Vec<Batch>,
+    // The current time.
+    time: String,
 }
 
-// What is reported of an undo: its refusals, or the message about the batch that it enters.
+/// A batch that may be undone, and the balance, as they were read from a database.
 #[derive(Drop)]
-struct Undone {
-    refusals: Vec<Refusal<String>>,
-    message: String,
+pub struct Found {
+    // The movements of the batch.
+    entered: EnteredBatch,
+    // The balance, articles in ascending order.
+    balance: Vec<(String, usize)>,
+    source: Source,
 }
 
-// Returns what is known of the batch that is asked for, if it may be undone.
-fn found_of<'a>(alloc: Global, job: &Job<'a>, batches: &[Batch]) -> Result<Found, Trouble<'a>> {
+// Returns the batch that is asked for, if no batch undoes it.
+fn undoable<'a, 'b>(
+    alloc: Global,
+    job: &Job<'a>,
+    batches: &'b [Batch],
+) -> Result<&'b Batch, Trouble<'a>>
+    ensures { IfOk result (λ batch. All (λ b. ¬ (Undoes batch.now.number b)) batches.now) }
+{
     let batch = wanted_of(alloc, job, batches)?;
     match undone_by(batches, batch.number) {
         Some(other) => Err(undone_before(alloc, job.db, batch.number, other.number)),
-        None => Ok(Found {
-            number: batch.number,
-            file: batch.file.clone()?,
-            undo_number: next_number(batches),
-            movements: movements_in(batches),
-        }),
+        None => Ok(batch),
     }
 }
 
-// Writes the undo of a batch, and returns the message about the batch of the undo.
+/// Reads the batch that is asked for from an open database, and the balance.
+///
+/// # Errors
+///
+/// Why the batch may not be undone, or why the database can't be read.
+pub fn found_in<'a, D: Alter>(
+    alloc: Global,
+    job: &Job<'a>,
+    conn: &mut Connection<D>,
+) -> Result<Found, Trouble<'a>>
+    // No batch undoes it. So no batch is undone twice.
+    ensures { IfOk result MayBeUndone }
+{
+    let db = job.db;
+    let batches = in_database(alloc, db, batches_of(alloc, conn))?;
+    let batch = undoable(alloc, job, &batches)?;
+    let file = batch.file.clone()?;
+    let entered = in_database(alloc, db, entered_of(alloc, conn, batch.number))?;
+    Ok(Found {
+        entered,
+        balance: in_database(alloc, db, balance_of(alloc, conn))?,
+        source: Source {
+            file,
+            batches,
+            time: in_database(alloc, db, time_of(conn))?,
+        },
+    })
+}
+
+// Returns the row of the batch of an undo. `number` is the number of the batch that is undone.
+fn rows_of_undo(
+    alloc: Global,
+    style: Style,
+    number: i64,
+    source: &Source,
+    entries: &[Entry<String>],
+    extras: &[Extra],
+) -> Result<Vec<Batch>, AllocError>
+    ensures { IfOk result (λ rows. IsUndoOf number rows.items) }
+{
+    let draft = Draft {
+        number: next_number(&source.batches),
+        file: source.file.as_str(),
+        sha256: "",
+        kind: Kind::Undo(number),
+        time: source.time.as_str(),
+        movements: entries.len() as u64,
+    };
+    let rows = sealed_rows(alloc, style.scale, [draft].as_slice(), entries, extras)?;
+    Ok(rows)
+}
+
+// Writes the undo of the batch of this number, and returns the message about the batch of the undo.
 fn put<'a, D: Alter>(
     alloc: Global,
     conn: &mut Connection<D>,
     db: &'a str,
     style: Style,
-    found: &Found,
+    number: i64,
+    source: &Source,
     booked: &Booked<String>,
     extras: &[Extra],
     changed: &[RowChange],
-) -> Result<String, Trouble<'a>> {
-    let time = in_database(alloc, db, time_of(conn))?;
-    let draft = Draft {
-        number: found.undo_number,
-        file: found.file.as_str(),
-        sha256: "",
-        kind: Kind::Undo(found.number),
-        time: time.as_str(),
-        movements: booked.entries.len() as u64,
-    };
+) -> Result<String, Trouble<'a>>
+    ensures { IfOk result (λ _. IsUndoPut D.Store number booked.now changed.now conn.old conn.new) }
+{
+    let before = movements_in(&source.batches);
     let entries = &booked.entries;
-    let batches = sealed_rows(alloc, style.scale, [draft].as_slice(), entries, extras)?;
+    let batches = rows_of_undo(alloc, style, number, source, entries, extras)?;
+    let message = entered_text(alloc, db, before, &batches)?;
     let new = NewRows {
-        first: found.movements.saturating_add(1),
+        first: before.saturating_add(1),
         batches: &batches,
         entries,
         extras,
         changed,
     };
-    let message = entered_text(alloc, db, found.movements, &batches)?;
     put_in(alloc, db, conn, None, new)?;
     Ok(message)
 }
 
-// Returns what is known of the batch that is asked for, if it may be undone.
-fn found_in<'a, D: Alter>(
-    alloc: Global,
-    conn: &mut Connection<D>,
-    job: &Job<'a>,
-    style: Style,
-) -> Result<Found, Trouble<'a>> {
-    let batches = in_database(alloc, job.db, batches_of(alloc, conn))?;
-    found_of(alloc, job, &batches)
-}
-
 // Undoes these movements in a stock with this balance, all or none. Returns the undo, and the changes of the balance's rows.
-fn undo_of<'a, S: BuildHasher + Drop>(
+fn booked_of<'a, S: BuildHasher + Drop>(
     alloc: Global,
     state: S,
     job: &Job<'a>,
@@ -110,7 +158,11 @@ fn undo_of<'a, S: BuildHasher + Drop>(
     file: &str,
     kept: &[(String, usize)],
     entered: Vec<Movement<String>>,
-) -> Result<(Undo<String>, Vec<RowChange>), Trouble<'a>> {
+) -> Result<(Undo<String>, Vec<RowChange>), Trouble<'a>>
+    ensures undo { IfOk result (λ u. IsUndo string_eq string_cmp (listed string_eq kept.now) entered.items u.0) }
+    ensures entries { IfOk result (λ u. EntersOrRefuses string_eq kept.now entered.items u.0) }
+    ensures changed { IfOk result (λ u. Rises kept.now → IsChangedBy kept.now u.0 u.1.items) }
+{
     match undo_batch(alloc, state, kept, entered) {
         Ok(undone) => Ok(undone),
         Err(LedgerError::TooMany(place)) => {
@@ -118,39 +170,6 @@ fn undo_of<'a, S: BuildHasher + Drop>(
         }
         Err(LedgerError::StartTooMany) => Err(start_too_many(alloc, job.db)),
         Err(LedgerError::Memory) => Err(Trouble::Memory),
-    }
-}
-
-// Takes the batch back in an open database. Returns the refusals, or the message about the batch of the undo.
-fn take_back_in<'a, D: Alter, S: BuildHasher + Drop, G: Stages>(
-    alloc: Global,
-    state: S,
-    stages: &G,
-    job: &Job<'a>,
-    style: Style,
-    conn: &mut Connection<D>,
-    found: &Found,
-) -> Result<Undone, Trouble<'a>> {
-    let db = job.db;
-    let entered = in_database(alloc, db, entered_of(alloc, conn, found.number))?;
-    let extras = opposite_extras(alloc, &entered)?;
-    let (entered, _) = unzip(alloc, entered)?;
-    let kept = in_database(alloc, db, balance_of(alloc, conn))?;
-    let file = found.file.as_str();
-    stages.begin(Stage::Booking(entered.len()));
-    let (undo, changed) = undo_of(alloc, state, job, style, file, &kept, entered)?;
-    match undo {
-        Undo::Refused(refusals) => Ok(Undone {
-            refusals,
-            message: String::new(alloc),
-        }),
-        Undo::Done(booked) => {
-            stages.begin(Stage::Writing);
-            Ok(Undone {
-                refusals: Vec::new(alloc),
-                message: put(alloc, conn, db, style, found, &booked, &extras, &changed)?,
-            })
-        }
     }
 }
 
@@ -165,29 +184,25 @@ pub struct UndoReport {
     pub status: u8,
 }
 
-// Returns the report of an undo. `file` is the file of the batch that was undone.
-fn report_of(
+// Returns the report of an undo that was refused. `file` is the file of the batch that was to be undone.
+fn denied(
     alloc: Global,
     job: &Job<'_>,
     style: Style,
     file: &str,
-    undone: Undone,
-) -> Result<UndoReport, AllocError> {
-    let names = [file];
-    let reading = job.reading(style);
-    let refusals = refusals_text(alloc, names.as_slice(), reading.scale, &undone.refusals)?;
+    refusals: Vec<Refusal<String>>,
+) -> Result<UndoReport, AllocError>
+    ensures { IfOk result (λ report. report.status ≡ 1) }
+{
+    let scale = job.reading(style).scale;
     Ok(UndoReport {
-        refusals,
-        status: if undone.refusals.is_empty() {
-            DONE
-        } else {
-            DENIED
-        },
-        message: undone.message,
+        refusals: refusals_text(alloc, [file].as_slice(), scale, &refusals)?,
+        message: String::new(alloc),
+        status: DENIED,
     })
 }
 
-/// Takes the batch back in an open database, and returns the report.
+/// Takes the batch back that was found in an open database, and returns the report.
 ///
 /// # Errors
 ///
@@ -199,9 +214,36 @@ pub fn undo_in<'a, D: Alter, S: BuildHasher + Drop, G: Stages>(
     job: &Job<'a>,
     style: Style,
     conn: &mut Connection<D>,
-) -> Result<UndoReport, Trouble<'a>> {
-    stages.begin(Stage::Reading);
-    let found = found_in(alloc, conn, job, style)?;
-    let undone = take_back_in(alloc, state, stages, job, style, conn, &found)?;
-    Ok(report_of(alloc, job, style, found.file.as_str(), undone)?)
+    found: Found,
+) -> Result<UndoReport, Trouble<'a>>
+    // Status 0: the opposites of the movements of the batch are entered, and the batch of the undo and what it changes in the balance are written.
+    // Status 1: an article would fall below zero, and nothing is written.
+    ensures { IfOk result (λ report. IsUndone D.Store found conn.old conn.new report.status) }
+{
+    let Found {
+        entered,
+        balance,
+        source,
+    } = found;
+    let (number, file) = (entered.batch(), source.file.as_str());
+    let movements = entered.movements();
+    let extras = opposite_extras(alloc, &movements)?;
+    let (movements, _) = unzip(alloc, movements)?;
+    stages.begin(Stage::Booking(movements.len()));
+    let (undo, changed) = booked_of(alloc, state, job, style, file, &balance, movements)?;
+    match undo {
+        Undo::Refused(refusals) => Ok(denied(alloc, job, style, file, refusals)?),
+        Undo::Done(booked) => {
+            stages.begin(Stage::Writing);
+            let db = job.db;
+            let message = put(
+                alloc, conn, db, style, number, &source, &booked, &extras, &changed,
+            )?;
+            Ok(UndoReport {
+                refusals: String::new(alloc),
+                message,
+                status: DONE,
+            })
+        }
+    }
 }

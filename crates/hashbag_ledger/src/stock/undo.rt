@@ -4,8 +4,9 @@ use crate::stock::say::{random_state, say};
 use crate::stock::stages::HostStages;
 use hashbag_ledger_db::job::Job;
 use hashbag_ledger_db::messages::PROGRAM;
+use hashbag_ledger_db::stages::{Stage, Stages};
 use hashbag_ledger_db::troubles;
-use hashbag_ledger_db::undoing::{UndoReport, undo_in};
+use hashbag_ledger_db::undoing::{UndoReport, found_in, undo_in};
 use hashbag_shell::output::write_text;
 use hashbag_shell::status::DENIED;
 use hashbag_shell::trouble::Trouble;
@@ -18,7 +19,11 @@ fn undone<'a>(
 ) -> Result<UndoReport, Trouble<'a>> {
     let state = random_state(rt)?;
     let (mut conn, style) = open(rt, stages, job)?;
-    let done = undo_in(rt.alloc(), state, stages, job, style, &mut conn);
+    stages.begin(Stage::Reading);
+    let done = match found_in(rt.alloc(), job, &mut conn) {
+        Ok(found) => undo_in(rt.alloc(), state, stages, job, style, &mut conn, found),
+        Err(trouble) => Err(trouble),
+    };
     ended(conn, done)
 }
 

@@ -196,7 +196,30 @@ fn movements_with_extras<S: Alter>(
     list_of(alloc, conn, text.as_str(), values)
 }
 
-/// Returns the movements of a batch that were entered, in turn, each with its date and its note. `place.file` is 0.
+/// The movements of a batch that were entered. Only [`entered_of`] makes one.
+#[derive(Drop)]
+pub struct EnteredBatch {
+    batch: i64,
+    movements: Vec<(Movement<String>, Extra)>,
+}
+
+impl EnteredBatch {
+    /// Returns the number of the batch.
+    pub fn batch(&self) -> i64
+        ensures { result ≡ self.now.batch }
+    {
+        self.batch
+    }
+
+    /// Returns the movements, in turn, each with its date and its note. `place.file` is 0.
+    pub fn movements(self) -> Vec<(Movement<String>, Extra)>
+        ensures { result.items ≡ self.movements.items }
+    {
+        self.movements
+    }
+}
+
+/// Returns the movements of a batch that were entered.
 ///
 /// # Errors
 ///
@@ -205,10 +228,13 @@ pub fn entered_of<S: Alter>(
     alloc: Global,
     conn: &mut Connection<S>,
     batch: i64,
-) -> Result<Vec<(Movement<String>, Extra)>, StockError> {
+) -> Result<EnteredBatch, StockError>
+    ensures { IfOk result (λ entered. entered.batch ≡ batch) }
+{
     let rest =
         "LEFT JOIN refusal r ON r.movement = m.movement WHERE m.batch = ?1 AND r.movement IS NULL";
-    movements_with_extras(alloc, conn, "0", rest, params![batch])
+    let movements = movements_with_extras(alloc, conn, "0", rest, params![batch])?;
+    Ok(EnteredBatch { batch, movements })
 }
 
 /// Returns all movements, in turn, each with its batch, its date and its note. `place.file` is the number of the movement.
