@@ -18,6 +18,7 @@ pub mod LineColumns
 pub mod Lines
 pub mod LinesExamples
 pub mod Marks
+pub mod Names
 pub mod NumberForms
 pub mod Quantities
 pub mod Readers

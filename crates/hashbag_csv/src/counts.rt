@@ -1,8 +1,9 @@
 //! Lists of articles with quantities in CSV texts.
-ghost use Rattle.std.specs.Prelude.{◌≡◌, ◌+◌, ◌≤◌, [], ◌∷◌, Some, IfOk};
+ghost use Rattle.std.specs.Prelude.{◌≡◌, ℕ, ◌+◌, ◌<◌, ◌≤◌, [], ◌∷◌, Some, IfOk, decimal};
 ghost use Rattle.hashbag_csv.specs.Counts.{AreCountsIn, plain_form};
 ghost use Rattle.hashbag_csv.specs.LineColumns.{form_of, key_places, number_place};
 ghost use Rattle.hashbag_csv.specs.Lines.{place_of};
+ghost use Rattle.hashbag_csv.specs.Names.{delimiter_named, mark_named};
 ghost use Rattle.hashbag_csv.specs.Quantities.{number_sum};
 ghost use Rattle.hashbag_csv.specs.Sheets.{read_last};
 
@@ -39,7 +40,13 @@ impl Reading {
 
     /// Returns the reading that these words name: the delimiter by one of its names, the number of decimals, and the mark before decimals. An unknown
     /// word counts as the default: `,` or `0` or `.`. With more than 9 decimals, the scale is [`Scale::whole`].
-    pub fn named(delimiter: &str, decimals: &str, mark: &str) -> Reading {
+    pub fn named(delimiter: &str, decimals: &str, mark: &str) -> Reading
+        ensures delimiter { result.delimiter ≡ delimiter_named delimiter.now }
+
+        // `decimal n`: the digits of n. The mark matters only if there are decimals.
+        ensures decimals { (n : ℕ) → n ≤ 9 → decimals.now ≡ decimal n → result.scale.decimals ≡ n }
+        ensures mark { 0 < result.scale.decimals → result.scale.mark ≡ mark_named mark.now }
+    {
         let decimals = decimals.parse().unwrap_or(0);
         let mark = if mark == "," {
             Mark::Comma

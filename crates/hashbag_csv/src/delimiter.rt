@@ -1,5 +1,6 @@
 //! What is between the fields of a record.
 ghost use Rattle.std.specs.Prelude.{◌≡◌};
+ghost use Rattle.hashbag_csv.specs.Names.{delimiter_named};
 
 /// The byte between two fields.
 #[derive(Clone, Copy, PartialEq, Eq, Debug)]
@@ -27,7 +28,9 @@ impl Delimiter {
     }
 
     /// Returns the delimiter with this name: `,`, `;`, `tab` or `\t`. Returns a comma for any other name.
-    pub fn named(name: &str) -> Delimiter {
+    pub fn named(name: &str) -> Delimiter
+        ensures { result ≡ delimiter_named name.now }
+    {
         match name {
             ";" => Delimiter::Semicolon,
             "tab" | "\\t" => Delimiter::Tab,

@@ -1,9 +1,11 @@
 //! Marks between groups of three digits.
-ghost use Rattle.std.specs.Prelude.{◌≡◌, ◌∷◌, ◌++◌, ◌==◌, ◌<◌, [], not, IfOk, OnOk};
+ghost use Rattle.std.specs.Prelude.{◌≡◌, ◌∷◌, ◌++◌, ◌==◌, ◌<◌, [], bytes_eq, not, IfOk, OnOk};
 ghost use Rattle.std.specs.List.{list_all};
 ghost use Rattle.std.specs.String.{string_bytes};
 ghost use Rattle.hashbag_csv.specs.Groups.{fits_place, group_code, is_in_groups, marks_fit, without, IsTextIf, IsUngrouped};
 ghost use Rattle.hashbag_csv.specs.Marks.{code_of};
+ghost use Rattle.hashbag_csv.specs.Names.{group_marks};
+ghost use Rattle.hashbag_text.specs.Names.{named_in};
 
 use crate::scale::Mark;
 use std::alloc::{AllocError, Global};
@@ -23,7 +25,9 @@ pub enum GroupMark {
 
 impl GroupMark {
     /// Returns the mark with this name: `.`, `,`, `'`, `space` or a space. Returns `None` for any other name.
-    pub fn named(name: &str) -> Option<GroupMark> {
+    pub fn named(name: &str) -> Option<GroupMark>
+        ensures { result ≡ named_in group_marks (bytes_eq name.now) }
+    {
         match name {
             "." => Some(GroupMark::Point),
             "," => Some(GroupMark::Comma),
