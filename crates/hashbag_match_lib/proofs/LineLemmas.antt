@@ -1,7 +1,8 @@
 -- Lines that are tallied one after the other.
-use Rattle.std.proofs.Common.{◌≡◌, ℕ, Bool, Bor, List, [], ◌∷◌, ◌++◌, map, Option, sym, ◌∙◌, ap, append_assoc}
+use Rattle.std.proofs.Common.{◌≡◌, ℕ, Bool, Bor, List, [], ◌∷◌, ◌++◌, map, All, Option, sym, ◌∙◌, ap, subst, append_assoc}
 use Rattle.std.specs.Prelude.{option_copied, option_map}
 use Rattle.std.proofs.lemmas.List.{append-nil, map-append}
+use Rattle.hashbag_csv.specs.BadLines.{HasNumber}
 use Rattle.hashbag_csv.specs.LineColumns.{line_bytes}
 use Rattle.hashbag_csv.specs.Lines.{line_of, lines_under, place_of}
 use Rattle.hashbag_csv.specs.Readers.{Record}
@@ -11,6 +12,7 @@ use Rattle.hashbag_csv.proofs.BadLineLemmas.{map_copied}
 use Rattle.hashbag_core.specs.Bag.{Bag}
 use Rattle.hashbag_core.proofs.MemberLemmas.{map-map}
 use Rattle.hashbag_match_lib.specs.Fields.{IsTallyOfLines}
+use Rattle.hashbag_match_lib.specs.Readable.{HaveNumbers}
 use Rattle.hashbag_match_lib.specs.Tallies.{IsTallyOf}
 
 module _ {A : Type 0} (eq : A → A → Bool) (fields : A → Record) where
@@ -32,6 +34,15 @@ pub record_read : (f : Record → Record × ℕ) (all : List (Record × ℕ)) (D
     → all ≡ D ++ map f before → before ≡ r ∷ after → line ≡ f r → all ≡ (D ++ line ∷ []) ++ map f after
 record_read f all D before after r line is next same =
     is ∙ ap (λ (l : List Record). D ++ map f l) next ∙ ap (λ (x : Record × ℕ). D ++ x ∷ map f after) (sym same) ∙ sym (append_assoc D (line ∷ []) (map f after))
+
+-- the records below the header have numbers, by the place of the column
+pub all_numbers : (scale : Scale) (form own : LineForm) (number : Option (Bor (List ℕ))) (place : Option ℕ) (all : List Record) (header : Record) (records : List Record)
+    → all ≡ header ∷ records → own ≡ form → place ≡ option_map (λ n. place_of header n.now) number → All (HasNumber scale own.number place) records
+    → HaveNumbers scale form (option_copied number) all
+all_numbers scale form own number place all header records is form_is number_is have =
+    subst (HaveNumbers scale form (option_copied number)) (sym is)
+    (subst (λ (p : Option ℕ). All (HasNumber scale form.number p) records) (number_is ∙ sym (map_copied (place_of header) number))
+    (subst (λ (f : LineForm). All (HasNumber scale f.number place) records) form_is have))
 
 -- the lines below the header, by the places of the columns
 pub all_lines : (scale : Scale) (form : LineForm) (keys : List (Bor (List ℕ))) (number : Option (Bor (List ℕ))) (all : List Record) (header : Record) (records : List Record)

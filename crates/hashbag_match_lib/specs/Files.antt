@@ -10,6 +10,7 @@ use Rattle.hashbag_shell.specs.Inputs.{IsTextRead}
 use Rattle.hashbag_match_lib.specs.Asks.{carried_along, delivered_in, lines_asked, ordered_in}
 use Rattle.hashbag_match_lib.specs.Fields.{TalliesLines}
 use Rattle.hashbag_match_lib.specs.Matched.{IsStatusOfTexts}
+use Rattle.hashbag_match_lib.specs.Readable.{IsReadableAs}
 use Rattle.hashbag_match_lib.specs.Texts.{IsTextOfTexts}
 use Rattle.hashbag_match_lib.specs.declared.ask.Ask.{Ask}
 use Rattle.hashbag_match_lib.specs.declared.ask.Columns.{Columns}
@@ -31,6 +32,7 @@ pub record IsListOf {A S H : Type 0} (eq : A → A → Bool) (fields : A → Rec
   pub text : List ℕ
   pub given : IsTextRead gives source.encoding source.file.now text
   pub lines : TalliesLines eq fields (lines_asked ask source.columns.now text) tally
+  pub readable : IsReadableAs ask source.columns.now text
   pub carried : AddsFirsts eq fields (carried_along ask source.columns.now text) old new
 
 -- the lists of two files. The carried fields of an article are from its first line; the lines of what was ordered come first
@@ -41,15 +43,19 @@ pub record AreListsOf {A S H : Type 0} (eq : A → A → Bool) (fields : A → R
   pub given_second : IsTextRead gives files.encodings.1 files.delivered.now second
   pub ordered_lines : TalliesLines eq fields (ordered_in ask first) lists.ordered
   pub delivered_lines : TalliesLines eq fields (delivered_in ask second) lists.delivered
+  pub readable_first : IsReadableAs ask ask.ordered first
+  pub readable_second : IsReadableAs ask ask.delivered second
   pub carried : HasFirsts eq fields (carried_along ask ask.ordered first ++ carried_along ask ask.delivered second) lists.firsts
 
--- two files were read. `made` has the status: 0 exactly if their texts name the same quantity of each article, else 1. `made` also has the text of
+-- two files were read, and each record of both could be. `made` has the status: 0 exactly if their texts name the same quantity of each article, else 1. `made` also has the text of
 -- the rows of both lists
 pub record AreMatchedFiles (Rising : List Record → Type 0) (gives : Gives) (files : TwoFiles) (ask : Ask) (made : Vec ℕ × Findings) : Type 0 where
   pub first : List ℕ
   pub second : List ℕ
   pub given_first : IsTextRead gives files.encodings.0 files.ordered.now first
   pub given_second : IsTextRead gives files.encodings.1 files.delivered.now second
+  pub readable_first : IsReadableAs ask ask.ordered first
+  pub readable_second : IsReadableAs ask ask.delivered second
   pub status_is : IsStatusOfTexts ask first second made.1.status
   pub text_is : IsTextOfTexts Rising ask first second made.0.items
 

@@ -4,6 +4,7 @@ pub mod Files
 pub mod Forms
 pub mod Matched
 pub mod Matching
+pub mod Readable
 pub mod Shown
 pub mod Tables
 pub mod TablesExamples

@@ -1,16 +1,23 @@
 -- Which rows are written, and the bytes of their fields.
-use Rattle.std.specs.Prelude.{◌≡◌, Bool, true, List, String, filter, map, nat_lt, not}
+use Rattle.std.specs.Prelude.{◌≡◌, ℕ, Bool, true, List, [], ◌∷◌, String, bytes_eq, codes, filter, map, nat_lt, not}
 use Rattle.std.specs.Borrow.{Bor}
 use Rattle.std.specs.Global.{Global, Vec}
 use Rattle.std.specs.HashMap.{HashMap}
+use Rattle.std.specs.Option.{unwrap_or}
 use Rattle.std.specs.String.{string_bytes}
 use Rattle.hashbag_csv.specs.FirstLines.{Carried, HasFirsts, first_of}
 use Rattle.hashbag_csv.specs.Readers.{Record}
+use Rattle.hashbag_text.specs.Names.{named_in}
 use Rattle.hashbag_match_lib.specs.Matching.{agrees, missing_of, surplus_of}
 use Rattle.hashbag_match_lib.specs.declared.matching.Row.{Row}
 use Rattle.hashbag_match_lib.specs.declared.shown.Fields.{Fields}
 use Rattle.hashbag_match_lib.specs.declared.shown.Only.{Only}
 use Rattle.hashbag_match_lib.specs.declared.shown.Only.TheVariants as only
+
+-- the names of the choices; any other name means all rows
+abbrev pub only_named : List ℕ → Only
+only_named name =
+    unwrap_or (named_in ((codes "missing", only.Missing) ∷ (codes "surplus", only.Surplus) ∷ (codes "differing", only.Differing) ∷ []) (bytes_eq name)) only.All
 
 module _ {T : Type 0} where
   -- whether a row is written

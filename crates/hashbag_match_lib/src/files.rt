@@ -4,6 +4,7 @@ ghost use Rattle.hashbag_match_lib.specs.Asks.{lines_asked};
 ghost use Rattle.hashbag_match_lib.specs.Fields.{TalliesLines};
 ghost use Rattle.hashbag_match_lib.specs.Files.{AreErrorsIn, AreListsOf, AreMatchedFiles, IsListOf};
 ghost use Rattle.hashbag_match_lib.specs.Files.{NamesLinesOfEither, NamesLinesOfSource, NamesLinesOfText};
+ghost use Rattle.hashbag_match_lib.specs.Readable.{IsReadableAs};
 ghost use Rattle.hashbag_match_lib.specs.Texts.{Rise, RiseAs};
 
 use crate::ask::{Ask, Columns};
@@ -142,6 +143,7 @@ fn tally_in<'a, A: Article + Drop, S: BuildHasher + Copy + Drop>(
     ask: &Ask<'_>,
 ) -> Result<Tally<A, S>, Unmatched<'a>>
     ensures tally { IfOk result (λ tally. TalliesLines A.eq A.fields (lines_asked ask.now columns.now text.now) tally) }
+    ensures readable { IfOk result (λ tally. IsReadableAs ask.now columns.now text.now) }
     ensures bad_lines { IfErr result (NamesLinesOfText ask.now columns.now file.now text.now) }
 {
     let read = tally_of(alloc, state, text, columns, ask);
@@ -242,7 +244,8 @@ pub fn match_files<'a, S: BuildHasher + Copy + Drop, I: Inputs>(
     ask: &Ask<'_>,
     files: TwoFiles<'a>,
 ) -> Result<(Vec<u8>, Findings), Unmatched<'a>>
-    // The status is 0 exactly if the texts of both files name the same quantity of each article, else 1. The text that is written has a row for each
+    // No record of either text is short unless the form allows it, and each has a number, if there is a column of numbers. The status is 0 exactly if
+    // the texts of both files name the same quantity of each article, else 1. The text that is written has a row for each
     // article of either text, articles in ascending order; rows that `ask` doesn't want are left out.
     ensures matched { IfOk result (AreMatchedFiles Rise (I.gives inputs.now) files.entry ask.now) }
 

@@ -1,9 +1,10 @@
 //! Tallies of CSV texts.
-ghost use Rattle.std.specs.Prelude.{◌≡◌, [], true, map, All, IfOk, OnOk};
-ghost use Rattle.hashbag_csv.specs.Lines.{list_in};
-ghost use Rattle.hashbag_csv.specs.Sheets.{FitHeader, fits_sheet, left};
+ghost use Rattle.std.specs.Prelude.{◌≡◌, [], true, map, option_copied, All, IfOk, OnOk};
+ghost use Rattle.hashbag_csv.specs.LineColumns.{HasNumberBy};
+ghost use Rattle.hashbag_csv.specs.Sheets.{fits_sheet, left};
 ghost use Rattle.hashbag_match_lib.specs.Asks.{lines_named};
 ghost use Rattle.hashbag_match_lib.specs.Fields.{TalliesLines, TalliesMore, lines_left};
+ghost use Rattle.hashbag_match_lib.specs.Readable.{IsReadable};
 ghost use Rattle.hashbag_match_lib.specs.Tallies.{TalliesOneMore};
 
 use crate::tally::{Tally, empty_tally};
@@ -50,6 +51,7 @@ fn add_lines<A: Article + Drop, S: BuildHasher + Drop>(
 ) -> Result<(), SheetError>
     ensures lines { OnOk result (TalliesMore A.eq A.fields (lines_left scale columns.now sheet.old) tally.old tally.new) }
     ensures fits { OnOk result (All (λ r. fits_sheet sheet.old r ≡ true) (left sheet.old)) }
+    ensures numbers { OnOk result (All (HasNumberBy scale columns.now) (left sheet.old)) }
 {
     'lines: while let Some((article, number)) = columns.read::<A>(alloc, sheet, scale)? {
         add_line(alloc, sheet, tally, article, number, scale)?;
@@ -82,8 +84,9 @@ pub fn read_tally<A: Article + Drop, S: BuildHasher + Copy + Drop>(
     // A line is an article and a number, from the columns that `keys` and `number` name.
     ensures lines { IfOk result (TalliesLines A.eq A.fields (lines_named reading form keys.now number.entry text.now)) }
 
-    // Each record has as many fields as the header, or as the first record of a list without a header, or fewer if the form allows it.
-    ensures fits { IfOk result (λ tally. FitHeader form.allows_short (list_in reading.delimiter form text.now)) }
+    // Each record has as many fields as the header, or as the first record of a list without a header, or fewer if the form allows it. In the column
+    // of numbers, if there is one, it has a number.
+    ensures readable { IfOk result (λ tally. IsReadable reading form (option_copied number.entry) text.now) }
 
     // No slot of an older table waits in either bag.
     ensures none_waits { IfOk result (λ tally. (tally.counts.tables.waiting ≡ []) × (tally.zeros.tables.waiting ≡ [])) }

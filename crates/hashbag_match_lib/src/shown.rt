@@ -1,6 +1,6 @@
 //! The rows that are written.
 ghost use Rattle.std.specs.Prelude.{◌≡◌, IfOk};
-ghost use Rattle.hashbag_match_lib.specs.Shown.{AreFieldsAlong, AreShownRows, is_shown};
+ghost use Rattle.hashbag_match_lib.specs.Shown.{AreFieldsAlong, AreShownRows, is_shown, only_named};
 
 use crate::matching::Row;
 use hashbag_csv::article::Article;
@@ -24,7 +24,9 @@ pub enum Only {
 
 impl Only {
     /// Returns the choice with this name: `missing`, `surplus`, `differing` or `all`. Returns `All` for any other name.
-    pub fn named(name: &str) -> Only {
+    pub fn named(name: &str) -> Only
+        ensures { result ≡ only_named name.now }
+    {
         match name {
             "missing" => Only::Missing,
             "surplus" => Only::Surplus,

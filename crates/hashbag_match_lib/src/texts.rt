@@ -4,6 +4,7 @@ ghost use Rattle.hashbag_csv.specs.FirstLines.{AddsFirsts};
 ghost use Rattle.hashbag_match_lib.specs.Asks.{carried_along, lines_asked};
 ghost use Rattle.hashbag_match_lib.specs.Fields.{TalliesLines};
 ghost use Rattle.hashbag_match_lib.specs.Matched.{IsStatusOf};
+ghost use Rattle.hashbag_match_lib.specs.Readable.{IsReadableAs};
 ghost use Rattle.hashbag_match_lib.specs.Texts.{IsStatusOfLists, IsTextOfLists};
 
 use crate::ask::{Ask, Columns};
@@ -79,8 +80,12 @@ pub fn tally_of<A: Article + Drop, S: BuildHasher + Copy + Drop>(
     ask: &Ask<'_>,
 ) -> Result<Tally<A, S>, SheetError>
     // The tally is of the text's lines, an article and a number each, from these columns, read in the form `ask.line_form`.
-    ensures { IfOk result (λ tally. TalliesLines A.eq A.fields (lines_asked ask.now columns.now text.now) tally) }
+    ensures lines { IfOk result (λ tally. TalliesLines A.eq A.fields (lines_asked ask.now columns.now text.now) tally) }
+
+    // No line is short unless the form allows it, and each has a number in the column of numbers, if there is one.
+    ensures readable { IfOk result (λ tally. IsReadableAs ask.now columns.now text.now) }
 {
+    let form = ask.line_form;
     read_tally(
         alloc,
         state,
@@ -88,7 +93,7 @@ pub fn tally_of<A: Article + Drop, S: BuildHasher + Copy + Drop>(
         &columns.keys,
         columns.number,
         columns.reading,
-        ask.line_form,
+        form,
     )
 }
 

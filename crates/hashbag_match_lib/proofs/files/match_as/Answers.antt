@@ -9,6 +9,8 @@ returns-clause-matched g c =
       second = read.second;
       given_first = read.given_first;
       given_second = read.given_second;
+      readable_first = read.readable_first;
+      readable_second = read.readable_second;
       status_is = c.in_ok-match_lists.ensures.status _ _ read.ordered_lines read.delivered_lines;
       text_is = c.in_ok-match_lists.ensures.text _ _ _ read.ordered_lines read.delivered_lines read.carried;
     }

@@ -7,5 +7,6 @@ returns-clause-list g c =
       text = c.in_ok-text.text.items;
       given = c.in_ok-text.ensures;
       lines = rw c.deref.ensures.value at c.in_ok-tally.ensures.tally;
+      readable = rw c.deref.ensures.value at c.in_ok-tally.ensures.readable;
       carried = rw (c.in_ok-in_file.ensures, c.deref-2.ensures.value) at c.carry_lines-carried.ensures;
     }

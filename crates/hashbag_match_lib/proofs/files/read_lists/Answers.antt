@@ -15,5 +15,7 @@ returns-clause-lists g c =
       given_second = other.given;
       ordered_lines = one.lines;
       delivered_lines = other.lines;
+      readable_first = one.readable;
+      readable_second = other.readable;
       carried = other.carried _ (one.carried [] none);
     }

@@ -1,5 +1,5 @@
 use Rattle.std.proofs.Common.{◌≡◌, ◌++◌, ℕ, List, All, length, map, true}
-use Rattle.hashbag_csv.specs.LineColumns.{line_by}
+use Rattle.hashbag_csv.specs.LineColumns.{line_by, HasNumberBy}
 use Rattle.hashbag_csv.specs.Readers.{Record}
 use Rattle.hashbag_csv.specs.Sheets.{fits_sheet, is_short_allowed, left, width_of}
 use Rattle.hashbag_match_lib.specs.Fields.{IsTallyOfLines}
@@ -13,6 +13,7 @@ invariant-lines g l = record {
   so_far : (K : List (Record × ℕ)) → IsTallyOfLines g.A.PartialEq.eq g.A.Article.fields K l.fn.tally.counts l.fn.tally.zeros → IsTallyOfLines g.A.PartialEq.eq g.A.Article.fields (K ++ D) l.tally.counts l.tally.zeros;
   width : width_of l.sheet ≡ width_of l.fn.sheet;
   short : is_short_allowed l.sheet ≡ is_short_allowed l.fn.sheet;
+  numbers : All (HasNumberBy l.scale l.columns) (left l.sheet) → All (HasNumberBy l.scale l.columns) (left l.fn.sheet);
   fit : All (λ r. fits_sheet l.fn.sheet r ≡ true) (left l.sheet) → All (λ r. fits_sheet l.fn.sheet r ≡ true) (left l.fn.sheet);
 }
 
