@@ -108,6 +108,7 @@ def rows_of_words(kind, half):
     row(f"{kind}: a.update(b)", lambda t: of(half, t).copy().update(of(kind, t)))
     row(f"{kind}: HashBag(a dict)", lambda t: t(of(kind, as_dict)))
     row(f"{kind}: dumps, loads", lambda t: pickle.loads(pickle.dumps(of(kind, t))))
+    row(f"{kind}: copy(), and its end", lambda t: of(kind, t).copy())
     row(f"{kind}: copy, and popitem of all", lambda t: drain(of(kind, t).copy()))
     row(f"{kind}: next(iter(b))", lambda t: firsts(of(kind, t)))
     row(f"{kind}: next(reversed(b.items()))", lambda t: lasts(of(kind, t)))
@@ -134,16 +135,16 @@ def rows_of_others(r):
     for name, xs in distinct.items():
         row(f"all distinct, {name}: HashBag(xs)", lambda t, xs=xs: t(xs))
     row("small: HashBag of 4, b[x], list(b)", lambda t: [(b := t("abac"))["a"] and list(b) for _ in range(20_000)])
-    text = " ".join(data["words"]).encode()
-    row("bytes: update_split(text), c.update(text.split(b' '))", lambda t: split(t, text))
+    text = "\n".join(data["words"]).encode()
+    row("bytes: update_split(text, b'\\n'), c.update(text.split(b'\\n'))", lambda t: split(t, text))
 
 
 def split(of_type, text):
     b = of_type()
     if of_type is HashBag and hasattr(b, "update_split"):
-        b.update_split(text, b" ")
+        b.update_split(text, b"\n")
     else:
-        b.update(text.split(b" "))
+        b.update(text.split(b"\n"))
 
 
 def make_data():
