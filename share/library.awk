@@ -20,7 +20,7 @@ function print_head(i, about) {
   print ".SH SYNOPSIS\n.nf"
   print bold("#include <hashbag.h>")
   print ""
-  print bold("cc words.c $(pkg-config --cflags --libs hashbag)")
+  print bold("cc count.c $(pkg-config --cflags --libs hashbag) -Wl,-rpath,$(pkg-config --variable=libdir hashbag)")
   print ".fi\n.SH DESCRIPTION"
   for (i = 2; i <= paragraphs; i++) {
     if (i > 2) print (paragraph[i] ~ /^[0-9]+\. / ? ".TP\n" escaped(substr(paragraph[i], 1, index(paragraph[i], " ") - 1)) : ".PP")
