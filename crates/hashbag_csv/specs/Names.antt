@@ -5,7 +5,7 @@ use Rattle.hashbag_text.specs.Names.{named_in}
 use Rattle.hashbag_csv.specs.declared.delimiter.Delimiter.{Delimiter}
 use Rattle.hashbag_csv.specs.declared.delimiter.Delimiter.TheVariants.{Comma, Semicolon, Tab}
 use Rattle.hashbag_csv.specs.declared.groups.GroupMark.{GroupMark}
-use Rattle.hashbag_csv.specs.declared.groups.GroupMark.TheVariants.{Point, Comma as GroupComma, Apostrophe, Space}
+use Rattle.hashbag_csv.specs.declared.groups.GroupMark.TheVariants.{Point, Comma as GroupComma, Apostrophe, Space, NoBreak}
 use Rattle.hashbag_csv.specs.declared.scale.Mark.{Mark}
 use Rattle.hashbag_csv.specs.declared.scale.Mark.TheVariants.{Point as DecimalPoint, Comma as DecimalComma}
 
@@ -19,4 +19,6 @@ mark_named name = unwrap_or (named_in ((codes ",", DecimalComma) ∷ []) (bytes_
 
 -- the names of marks between groups
 abbrev pub group_marks : List (List ℕ × GroupMark)
-group_marks = (codes ".", Point) ∷ (codes ",", GroupComma) ∷ (codes "'", Apostrophe) ∷ (codes "space", Space) ∷ (codes " ", Space) ∷ []
+group_marks =
+    (codes ".", Point) ∷ (codes ",", GroupComma) ∷ (codes "'", Apostrophe) ∷ (codes "space", Space) ∷ (codes " ", Space)
+    ∷ (codes "nbsp", NoBreak) ∷ []

@@ -156,7 +156,7 @@ fn blank_is_zero(rt: HostRuntime) -> Result<(), Fail> {
 }
 
 // A text, its decimals, the mark before them, that between groups of digits, and what it says.
-const GROUPS: [(&[u8], u32, Mark, GroupMark, &str); 16] = [
+const GROUPS: [(&[u8], u32, Mark, GroupMark, &str); 19] = [
     (
         b"k;number\na;1.000,50\nb;1000,5\nc;100\nd;12.345.678\n",
         2,
@@ -177,6 +177,27 @@ const GROUPS: [(&[u8], u32, Mark, GroupMark, &str); 16] = [
         Mark::Point,
         GroupMark::Space,
         "[a 1234567]",
+    ),
+    (
+        b"k;number\na;1\xc2\xa0234\xe2\x80\xaf567 890,5\nb;100\n",
+        1,
+        Mark::Comma,
+        GroupMark::NoBreak,
+        "[a 12345678905][b 1000]",
+    ),
+    (
+        b"k;number\na;1\xe2\x80\xaf00\n",
+        0,
+        Mark::Point,
+        GroupMark::NoBreak,
+        "2: groups of three digits wanted: `1\u{202f}00`",
+    ),
+    (
+        b"k;number\na;1\xc2\xa0000\n",
+        0,
+        Mark::Point,
+        GroupMark::Space,
+        "2: no number: `1\u{a0}000`",
     ),
     (
         b"k;number\na;1,000\n",
