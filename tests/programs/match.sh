@@ -209,6 +209,26 @@ ends 2 'hashbag_match: twos.csv:3: groups of three digits wanted: `1.00,5`' twos
 ends 2 $'hashbag_match: front.csv:2: no number: `1 000`\nhashbag_match: front.csv:3: groups of three digits wanted: `.100`' front.csv front.csv --delimiter ';' --mark , --group-mark .
 ends 2 'hashbag_match: front.csv:3: no number: `.100`' front.csv front.csv --delimiter ';' --mark , --group-mark ' '
 ends 2 "hashbag_match: front.csv:2: no number: \`1 000\`; \`--group-mark space\` reads groups of digits"$'\n'"hashbag_match: front.csv:3: no number: \`.100\`; \`--group-mark .\` reads groups of digits" front.csv front.csv --delimiter ';' --mark ,
+# No-break spaces, U+00A0 and U+202F, and a space beside them; with --group-mark space they are no marks
+nbsp=$'\302\240' narrow=$'\342\200\257' hint='; `--group-mark nbsp` reads groups of digits' wanted='groups of three digits wanted'
+printf 'article;number\nnut;%s\nnut;%s\nbolt;%s\nnail;1 000\n' "1${nbsp}234,5" "12${narrow}345${narrow}678" "1${nbsp}000${narrow}000 000" > breaks.csv
+printf 'article;number\nnut;12346912,50\nbolt;1000000000\nnail;1000,00\n' > digits.csv
+printf 'article;number\nnut;%s\nbolt;%s\nnail;%s\npin;%s\n' "1${nbsp}00" "1${narrow}0000" "${nbsp}100" "1,000${nbsp}000" > few.csv
+ends 0 "" breaks.csv digits.csv --delimiter ';' --mark , --scale 2 --group-mark nbsp --to csv
+has ../out 'article;ordered;delivered;missing;surplus\nbolt;1000000000,00;1000000000,00;0,00;0,00\nnail;1000,00;1000,00;0,00;0,00\nnut;12346912,50;12346912,50;0,00;0,00\n' "no-break spaces between groups"
+line2="hashbag_match: few.csv:2: $wanted: \`1${nbsp}00\`"
+line3="hashbag_match: few.csv:3: $wanted: \`1${narrow}0000\`"
+line4="hashbag_match: few.csv:4: $wanted: \`${nbsp}100\`"
+line5="hashbag_match: few.csv:5: no number: \`1,000${nbsp}000\`"
+ends 2 "$line2"$'\n'"$line3"$'\n'"$line4"$'\n'"$line5" few.csv few.csv --delimiter ';' --mark , --scale 3 --group-mark nbsp
+line2="hashbag_match: breaks.csv:2: no number: \`1${nbsp}234,5\`$hint"
+line3="hashbag_match: breaks.csv:3: no number: \`12${narrow}345${narrow}678\`$hint"
+line4="hashbag_match: breaks.csv:4: no number: \`1${nbsp}000${narrow}000 000\`$hint"
+line5='hashbag_match: breaks.csv:5: no number: `1 000`; `--group-mark space` reads groups of digits'
+ends 2 "$line2"$'\n'"$line3"$'\n'"$line4"$'\n'"$line5" breaks.csv digits.csv --delimiter ';' --mark , --scale 2
+line4="hashbag_match: breaks.csv:4: $wanted: \`1${nbsp}000${narrow}000 000\`"
+ends 2 "$line2"$'\n'"$line3"$'\n'"$line4" breaks.csv digits.csv --delimiter ';' --mark , --scale 2 --group-mark space
+rm breaks.csv digits.csv few.csv
 ends 2 'hashbag_match: --group-mark is the mark before decimals' a.csv b.csv --group-mark .
 ends 2 'hashbag_match: --group-mark is the delimiter' a.csv b.csv --group-mark ,
 

@@ -14,7 +14,7 @@ pub static OPTIONS: &[&str] = &[
         | not --number --delivered-number --scale --blank-is-zero --group-mark",
     "--no-header | Read files without a header; their columns are named 1, 2 and so on",
     "--blank-is-zero | Read an empty field of numbers as 0",
-    "--group-mark MARK | What may be before every third digit, counted from the decimal mark | of . , ' space ␣",
+    "--group-mark MARK | What may be before every third digit, counted from the decimal mark | of . , ' space ␣ nbsp",
     "--trim | Remove the spaces and tabs at both ends of the fields of an article",
     "--fold -i | Read upper and lower case in the fields of an article as one",
     "= Numbers and fields",
