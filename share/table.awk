@@ -111,9 +111,7 @@ function put_command(job, own, i) {
   put("about", about_of[job])
   own = options_of[job] usage_of[job]
   if (usage != "") put("usage", usage)
-  else if (job != "") put("usage", name " " job own)
-  else if (own != "" || !all_jobs) put("usage", name own)
-  if (job == "" && all_jobs) put("usage", name " <COMMAND>")
+  else put("usage", name (job == "" ? "" : " " job) (job == "" && all_jobs ? " <COMMAND>" : own))
   for (i = 1; job == "" && i <= all_jobs; i++) put("command", order[i])
   printf "%s", records_of[job]
   for (i = 1; i <= many_after[job]; i++) read_after(after[job, i])

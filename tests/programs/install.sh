@@ -134,7 +134,7 @@ offers "word" hashbag_words count text --by = w
 offers "chair leg" hashbag_words count --output = c
 offers "chair leg" hashbag_words count -o ""
 offers "" hashbag_words merge --by
-offers ". \\, tab \\\\t" hashbag_ledger --mark ""
+offers ". \\, tab \\\\t" hashbag_ledger total --mark ""
 offers "enter" hashbag_ledger e
 offers "chair leg" hashbag_ledger undo --db ""
 offers "--to --mark -h --help -V --version" hashbag_match -
@@ -254,7 +254,7 @@ if [ "${1-}" = built ]; then
     [ "$(real/bin/"$name" --version | cut -d ' ' -f 1-2)" = "$name $version" ] || fail "the version of $name"
   done
   # Each command has a page.
-  jobs="balance batches close count enter history put show take undo verify"
+  jobs="balance batches close count enter history put show take total undo verify"
   # shellcheck disable=SC2046,SC2086
   files real/share/man/man1 $(printf 'hashbag_ledger-%s.1 ' $jobs) hashbag_ledger.1 hashbag_match.1 hashbag_run.1 \
     hashbag_words-{common,count,less,merge,tokens}.1 hashbag_words.1

@@ -655,11 +655,6 @@ cmp -s ../out before.csv || fail "the balance after a failed write"
 ends 0 '' enter --quiet --db s.db long.csv
 is s.db 'select count(*), sum(number) from article' '3003|3109' "the same file once it may grow"
 
-# Without a subcommand a file has any name, and all is as without a database
-cp a.csv enter
-ends 0 '' ./enter
-has ../out 'article,number\nbolt,5\nnut,2\n' "a file that has the name of a subcommand"
-
 # A shop of two weeks: 20 articles, a dated stock at the beginning, sales and deliveries, a misspelt delivery that is undone, a misspelt sale that
 # is refused, and a count. What is wanted are sums by Python's SQLite over the files themselves, in the table `plain`
 mkdir shop && cd shop || exit 1
@@ -741,7 +736,8 @@ for job in enter take put count balance history batches show undo verify close; 
 done
 ends 0 "" --help
 grep -q 'enter --db' ../out || fail "no subcommand in the help"
-for heading in 'Files and columns:' 'Numbers and fields:' Output:; do grep -qx "$heading" ../out || fail "no heading $heading in the help"; done
+ends 0 "" total --help
+for heading in 'Files and columns:' 'Numbers and fields:' Output:; do grep -qx "$heading" ../out || fail "no heading $heading in the help of total"; done
 ends 0 "" enter --help
 for heading in 'Files and columns:' 'Numbers and fields:' 'What is entered:'; do grep -qx "$heading" ../out || fail "no heading $heading in the help of enter"; done
 

@@ -12,11 +12,10 @@ use hashbag_ledger_db::troubles;
 use hashbag_ledger_db::unkept::{UnkeptReport, enter_unkept};
 use hashbag_shell::VERSION;
 use hashbag_shell::inputs::HostInputs;
-use hashbag_shell::options::CommandResult;
 use hashbag_shell::program::{given_to, program};
-use hashbag_shell::table::{command_of, jobs_of};
+use hashbag_shell::status::BAD_INPUT;
+use hashbag_shell::table::command_of;
 use hashbag_shell::trouble::Trouble;
-use std::alloc::Global;
 use std::hash::RandomState;
 use std::process::ExitCode;
 
@@ -33,8 +32,8 @@ fn report_of<'a>(rt: &HostRuntime, settings: &Settings<'a>) -> Result<UnkeptRepo
     report
 }
 
-// Does what is asked of a stock that isn't kept, and returns the exit status.
-fn enter<'a>(rt: &HostRuntime, settings: &Settings<'a>) -> Result<u8, Trouble<'a>> {
+// Enters files into a stock that isn't kept, and returns the exit status.
+fn total<'a>(rt: &HostRuntime, settings: &Settings<'a>) -> Result<u8, Trouble<'a>> {
     if let Some(name) = conflict(rt, settings) {
         return Err(troubles::conflict(rt.alloc(), name));
     }
@@ -51,30 +50,21 @@ fn enter<'a>(rt: &HostRuntime, settings: &Settings<'a>) -> Result<u8, Trouble<'a
     }
 }
 
-// Returns whether a word is `--db`, or begins with `--db=`.
-fn is_database(word: &str) -> bool {
-    word == "--db" || word.starts_with("--db=")
-}
+// The usages, which a message on a word that is no subcommand shows.
+const USAGE: &str = "hashbag_ledger total [OPTIONS] [MOVES.csv]...
+       hashbag_ledger <COMMAND> --db <FILE>";
 
-// Returns the command for these words. If they name a database, it has subcommands alone, so that a misspelt one isn't taken for a file. Else the
-// name of a subcommand behind another word is that of a file.
-fn command_for<'a>(alloc: Global, words: &[String]) -> CommandResult<'a> {
-    let command = if words.iter().any(|word| is_database(word.as_str())) {
-        jobs_of(alloc, OPTIONS)?.subcommand_required(true)
-    } else {
-        command_of(alloc, OPTIONS)?
-            .args_conflicts_with_subcommands(true)
-            .subcommand_value_name("COMMAND> --db <FILE")
-    };
-    Ok(command.version(VERSION))
-}
-
-// Does what the arguments ask for, with a database if the first word names a subcommand, and returns the exit status.
+// Does what the subcommand asks for, and returns the exit status.
 fn answer<'a>(rt: &HostRuntime, words: &'a [String]) -> Result<u8, Trouble<'a>> {
-    let given = given_to(rt, command_for(rt.alloc(), words), words)?;
+    let command = command_of(rt.alloc(), OPTIONS)?
+        .version(VERSION)
+        .override_usage(USAGE)
+        .subcommand_required(true);
+    let given = given_to(rt, Ok(command), words)?;
     match given.subcommand() {
+        Some(("total", given)) => total(rt, &Settings::of(rt.alloc(), given)?),
         Some((name, given)) => stock::run(rt, name, given),
-        None => enter(rt, &Settings::of(rt.alloc(), &given)?),
+        None => Ok(BAD_INPUT),
     }
 }
 

@@ -1,4 +1,4 @@
--- What a call without a database does: the movements of its files come to the opening stock.
+-- What the subcommand `total` does: the movements of its files come to the opening stock.
 use Rattle.std.specs.Prelude.{◌≡◌, ℕ, ◌+◌, nat_lt, if◌then◌else◌, Bool, List, [], ◌∷◌, ◌++◌, length, map, All, String, string_cmp, MatchOption}
 use Rattle.std.specs.Borrow.{Bor}
 use Rattle.std.specs.Global.{Global}

@@ -1,4 +1,4 @@
-//! The options of `hashbag_ledger`, what its subcommands do in a database, whatever stores it, and what a call without a database does. Databases
+//! The options of `hashbag_ledger`, what its subcommands do in a database, whatever stores it, and what `total` does without one. Databases
 //! are opened by [`files::Databases`] alone, and other files by [`hashbag_shell::inputs::Inputs`] alone.
 #![tactic(auto)]
 

@@ -3,6 +3,7 @@
 /// What the parser, the help, the manual pages and the completions are made of.
 pub static OPTIONS: &[&str] = &[
     "# hashbag_ledger | Enters movements into a stock, and writes the balance.",
+    ": total | Enters files of movements into a stock in a file, and writes the balance",
     ": enter | Enters files of movements, each whole or not at all",
     ": take | Removes some of an article: enters one movement",
     ": put | Adds some of an article: enters one movement",
@@ -14,6 +15,13 @@ pub static OPTIONS: &[&str] = &[
     ": undo | Enters the opposite movements of a batch, all or none",
     ": verify | Counts all movements again, and compares the balance and the refusals",
     ": close | Begins a new database with the balance of this one",
+    ". `hashbag_ledger enter --help` has the options of `enter`, and so for each subcommand. `total` needs no database:
+hashbag_ledger total --start stock.csv monday.csv. The others need --db, the database that keeps a stock:
+hashbag_ledger enter --db stock.db monday.csv
+
+Status: 0 done, 1 a movement or an undo was refused, or a stock doesn't agree with its movements, 2 bad arguments, a bad line or a bad
+database, 3 no memory, 4 a read or a write failed, 5 a total is too large, 6 a file was entered before, 7 a database is in use.",
+    "@ total",
     "MOVES.csv MOVES.csv... | Movements, in the order of the files and of their lines",
     "= Files and columns",
     "--start STOCK.csv | The stock at the beginning",
@@ -37,10 +45,7 @@ pub static OPTIONS: &[&str] = &[
 A change is `5` or `+5` for what comes in, and `-5` for what goes out. With three columns the second is the kind, `in` or `out`.
 A movement that asks for more than is there at that time is refused, and named with its file and line. The others are entered.
 The balance is CSV with the columns of the stock, articles rising, and may be the --start of the next run. All is read before
-anything is written, so the balance may replace the stock: hashbag_ledger --start stock.csv monday.csv -o stock.csv
-
-A database keeps a stock: hashbag_ledger enter --db stock.db monday.csv. If the first word is enter, take, put, count, balance,
-history, batches, show, undo, verify or close, it is a subcommand on the database of --db; hashbag_ledger enter --help has its arguments.
+anything is written, so the balance may replace the stock: hashbag_ledger total --start stock.csv monday.csv -o stock.csv
 
 Status: 0 all entered, 1 some refused, 2 bad arguments or a bad line (FILE:LINE is named), 3 no memory, 4 a file can't be opened, or
 a read or a write failed, 5 a total of more than 2^64-1. With 2 to 5 the file of -o is unchanged.",

@@ -1,4 +1,4 @@
-//! What is asked of a stock that isn't kept, by the arguments of the program.
+//! What is asked of a stock that isn't kept, by the arguments of `total`.
 use crate::columns::{columns_of, start_columns_of};
 use crate::job::files_of;
 use clap::ArgMatches;

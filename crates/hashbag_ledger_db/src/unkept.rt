@@ -1,4 +1,4 @@
-//! A stock that isn't kept: a call without a database. Files are read through `Inputs`, so the clauses hold for any bytes.
+//! A stock that isn't kept: the subcommand `total`. Files are read through `Inputs`, so the clauses hold for any bytes.
 ghost use Rattle.std.specs.Prelude.{◌≡◌, ◌↔◌, None, true, IfOk, OnOk};
 ghost use Rattle.hashbag_ledger_db.specs.Unkept.{EntersFileOf, EntersFiles, IsBegunFrom, IsEnteredOf, IsStartOf, has_refused, status_with};
 

@@ -186,12 +186,8 @@ fn begun<'a>(alloc: Global, said: &'a str) -> Command<'a>
     Command::new(alloc, cut(said).0).about(about)
 }
 
-/// Returns the command of the program that has this table, with its subcommands, but without arguments of the program itself.
-///
-/// # Errors
-///
-/// An allocation fails.
-pub fn jobs_of<'a>(alloc: Global, lines: &[&'a str]) -> CommandResult<'a>
+// Returns the command of the program that has this table, with its subcommands, but without arguments of the program itself.
+fn jobs_of<'a>(alloc: Global, lines: &[&'a str]) -> CommandResult<'a>
     ensures { IfOk result (λ made. args_of made ≡ []) }
 {
     let program = lines.first().map_or("", |line| cut(line).1);
