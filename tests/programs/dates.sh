@@ -48,8 +48,8 @@ printf 'day;article;change\n2024-02-29;axe;1\n' > leap.csv
 ends 0 '' enter --quiet --db days.db --delimiter ';' --date day --note '' leap.csv
 for bad in 1900-02-29 2026-02-29 2026-13-01 2026-00-10 2026-04-31 2026-01-00 2026-1-01 26-01-01 2026/01/01 20260101 '2026-01-01 ' '' 0x26-01-01; do
   printf 'article,change,on\nbolt,1,2026-01-31\nnut,1,%s\n' "$bad" > bad.csv
-  ends 2 "$p: bad.csv:3: no date: \`$bad\`; a date is written as 2026-02-28" enter --quiet --db days.db --date on --note '' bad.csv
-  ends 2 "$p: bad.csv:3: no date: \`$bad\`; a date is written as 2026-02-28" enter --quiet --db none.db --date on bad.csv
+  ends 2 "$p: bad.csv:3: no date: \`$bad\`; a date is written as 2026-02-28 (\`--date-form YYYY-MM-DD\`)" enter --quiet --db days.db --date on --note '' bad.csv
+  ends 2 "$p: bad.csv:3: no date: \`$bad\`; a date is written as 2026-02-28 (\`--date-form YYYY-MM-DD\`)" enter --quiet --db none.db --date on bad.csv
   ends 2 "$p: --at takes a date, as 2026-02-28" balance --db days.db --at "$bad"
 done
 [ ! -e none.db ] || fail "a database is made although a date is bad"
@@ -93,6 +93,31 @@ for change in "date = '2026-01-30' where movement = 4" "date = null where moveme
   cp begun.db w.db
   sql w.db "update movement set $change"
   ends 1 "w.db: batch $([ "${change##*= }" = 4 ] && echo 2 || echo 1): not as it was entered: the scale, its row, or a row of its movements was changed" verify --db w.db
+done
+
+# Other forms of dates: a file is read in one, and what is kept and written is as 2026-02-28. A typed date has no other form
+for row in 'DD.MM.YYYY 28.02.2026 29.02.2024 2026-02-28 02.30.2026' 'DD/MM/YYYY 28/02/2026 29/02/2024 02/28/2026 28.02.2026' 'MM/DD/YYYY 02/28/2026 02/29/2024 28/02/2026 02-28-2026'; do
+  read -r form day leap bad other <<< "$row"
+  rm -f form.db
+  printf 'article,change,on\nbolt,3,%s\nnut,2,%s\n' "$day" "$leap" > form.csv
+  ends 0 '' enter --quiet --db form.db --date on --date-form "$form" --from stock.csv --from-on 2024-02-28 form.csv
+  is form.db 'select article, date from movement where batch = 2 order by movement' 'bolt|2026-02-28\nnut|2024-02-29' "dates of the form $form"
+  is form.db "select name, value from meta where name not in ('hashbag_ledger', 'scale', 'columns', 'delimiter', 'mark')" 'date|on' "a form isn't kept: $form"
+  ends 0 '' verify --db form.db
+  ends 0 '' balance --db form.db --at 2024-02-29
+  has ../out 'article,number\nbolt,10\nnut,42\nwasher,3\n' "the balance of a day after dates of the form $form"
+  for word in "$bad" "$other" "$day " "$day${day:2:1}" "${day:1}" 31"${day:2}" ''; do
+    printf 'article,change,on\nbolt,1,%s\n' "$word" > bad.csv
+    ends 2 "$p: bad.csv:2: no date: \`$word\`; a date is written as $day (\`--date-form $form\`)" enter --quiet --db form.db --date-form "$form" bad.csv
+  done
+  ends 2 "$p: form.csv:2: no date: \`$day\`; a date is written as 2026-02-28 (\`--date-form YYYY-MM-DD\`)" enter --quiet --again --db form.db form.csv
+  ends 2 "$p: --from-on takes a date, as 2026-02-28" enter --quiet --db form2.db --date-form "$form" --from stock.csv --from-on "$day" form.csv
+done
+ends 0 '' enter --quiet --db form.db --date-form YYYY-MM-DD --date on dated.csv
+for words in "--date-form DD-MM-YYYY" "--date-form" "--date-form dd.mm.yyyy"; do
+  # shellcheck disable=SC2086
+  "$program" enter --quiet --db form.db $words dated.csv > ../out 2> ../err
+  [ $? = 2 ] || fail "a form that isn't one: $words"
 done
 
 printf 'article,change\nbolt,9223372036854775807\nbolt,-9223372036854775807\nbolt,9223372036854775807\n' > moved.csv

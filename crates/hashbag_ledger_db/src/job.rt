@@ -9,6 +9,7 @@ use hashbag_csv::counts::Reading;
 use hashbag_csv::delimiter::Delimiter;
 use hashbag_csv::scale::{Mark, Scale};
 use hashbag_ledger_lib::balance_forms::Form;
+use hashbag_ledger_lib::date_forms::DateForm;
 use hashbag_ledger_lib::extras::ExtraColumns;
 use hashbag_ledger_lib::numbers::MOST;
 use hashbag_ledger_lib::reading::Columns;
@@ -41,6 +42,8 @@ pub struct Job<'a> {
     pub columns: Option<Columns<&'a str>>,
     /// The columns of dates and of notes, each `None` if it isn't named, and `Some(None)` if the arguments say that there is none.
     pub extras: ExtraColumns<Option<&'a str>>,
+    /// How the column of dates has its dates.
+    pub date_form: DateForm,
     /// The date of the movement that is typed, or of the count, if one is named.
     pub on: Option<&'a str>,
     /// The date of the movements of the stock at the beginning, if one is named.
@@ -160,6 +163,7 @@ impl<'a> Job<'a> {
             encoding: encoding(given, "--encoding"),
             columns,
             extras: extras_of(given),
+            date_form: DateForm::named(value(given, "--date-form")),
             on: given.get_str("--on"),
             from_on: given.get_str("--from-on"),
             at: given.get_str("--at"),

@@ -268,7 +268,7 @@ pub fn extras_of<'a>(
         } else {
             (names, job.on)
         };
-        match read_extras(alloc, input.text.as_slice(), own, delimiter) {
+        match read_extras(alloc, input.text.as_slice(), own, delimiter, job.date_form) {
             Ok(read) => extras.append(&mut dated(alloc, read, date)?)?,
             Err(error) => return Err(of_extras(alloc, input.file, kept_of(job, names), error)),
         }

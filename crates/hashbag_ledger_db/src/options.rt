@@ -104,9 +104,11 @@ a read or a write failed, 5 a total of more than 2^64-1. With 2 to 5 the file of
     "@ enter close",
     "--columns -c NAMES | The columns of movements, as article,change or article,kind,number; \
         by default what the database keeps, article,change if it is new",
-    "--date NAME | The column of movements with their dates, each as 2026-02-28; by default what the database keeps, '' for none",
+    "--date NAME | The column of movements with their dates; by default what the database keeps, '' for none",
     "--note NAME | The column of movements with notes, which `history` and `show` write; by default what the database keeps, '' for none",
     "@ enter",
+    "--date-form FORM | How that column has its dates; what is written has them as 2026-02-28, and so has --from-on \
+        | of YYYY-MM-DD DD.MM.YYYY DD/MM/YYYY MM/DD/YYYY | default YYYY-MM-DD",
     "= Numbers and fields",
     "--mark MARK | What is before decimals; by default what the database keeps, `.` if it is new | of . ,",
     "--delimiter -d DELIMITER | What is between fields; by default what the database keeps, `,` if it is new | of , ; tab \\t",

@@ -126,9 +126,12 @@ pub fn of_extras<'a>(
     error: ExtraError,
 ) -> Trouble<'a> {
     match error {
-        ExtraError::NoDate { line, field } => bad(format!(in alloc;
-            "{file}:{line}: no date: `{field}`; a date is written as 2026-02-28"
-        )),
+        ExtraError::NoDate { line, field, form } => {
+            let (name, example) = form.example();
+            bad(format!(in alloc;
+                "{file}:{line}: no date: `{field}`; a date is written as {example} (`--date-form {name}`)"
+            ))
+        }
         ExtraError::Sheet(error) => {
             let cure = cure_of(kept, &error);
             let read: Result<(), SheetError> = Err(error);

@@ -2,6 +2,8 @@ pub mod Batches
 pub mod Bookings
 pub mod Changes
 pub mod Counts
+pub mod DateForms
+pub mod DateFormsExamples
 pub mod Dated
 pub mod DatedExamples
 pub mod Dates

@@ -3,8 +3,9 @@
 ghost use Rattle.std.specs.Prelude.{◌≡◌, true, All, IfOk, IfSome, map, option_map, string_bytes};
 ghost use Rattle.hashbag_csv.specs.Sheets.{place, read_last};
 ghost use Rattle.hashbag_ledger_lib.specs.Dates.{is_date};
-ghost use Rattle.hashbag_ledger_lib.specs.Extras.{carried, columns_of, extras_read, last_field_if, place_if, HasNoBadDate, ReadsNextExtra};
+ghost use Rattle.hashbag_ledger_lib.specs.Extras.{carried, columns_of, extras_read, last_date_if, last_field_if, place_if, HasNoBadDate, ReadsNextExtra};
 
+use crate::date_forms::{DateForm, iso_of};
 use crate::dates::is_date;
 use crate::movements::{Change, Movement};
 use hashbag_csv::delimiter::Delimiter;
@@ -43,6 +44,8 @@ pub enum ExtraError {
         line: u64,
         /// The field, as it is shown.
         field: String,
+        /// The form of dates.
+        form: DateForm,
     },
 }
 
@@ -82,6 +85,21 @@ fn field_if(
     }
 }
 
+// Returns the date in this column of the record that was read last, as ISO writes it, or `None` if there is no column.
+fn date_if(
+    alloc: Global,
+    sheet: &Sheet<'_>,
+    column: Option<Column<'_>>,
+    form: DateForm,
+) -> Result<Option<String>, SheetError>
+    ensures { IfOk result (λ date. option_map string_bytes date ≡ last_date_if form sheet.now column.entry) }
+{
+    match column {
+        Some(column) => Ok(Some(iso_of(alloc, form, sheet.field(column)?)?)),
+        None => Ok(None),
+    }
+}
+
 // Returns whether there is no text, or the text is a date.
 fn is_date_if(text: &Option<String>) -> bool
     ensures { result ≡ true → IfSome text.now (λ t. is_date (string_bytes t) ≡ true) }
@@ -92,12 +110,16 @@ fn is_date_if(text: &Option<String>) -> bool
     }
 }
 
-// Returns the error for a field that is no date.
-fn no_date(alloc: Global, line: u64, date: &Option<String>) -> ExtraError {
-    match shown(alloc, text_or_empty(date)) {
-        Ok(field) => ExtraError::NoDate { line, field },
-        Err(_) => ExtraError::Sheet(SheetError::Memory),
-    }
+// Returns the error for a field that is no date of this form, in this column of the record that was read last.
+fn no_date(
+    alloc: Global,
+    sheet: &Sheet<'_>,
+    column: Option<Column<'_>>,
+    form: DateForm,
+) -> Result<ExtraError, SheetError> {
+    let text = field_if(alloc, sheet, column)?;
+    let (line, field) = (sheet.line(), shown(alloc, text_or_empty(&text))?);
+    Ok(ExtraError::NoDate { line, field, form })
 }
 
 // Reads what the next movement carries along, or returns `None` after the last one.
@@ -105,34 +127,36 @@ fn next_extra(
     alloc: Global,
     sheet: &mut Sheet<'_>,
     columns: ExtraColumns<Column<'_>>,
+    form: DateForm,
 ) -> Result<Option<Extra>, ExtraError>
-    ensures read { IfOk result (λ read. ReadsNextExtra (columns_of place columns.entry) sheet.old read sheet.new) }
+    ensures read { IfOk result (λ read. ReadsNextExtra form (columns_of place columns.entry) sheet.old read sheet.new) }
     ensures dates { IfOk result (λ read. IfSome read HasNoBadDate) }
 {
     if !sheet.read()? {
         return Ok(None);
     }
-    let date = field_if(alloc, sheet, columns.date)?;
+    let date = date_if(alloc, sheet, columns.date, form)?;
     let note = field_if(alloc, sheet, columns.note)?;
     if !is_date_if(&date) {
-        return Err(no_date(alloc, sheet.line(), &date));
+        return Err(no_date(alloc, sheet, columns.date, form)?);
     }
     Ok(Some(Extra { date, note }))
 }
 
-/// Reads the dates and the notes of the movements of a text, in the order of its lines: one [`Extra`] for each record.
+/// Reads the dates and the notes of the movements of a text, in the order of its lines: one [`Extra`] for each record. Dates are read in `form`.
 ///
 /// # Errors
 ///
-/// `NoDate` with the first line whose date field isn't a date. `Sheet` if the text can't be read, or an allocation fails.
+/// `NoDate` with the first line whose date field isn't a date of this form. `Sheet` if the text can't be read, or an allocation fails.
 pub fn read_extras(
     alloc: Global,
     text: &[u8],
     names: ExtraColumns<&str>,
     delimiter: Delimiter,
+    form: DateForm,
 ) -> Result<Vec<Extra>, ExtraError>
-    // `extras` is what the records of the text carry along, in turn. Each date is valid.
-    ensures extras { IfOk result (λ extras. map carried extras.items ≡ extras_read delimiter names.entry text.now) }
+    // `extras` is what the records of the text carry along, in turn, with dates read in `form`. Each date is valid.
+    ensures extras { IfOk result (λ extras. map carried extras.items ≡ extras_read delimiter form names.entry text.now) }
     ensures dates { IfOk result (λ extras. All HasNoBadDate extras.items) }
 {
     let mut sheet = Sheet::open_with(alloc, text, delimiter)?;
@@ -140,7 +164,7 @@ pub fn read_extras(
     let note = column_if(&sheet, names.note)?;
     let columns = ExtraColumns { date, note };
     let mut extras = Vec::new(alloc);
-    'records: while let Some(extra) = next_extra(alloc, &mut sheet, columns)? {
+    'records: while let Some(extra) = next_extra(alloc, &mut sheet, columns, form)? {
         extras.push(extra).map_err(AllocError::from)?;
     }
     Ok(extras)

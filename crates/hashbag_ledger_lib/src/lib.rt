@@ -3,6 +3,7 @@
 
 pub mod balance_forms;
 pub mod counting;
+pub mod date_forms;
 pub mod dated;
 pub mod dates;
 pub mod entering;

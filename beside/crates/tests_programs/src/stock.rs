@@ -3,6 +3,7 @@ use hashbag::FixedState;
 use hashbag_csv::counts::Reading;
 use hashbag_csv::delimiter::Delimiter;
 use hashbag_csv::scale::{Mark, Scale};
+use hashbag_ledger_lib::date_forms::{DateForm, iso_of};
 use hashbag_ledger_lib::dated::balance_at;
 use hashbag_ledger_lib::dates::is_date;
 use hashbag_ledger_lib::extras::{Extra, ExtraColumns, opposite_extras, read_extras};
@@ -581,6 +582,29 @@ fn dates_are_days_of_the_calendar(rt: HostRuntime) -> Result<(), Fail> {
     Ok(())
 }
 
+// Names of forms, fields, and the dates that they are; an empty text is no date.
+const FORMS: [(&str, &str, &str); 9] = [
+    ("YYYY-MM-DD", "2026-02-28", "2026-02-28"),
+    ("DD.MM.YYYY", "28.02.2026", "2026-02-28"),
+    ("DD/MM/YYYY", "05/06/2026", "2026-06-05"),
+    ("MM/DD/YYYY", "05/06/2026", "2026-05-06"),
+    ("MM/DD/YYYY", "28/02/2026", ""),
+    ("DD.MM.YYYY", "29.02.1900", ""),
+    ("DD.MM.YYYY", "28.02.26", ""),
+    ("DD.MM.YYYY", "2026-02-28", ""),
+    ("DD/MM/YYYY", "05/06/2026/", ""),
+];
+
+#[test]
+fn dates_are_read_in_their_forms(rt: HostRuntime) -> Result<(), Fail> {
+    for (name, field, wanted) in &FORMS {
+        let iso = iso_of(rt.alloc(), DateForm::named(name), field)?;
+        let date = if is_date(iso.as_str()) { iso.as_str() } else { "" };
+        assert_eq!(rt; date, *wanted);
+    }
+    Ok(())
+}
+
 #[test]
 fn dates_and_notes_are_read(rt: HostRuntime) -> Result<(), Fail> {
     let alloc = rt.alloc();
@@ -589,7 +613,7 @@ fn dates_and_notes_are_read(rt: HostRuntime) -> Result<(), Fail> {
         date: Some("on"),
         note: Some("why"),
     };
-    let Ok(extras) = read_extras(alloc, text, names, Delimiter::Comma) else {
+    let Ok(extras) = read_extras(alloc, text, names, Delimiter::Comma, DateForm::Iso) else {
         return Err(Fail::from("not read"));
     };
     assert_eq!(rt; extras.len(), 2);

@@ -15,8 +15,8 @@ records-init c =
     let columns = columns_of place (columns_named c.in_ok-date.date c.in_ok-note.note) in
     record {
       dates = subst (λ (l : List Extra). All HasNoBadDate l) none (λ k d few. absurd (omega (arith, few)));
-      read = under_header c.args.names _ (read_last c.in_ok-sheet.sheet) (left c.in_ok-sheet.sheet) columns c.in_ok-sheet.ensures c.in_ok-date.ensures c.in_ok-note.ensures
-          ∙ ap (λ (l : List Extra). map carried l ++ map (extra_in columns) (left c.in_ok-sheet.sheet)) none;
+      read = under_header c.args.form c.args.names _ (read_last c.in_ok-sheet.sheet) (left c.in_ok-sheet.sheet) columns c.in_ok-sheet.ensures c.in_ok-date.ensures c.in_ok-note.ensures
+          ∙ ap (λ (l : List Extra). map carried l ++ map (extra_in c.args.form columns) (left c.in_ok-sheet.sheet)) none;
     }
 
 -- one more
@@ -26,7 +26,7 @@ records-preserved c =
     let noted = rw pushed at c.push.ensures.items in
     let x = c.in-Some.extra in
     let (r, next, same) = rw c.in-Some.is at c.in_ok-extra.ensures.read in
-    let f = extra_in (columns_of place (columns_named c.in_ok-date.date c.in_ok-note.note)) in
+    let f = extra_in c.args.form (columns_of place (columns_named c.in_ok-date.date c.in_ok-note.note)) in
     record {
       dates = subst (λ (l : List Extra). All HasNoBadDate l) (sym noted)
           (All-push HasNoBadDate c.records.extras.items x c.records.invariant.dates (rw c.in-Some.is at c.in_ok-extra.ensures.dates));
@@ -45,4 +45,4 @@ records-smaller c =
 pub returns-clause-extras : goal.returns-clause-extras
 returns-clause-extras c =
     let none = rw c.in_default.is at c.in_ok-extra.ensures.read in
-    sym (all_read (extra_in (columns_of place (columns_named c.in_ok-date.date c.in_ok-note.note))) _ (map carried c.records.extras.items) (left c.records.sheet) c.records.invariant.read none)
+    sym (all_read (extra_in c.args.form (columns_of place (columns_named c.in_ok-date.date c.in_ok-note.note))) _ (map carried c.records.extras.items) (left c.records.sheet) c.records.invariant.read none)

@@ -7,7 +7,7 @@ use Rattle.hashbag_ledger_lib.proofs.extras.read_extras.Given as goal
 abbrev pub invariant-records : goal.invariant-records
 invariant-records l = record {
   dates : All HasNoBadDate l.extras.items;
-  read : extras_in l.fn.delimiter (columns_of (λ n. n.now) l.names) l.text ≡ map carried l.extras.items ++ map (extra_in (columns_of place l.columns)) (left l.sheet);
+  read : extras_in l.fn.delimiter l.form (columns_of (λ n. n.now) l.names) l.text ≡ map carried l.extras.items ++ map (extra_in l.form (columns_of place l.columns)) (left l.sheet);
 }
 
 -- a record less is left
