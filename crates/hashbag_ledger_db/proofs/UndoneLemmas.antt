@@ -1,5 +1,5 @@
 -- What an undo does to a stock.
-use Rattle.std.proofs.Common.{◌≡◌, ◌≢◌, ℕ, ℤ, ◌<◌, List, [], ◌∷◌, map, String, Global, refl, ◌∙◌, ap, subst, string_cmp}
+use Rattle.std.proofs.Common.{◌≡◌, ℕ, ℤ, List, [], ◌∷◌, map, String, Global, refl, ◌∙◌, ap, subst, string_cmp}
 use Rattle.std.specs.String.{string_eq}
 use Rattle.sqlite.specs.Store.{Ghosts}
 use Rattle.sqlite.specs.Held.{Held}

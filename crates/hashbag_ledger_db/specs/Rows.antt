@@ -1,6 +1,6 @@
 -- The rows of a stock's tables, as values of SQL: `batch_row`, `movement_row`, `refusal_row` and `article_row` are what is written, and the same
 -- words say what is read.
-use Rattle.std.specs.Prelude.{◌≡◌, ℕ, ◌+◌, ℤ, pos, negsuc, zero, suc, List, [], ◌∷◌, Option, string_bytes, String}
+use Rattle.std.specs.Prelude.{◌≡◌, ℕ, ◌+◌, ℤ, pos, negsuc, zero, suc, [], ◌∷◌, Option, string_bytes, String}
 use Rattle.std.specs.Global.{Global}
 use Rattle.sqlite.specs.Order.{Row, column}
 use Rattle.sqlite.specs.Values.{or_null}

@@ -1,5 +1,5 @@
 use Rattle.std.proofs.Common.{◌≡◌, true, false, sym, subst, rules}
-use Rattle.sqlite.specs.Held.{Held, state}
+use Rattle.sqlite.specs.Held.{state}
 use Rattle.sqlite.specs.State.{HasCleanDisk}
 use Rattle.hashbag_ledger_db.specs.Commits.{IsInside, IsOneCommit, RunsAll}
 use Rattle.hashbag_ledger_db.specs.Statements.{runs_of}
