@@ -21,4 +21,4 @@ returns g c =
     let read : to_z w64 (of_z w64 number) ≡ number = search rules in
     let put = rw c.deref-in-Done-2.ensures.value at c.in_ok-message-in-Done.ensures in
     taken_back g.D.Store c.args.found c.args.conn.now c.put.new.conn 0 c.in_ok-movements.movements.items same (to_z w64 (of_z w64 number)) c.in-Done.booked c.in_ok-undo.changed.items
-        (read ∙ c.batch-number.ensures) refl undone.undo undone.entries undone.changed put
+    (read ∙ c.batch-number.ensures) refl undone.undo undone.entries undone.changed put

@@ -11,4 +11,4 @@ returns-in-Ok g c right =
     let batches : map batch_number c.args.kept.movements.items ≡ numbers_of c.args.kept.batches.items = rw (c.deref.ensures.value, c.deref-2.ensures.value) at (c.wrong_batch.ensures none) in
     let same = rw (c.deref-in-Ok.ensures.value, c.deref-in-Ok-2.ensures.value, c.deref-in-Ok-3.ensures.value, c.deref-in-Ok-4.ensures.value) at (c.in_ok-wrong_row-in-Ok.ensures right) in
     agrees c.args.style.scale c.args.kept c.in-Ok.booked c.new.result.items c.in_ok-movements.movements.items c.in_ok-movements.extras.items c.new.ensures.items
-        c.in_ok-movements.ensures.movements c.in_ok-movements.ensures.extras batches c.in-Ok.ensures.booked same
+    c.in_ok-movements.ensures.movements c.in_ok-movements.ensures.extras batches c.in-Ok.ensures.booked same
