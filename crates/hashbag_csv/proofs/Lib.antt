@@ -10,4 +10,6 @@ pub mod NumberLemmas
 pub mod QuantityLemmas
 pub mod ReaderLemmas
 pub mod SortedLemmas
+pub mod TableLemmas
 pub mod TrimLemmas
+pub mod WrittenLemmas

@@ -2,6 +2,7 @@ pub mod Alike
 pub mod ArticleLaws
 pub mod Articles
 pub mod BadLines
+pub mod Cells
 pub mod Counts
 pub mod Decimals
 pub mod DecimalsExamples
@@ -10,6 +11,7 @@ pub mod EscapedExamples
 pub mod Faults
 pub mod FaultsExamples
 pub mod FirstLines
+pub mod Forms
 pub mod Groups
 pub mod GroupsExamples
 pub mod KeyForms
@@ -24,4 +26,9 @@ pub mod Quantities
 pub mod Readers
 pub mod Scales
 pub mod Sheets
+pub mod Tables
+pub mod TablesExamples
 pub mod Totals
+pub mod Widths
+pub mod Written
+pub mod WrittenExamples

@@ -8,7 +8,8 @@ use crate::putting::in_database;
 use crate::stages::Stages;
 use crate::stock::reading::balance_of;
 use crate::stock::tables::Contents;
-use hashbag_ledger_lib::output::balance_text;
+use hashbag_csv::forms::{Form, rows_text};
+use hashbag_ledger_lib::listings::{Balance, NAMES};
 use hashbag_ledger_lib::style::Style;
 use hashbag_shell::trouble::Trouble;
 use sqlite::{Alter, Connection};
@@ -59,7 +60,14 @@ pub fn beginning_of<'a>(
     closed: &Closed,
 ) -> Result<Input<'a>, Trouble<'a>> {
     let reading = job.reading(closed.style);
-    let text = balance_text(alloc, ("article", "number"), reading, &closed.balance)?;
+    let listing = Balance(NAMES, reading.scale);
+    let text = rows_text(
+        alloc,
+        Form::Csv,
+        reading.delimiter,
+        &listing,
+        &closed.balance,
+    )?;
     input_of(alloc, job.db, text, None, true)
 }
 

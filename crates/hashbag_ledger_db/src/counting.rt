@@ -15,12 +15,12 @@ use crate::stock::statements::NewRows;
 use crate::troubles::{start_too_many, too_large};
 use hashbag_csv::counts::Reading;
 use hashbag_csv::fault::in_file;
-use hashbag_ledger_lib::balance_forms::rows_of;
+use hashbag_csv::forms::{Form, rows_text};
 use hashbag_ledger_lib::counting::{count_stock, name_all};
 use hashbag_ledger_lib::entering::LedgerError;
 use hashbag_ledger_lib::extras::Extra;
 use hashbag_ledger_lib::filing::Filed;
-use hashbag_ledger_lib::listing::differences_text;
+use hashbag_ledger_lib::listings::{Differences, rows_of};
 use hashbag_ledger_lib::movements::Movement;
 use hashbag_ledger_lib::once::{Batch, Kind, next_number};
 use hashbag_ledger_lib::sealing::{Draft, sealed_rows};
@@ -158,7 +158,9 @@ pub fn count_in<'a, D: Alter, S: BuildHasher + Copy + Drop, G: Stages>(
     let filed = counted_of(alloc, state, job, &input, style, &kept, stages)?;
     let entries = &filed.booked.entries;
     let extras = extras_on(alloc, job, entries.len())?;
-    let table = differences_text(alloc, job.reading(style), entries)?;
+    let reading = job.reading(style);
+    let differences = Differences(reading.scale);
+    let table = rows_text(alloc, Form::Csv, reading.delimiter, &differences, entries)?;
     stages.begin(Stage::Writing);
     let message = write(
         alloc, conn, db, style, &input, &batches, &kept, &filed, &extras,

@@ -16,14 +16,14 @@ use crate::stock::tables::Contents;
 use crate::troubles::{other_scale, start_too_many, too_large};
 use hashbag_csv::counts::Reading;
 use hashbag_csv::delimiter::Delimiter;
-use hashbag_ledger_lib::balance_forms::rows_of;
+use hashbag_csv::forms::{Form, rows_text};
 use hashbag_ledger_lib::entering::LedgerError;
 use hashbag_ledger_lib::extras::{Extra, ExtraColumns};
 use hashbag_ledger_lib::filing::{Filed, enter_files, refusals_of};
 use hashbag_ledger_lib::ledger::booking::count_refused;
+use hashbag_ledger_lib::listings::{Refusals, rows_of};
 use hashbag_ledger_lib::movements::Movement;
 use hashbag_ledger_lib::once::Kind;
-use hashbag_ledger_lib::output::refusals_table;
 use hashbag_ledger_lib::reading::Columns;
 use hashbag_ledger_lib::sealing::{Draft, sealed_rows};
 use hashbag_ledger_lib::style::Style;
@@ -243,7 +243,10 @@ fn text_of<'a>(
     let names = names_of(alloc, inputs)?;
     // A table for a file, lines for standard error.
     match job.refused {
-        Some(_) => refusals_table(alloc, &names, reading, &refusals),
+        Some(_) => {
+            let rows = Refusals(reading.scale, &names);
+            rows_text(alloc, Form::Csv, reading.delimiter, &rows, &refusals)
+        }
         None => {
             let balance = rows_of(alloc, kept)?;
             Ok(refused_text(alloc, &names, reading.scale, &balance, &refusals)?.into_bytes())

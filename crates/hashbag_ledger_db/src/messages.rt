@@ -1,9 +1,9 @@
 //! The messages for standard error: what was done, and what isn't there.
 use hashbag_csv::escaped::Escaped;
 use hashbag_csv::scale::Scale;
+use hashbag_ledger_lib::listings::refusals_text;
 use hashbag_ledger_lib::movements::{Change, Entry, Outcome, Refusal};
 use hashbag_ledger_lib::once::Batch;
-use hashbag_ledger_lib::output::refusals_text;
 use hashbag_shell::tips::Nearest;
 use std::alloc::{AllocError, Global};
 use std::fmt::Write;

@@ -9,12 +9,13 @@ use crate::stock::reading::{
 };
 use crate::troubles::{moved_too_much, no_day, start_too_many};
 use crate::wanted::wanted_of;
+use hashbag_csv::counts::Reading;
+use hashbag_csv::forms::{Form, rows_text};
 use hashbag_csv::scale::{Mark, Scale};
-use hashbag_ledger_lib::balance_forms::{Form, formed_text, rows_of};
 use hashbag_ledger_lib::dated::{DatedError, balance_at};
 use hashbag_ledger_lib::dates::is_date;
 use hashbag_ledger_lib::entering::LedgerError;
-use hashbag_ledger_lib::listing::{batches_text, history_text, movements_text};
+use hashbag_ledger_lib::listings::{Batches, DayBalance, History, Movements, rows_of};
 use hashbag_ledger_lib::movements::{Change, Entry};
 use hashbag_ledger_lib::numbers::size_of;
 use hashbag_ledger_lib::recalling::{recall, recall_batch};
@@ -79,6 +80,15 @@ fn rows_with_some<'b>(
     Ok(some)
 }
 
+// Returns how the job's form is written. A number of JSON has a point, whatever mark the stock has.
+fn reading_of(job: &Job<'_>, style: Style) -> Reading {
+    let mut reading = job.reading(style);
+    if job.form == Form::Json {
+        reading.scale = Scale::new(style.scale, Mark::Point).unwrap_or(reading.scale);
+    }
+    reading
+}
+
 // Returns what is shown of a balance: all its rows, or the rows of the job's articles. The message names the articles that aren't in the
 // balance.
 fn shown_of(
@@ -88,16 +98,13 @@ fn shown_of(
     rows: Vec<(&str, Change)>,
 ) -> Result<Shown, AllocError> {
     let message = absent_text(alloc, job.db, &rows, &job.articles)?;
-    let mut reading = job.reading(style);
-    if job.form == Form::Json {
-        // A number of JSON has a point, whatever mark the stock has.
-        reading.scale = Scale::new(style.scale, Mark::Point).unwrap_or(reading.scale);
-    }
+    let reading = reading_of(job, style);
+    let balance = DayBalance(reading.scale);
     let table = if job.articles.is_empty() {
-        formed_text(alloc, reading, job.form, &rows)?
+        rows_text(alloc, job.form, reading.delimiter, &balance, &rows)?
     } else {
         let chosen = chosen_of(alloc, &rows, &job.articles)?;
-        formed_text(alloc, reading, job.form, &chosen)?
+        rows_text(alloc, job.form, reading.delimiter, &balance, &chosen)?
     };
     Ok(Shown { table, message })
 }
@@ -181,7 +188,9 @@ pub fn show_in<'a, D: Alter, S: BuildHasher + Drop>(
     let movements = in_database(alloc, db, movements_until(alloc, conn, number))?;
     let batch = number.unsigned_abs() as usize;
     let entries = recalled_in(alloc, db, recall_batch(alloc, state, movements, batch))?;
-    let table = movements_text(alloc, job.reading(style), &entries)?;
+    let reading = reading_of(job, style);
+    let movements = Movements(reading.scale);
+    let table = rows_text(alloc, job.form, reading.delimiter, &movements, &entries)?;
     let message = String::new(alloc);
     Ok(Shown { table, message })
 }
@@ -209,7 +218,9 @@ pub fn history_in<'a, D: Alter, S: BuildHasher + Drop>(
         String::new(alloc)
     };
     let entries = recalled_in(alloc, db, recall(alloc, state, movements))?;
-    let table = history_text(alloc, job.reading(style), &batches, &entries)?;
+    let reading = reading_of(job, style);
+    let history = History(reading.scale, &batches);
+    let table = rows_text(alloc, job.form, reading.delimiter, &history, &entries)?;
     Ok(Shown { table, message })
 }
 
@@ -225,7 +236,8 @@ pub fn batches_in<'a, D: Alter>(
     conn: &mut Connection<D>,
 ) -> Result<Shown, Trouble<'a>> {
     let batches = in_database(alloc, job.db, batches_of(alloc, conn))?;
-    let table = batches_text(alloc, job.reading(style), &batches)?;
+    let reading = reading_of(job, style);
+    let table = rows_text(alloc, job.form, reading.delimiter, &Batches, &batches)?;
     let message = String::new(alloc);
     Ok(Shown { table, message })
 }

@@ -6,9 +6,10 @@ use crate::settings::Settings;
 use crate::troubles::in_start;
 use hashbag_csv::counts::read_counts_as;
 use hashbag_csv::fault::in_file;
+use hashbag_csv::forms::{Form, rows_text};
 use hashbag_ledger_lib::ledger::{Entered, Ledger, end};
+use hashbag_ledger_lib::listings::{Balance, Refusals, refusals_text};
 use hashbag_ledger_lib::movements::Refusal;
-use hashbag_ledger_lib::output::{balance_text, refusals_table, refusals_text};
 use hashbag_ledger_lib::reading::enter_movements;
 use hashbag_shell::inputs::{Inputs, read_text};
 use hashbag_shell::status::{DENIED, DONE};
@@ -120,11 +121,15 @@ fn refused_text(
     } else {
         all
     };
+    let reading = settings.reading;
     // A table for a file, lines for standard error.
     match settings.refused {
-        Some(_) => refusals_table(alloc, &settings.files, settings.reading, named),
+        Some(_) => {
+            let rows = Refusals(reading.scale, &settings.files);
+            rows_text(alloc, Form::Csv, reading.delimiter, &rows, named)
+        }
         None => {
-            let text = refusals_text(alloc, &settings.files, settings.reading.scale, named)?;
+            let text = refusals_text(alloc, &settings.files, reading.scale, named)?;
             Ok(text.into_bytes())
         }
     }
@@ -141,8 +146,10 @@ fn left_text(
     if settings.strict && is_refused(entered) {
         return Ok(None);
     }
-    let names = settings.start_columns;
-    Ok(Some(balance_text(alloc, names, settings.reading, &entered.balance)?))
+    let reading = settings.reading;
+    let listing = Balance(settings.start_columns, reading.scale);
+    let text = rows_text(alloc, Form::Csv, reading.delimiter, &listing, &entered.balance)?;
+    Ok(Some(text))
 }
 
 // Returns whether there is a refusal.

@@ -1,6 +1,7 @@
 -- The dates and notes of movements, as the records of a CSV text have them.
-use Rattle.std.specs.Prelude.{◌≡◌, ℕ, true, List, [], ◌∷◌, map, get_or, Option, IfSome, MatchOption, option_map}
+use Rattle.std.specs.Prelude.{◌≡◌, ℕ, true, List, [], ◌∷◌, map, get_or, Option, None, Some, String, IfSome, MatchOption, option_map}
 use Rattle.std.specs.Borrow.{Bor}
+use Rattle.std.specs.Global.{Global}
 use Rattle.std.specs.String.{string_bytes}
 use Rattle.hashbag_csv.specs.Lines.{place_of}
 use Rattle.hashbag_csv.specs.Readers.{Record, records_in}
@@ -17,6 +18,11 @@ use Rattle.hashbag_ledger_lib.specs.declared.extras.ExtraColumns.{ExtraColumns}
 -- the bytes of a date and of a note, each if there is one
 abbrev pub carried : Extra → Option (List ℕ) × Option (List ℕ)
 carried x = (option_map string_bytes x.date, option_map string_bytes x.note)
+
+-- a date or a note; empty if there is none
+abbrev pub text_if : Option (String Global) → List ℕ
+text_if None = []
+text_if (Some text) = string_bytes text
 
 -- the text of the date, if there is one, is a valid date
 abbrev pub HasNoBadDate : Extra → Type 0

@@ -16,6 +16,7 @@ pub mod Kinds
 pub mod Ledger
 pub mod LedgerExamples
 pub mod Ledgers
+pub mod Listings
 pub mod Movements
 pub mod MovementsExamples
 pub mod Numbers

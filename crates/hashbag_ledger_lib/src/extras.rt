@@ -3,7 +3,7 @@
 ghost use Rattle.std.specs.Prelude.{◌≡◌, true, All, IfOk, IfSome, map, option_map, string_bytes};
 ghost use Rattle.hashbag_csv.specs.Sheets.{place, read_last};
 ghost use Rattle.hashbag_ledger_lib.specs.Dates.{is_date};
-ghost use Rattle.hashbag_ledger_lib.specs.Extras.{carried, columns_of, extras_read, last_date_if, last_field_if, place_if, HasNoBadDate, ReadsNextExtra};
+ghost use Rattle.hashbag_ledger_lib.specs.Extras.{carried, columns_of, extras_read, last_date_if, last_field_if, place_if, text_if, HasNoBadDate, ReadsNextExtra};
 
 use crate::date_forms::{DateForm, iso_of};
 use crate::dates::is_date;
@@ -203,6 +203,11 @@ pub fn opposite_extras(
 }
 
 /// Returns the text, or an empty one.
-pub fn text_or_empty(text: &Option<String>) -> &str {
-    text.as_ref().map_or("", |text| text.as_str())
+pub fn text_or_empty(text: &Option<String>) -> &str
+    ensures { result.now ≡ text_if text.now }
+{
+    match text {
+        Some(text) => text.as_str(),
+        None => "",
+    }
 }

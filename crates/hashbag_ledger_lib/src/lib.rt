@@ -1,7 +1,6 @@
 //! Movements of a stock, and a stock that is kept: what the program `hashbag_ledger` decides, as functions of texts, lists and bags.
 #![tactic(auto)]
 
-pub mod balance_forms;
 pub mod counting;
 pub mod date_forms;
 pub mod dated;
@@ -10,11 +9,10 @@ pub mod entering;
 pub mod extras;
 pub mod filing;
 pub mod ledger;
-pub mod listing;
+pub mod listings;
 pub mod movements;
 pub mod numbers;
 pub mod once;
-pub mod output;
 pub mod pairs;
 pub mod reading;
 pub mod recalling;

@@ -1,6 +1,7 @@
 //! The words of the command line as values.
 use clap::ArgMatches;
 use hashbag_csv::counts::Reading;
+use hashbag_csv::forms::Form;
 use hashbag_csv::groups::GroupMark;
 use hashbag_csv::key_form::KeyForm;
 use hashbag_csv::line_form::LineForm;
@@ -8,7 +9,6 @@ use hashbag_csv::number_form::NumberForm;
 use hashbag_match_lib::ask::{Ask, Columns};
 use hashbag_match_lib::files::TwoFiles;
 use hashbag_match_lib::keys::names_in;
-use hashbag_match_lib::output::Form;
 use hashbag_match_lib::shown::Only;
 use hashbag_shell::one_file::is_one_file;
 use hashbag_shell::options::{encoding, reports, word};

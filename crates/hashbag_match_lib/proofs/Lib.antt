@@ -7,4 +7,3 @@ pub mod SumLemmas
 pub mod TableLemmas
 pub mod TallyLemmas
 pub mod TextLemmas
-pub mod WrittenLemmas

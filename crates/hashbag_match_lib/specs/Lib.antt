@@ -6,10 +6,6 @@ pub mod Matched
 pub mod Matching
 pub mod Readable
 pub mod Shown
-pub mod Tables
-pub mod TablesExamples
 pub mod Tallies
 pub mod Texts
-pub mod Widths
 pub mod Written
-pub mod WrittenExamples

@@ -1,9 +1,10 @@
 //! What is asked for: how two lists are read, and which of their rows are written, and how.
 use crate::keys::{names_in, repeated};
-use crate::output::{Form, is_reserved};
+use crate::output::is_reserved;
 use crate::shown::Only;
 use hashbag_csv::counts::Reading;
 use hashbag_csv::escaped::Escaped;
+use hashbag_csv::forms::Form;
 use hashbag_csv::groups::GroupMark;
 use hashbag_csv::line_form::LineForm;
 use std::alloc::{AllocError, Global};

@@ -2,17 +2,14 @@
 #![tactic(auto)]
 
 pub mod ask;
-mod csv_text;
 pub mod files;
 pub mod hints;
-mod json_text;
 pub mod keys;
 pub mod matching;
 pub mod near;
 pub mod output;
 pub mod reading;
 pub mod shown;
-mod table;
 pub mod tally;
 pub mod texts;
 pub mod totals;

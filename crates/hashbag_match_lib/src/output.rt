@@ -1,42 +1,20 @@
 //! The text of rows.
-ghost use Rattle.std.specs.Prelude.{◌≡◌, map, IfOk};
+ghost use Rattle.std.specs.Prelude.{◌≡◌, ◌++◌, map, IfOk, OnOk};
 ghost use Rattle.std.specs.String.{string_bytes};
-ghost use Rattle.hashbag_match_lib.specs.Forms.{text_in};
-ghost use Rattle.hashbag_match_lib.specs.Shown.{entries_of};
-ghost use Rattle.hashbag_match_lib.specs.Written.{look_of, numbers_text};
+ghost use Rattle.hashbag_csv.specs.Cells.{cells_of};
+ghost use Rattle.hashbag_match_lib.specs.Forms.{lines_in, text_in};
+ghost use Rattle.hashbag_match_lib.specs.Shown.{entries_of, entry_of};
+ghost use Rattle.hashbag_match_lib.specs.Written.{cells_in, columns_in, look_of, lent_names, sums_text};
 
-use crate::csv_text::csv_of;
-use crate::json_text::json_of;
 use crate::matching::Row;
 use crate::shown::Fields;
-use crate::table::table_of;
 use crate::totals::Totals;
+use hashbag_csv::cells::{Cell, Listing, Names, RowCells};
 use hashbag_csv::decimals::write_decimal;
 use hashbag_csv::delimiter::Delimiter;
+use hashbag_csv::forms::{Form, rows_text};
 use hashbag_csv::scale::Scale;
 use std::alloc::{AllocError, Global};
-
-/// How the rows are written.
-#[derive(Clone, Copy, PartialEq, Eq, Debug)]
-pub enum Form {
-    /// In columns, with the sums on the last line.
-    Table,
-    /// As CSV, with a header and the delimiter of the input.
-    Csv,
-    /// As a JSON array that has an object for each row.
-    Json,
-}
-
-impl Form {
-    /// Returns the form with this name: `table`, `csv` or `json`. Returns `Table` for any other name.
-    pub fn named(name: &str) -> Form {
-        match name {
-            "csv" => Form::Csv,
-            "json" => Form::Json,
-            _ => Form::Table,
-        }
-    }
-}
 
 /// How rows are written: the names of the columns of fields, the form of numbers, and the delimiter.
 #[derive(Clone, Copy)]
@@ -52,28 +30,91 @@ pub struct Layout<'a> {
 }
 
 // The names of the columns of numbers.
-pub(crate) static NUMBERS: [&str; 4] = ["ordered", "delivered", "missing", "surplus"];
+static NUMBERS: [&str; 4] = ["ordered", "delivered", "missing", "surplus"];
 
 /// Returns whether a column of numbers has this name. No key column of the output, and no carried column, may have such a name.
 pub fn is_reserved(name: &str) -> bool {
     NUMBERS.iter().any(|number| *number == name)
 }
 
-/// Returns the numbers of a row in the order of their columns, as they are written.
-///
-/// # Errors
-///
-/// An allocation fails.
-pub fn numbers_of<T>(alloc: Global, row: &Row<T>, scale: Scale) -> Result<[String; 4], AllocError>
-    // The texts are how many were ordered, delivered, missing and surplus, in this order, each with all decimals of the scale.
-    ensures { IfOk result (λ texts. map string_bytes texts ≡ numbers_text scale row.now) }
+// Appends names.
+fn push_names<'n>(all: &mut Vec<&'n str>, names: &'n [&'n str]) -> Result<(), AllocError>
+    ensures { OnOk result (lent_names all.new ≡ lent_names all.old ++ map (λ n. n.now) names.now) }
 {
-    Ok([
-        write_decimal(alloc, row.ordered, scale)?,
-        write_decimal(alloc, row.delivered, scale)?,
-        write_decimal(alloc, row.missing(), scale)?,
-        write_decimal(alloc, row.surplus(), scale)?,
-    ])
+    for name in names {
+        all.push(*name)?;
+    }
+    Ok(())
+}
+
+// Appends fields.
+fn push_fields<'f>(
+    cells: &mut Vec<Cell<&'f str, Scale>>,
+    fields: &'f [String],
+) -> Result<(), AllocError>
+    ensures { OnOk result (cells_of cells.new ≡ cells_of cells.old ++ map Cell.Text (map string_bytes fields.now)) }
+{
+    for field in fields {
+        cells.push(Cell::Text(field.as_str()))?;
+    }
+    Ok(())
+}
+
+impl Listing<Row<Fields<'_>>> for Layout<'_> {
+    ghost columns = { λ layout. columns_in (look_of layout) };
+
+    ghost line = { λ layout row. cells_in layout.scale (entry_of row) };
+
+    fn names<'s>(&'s self, alloc: Global) -> Names<'s>
+        ensures { IfOk result (λ names. lent_names names ≡ columns_in (look_of self.now)) }
+    {
+        let mut names = Vec::new(alloc);
+        push_names(&mut names, self.keys)?;
+        push_names(&mut names, self.carried)?;
+        push_names(&mut names, NUMBERS.as_slice())?;
+        Ok(names)
+    }
+
+    fn cells<'s>(&'s self, alloc: Global, row: &'s Row<Fields<'_>>) -> RowCells<'s>
+        ensures { IfOk result (λ cells. cells_of cells ≡ cells_in self.now.scale (entry_of row.now)) }
+    {
+        let mut cells = Vec::new(alloc);
+        push_fields(&mut cells, row.article.article)?;
+        push_fields(&mut cells, row.article.carried)?;
+        cells.push(Cell::Number(row.ordered, self.scale))?;
+        cells.push(Cell::Number(row.delivered, self.scale))?;
+        cells.push(Cell::Number(row.missing(), self.scale))?;
+        cells.push(Cell::Number(row.surplus(), self.scale))?;
+        Ok(cells)
+    }
+}
+
+// Returns the text of these rows, without the last line of a table.
+fn lines_text(
+    alloc: Global,
+    rows: &[Row<Fields<'_>>],
+    layout: Layout<'_>,
+    form: Form,
+) -> Result<Vec<u8>, AllocError>
+    ensures { IfOk result (λ text. text.items ≡ lines_in form (look_of layout.entry) (entries_of rows.now)) }
+{
+    rows_text(alloc, form, layout.delimiter, &layout, rows)
+}
+
+// Returns the last line of a table: how many articles differ, and the sums.
+fn sums_of(alloc: Global, totals: &Totals, scale: Scale) -> Result<String, AllocError>
+    ensures { IfOk result (λ text. string_bytes text ≡ sums_text scale totals.now) }
+{
+    if totals.differing == 0 {
+        return format!(in alloc; "no article of {} differs\n", totals.articles);
+    }
+    let missing = write_decimal(alloc, totals.missing, scale)?;
+    let surplus = write_decimal(alloc, totals.surplus, scale)?;
+    if totals.differing == 1 {
+        return format!(in alloc; "1 article differs: {missing} missing, {surplus} surplus\n");
+    }
+    let differing = totals.differing;
+    format!(in alloc; "{differing} articles differ: {missing} missing, {surplus} surplus\n")
 }
 
 /// Returns the text of these rows, in this form. `totals` are the sums of all rows, also of rows that aren't written.
@@ -91,9 +132,12 @@ pub fn text_of(
     // The text is the rows in the form `form`, with the names, scale and delimiter of `layout`. A table ends with `totals`.
     ensures { IfOk result (λ text. text.items ≡ text_in form (look_of layout.entry) totals.now (entries_of rows.now)) }
 {
+    let mut text = lines_text(alloc, rows, layout, form)?;
     match form {
-        Form::Table => table_of(alloc, rows, totals, layout),
-        Form::Csv => csv_of(alloc, rows, layout),
-        Form::Json => json_of(alloc, rows, layout),
+        Form::Table => {
+            text.extend_from_slice(sums_of(alloc, totals, layout.scale)?.as_bytes())?;
+            Ok(text)
+        }
+        Form::Csv | Form::Json => Ok(text),
     }
 }

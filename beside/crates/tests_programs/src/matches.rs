@@ -2,9 +2,10 @@
 use crate::texts::are_text;
 use hashbag::{BagError, FixedState};
 use hashbag_csv::delimiter::Delimiter;
+use hashbag_csv::forms::Form;
 use hashbag_csv::scale::{Mark, Scale};
 use hashbag_match_lib::matching::match_tallies;
-use hashbag_match_lib::output::{Form, Layout, text_of};
+use hashbag_match_lib::output::{Layout, text_of};
 use hashbag_match_lib::shown::{Only, shown_rows};
 use hashbag_match_lib::tally::{Tally, empty_tally};
 use std::alloc::{AllocError, Global};

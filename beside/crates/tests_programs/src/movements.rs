@@ -4,11 +4,12 @@ use crate::texts::{are_text, is_text};
 use hashbag::FixedState;
 use hashbag_csv::counts::Reading;
 use hashbag_csv::delimiter::Delimiter;
+use hashbag_csv::forms::{Form, rows_text};
 use hashbag_csv::scale::{Mark, Scale};
 use hashbag_ledger_lib::entering::LedgerError;
 use hashbag_ledger_lib::ledger::{Entered, Ledger, end};
+use hashbag_ledger_lib::listings::{Balance, Refusals, refusals_text};
 use hashbag_ledger_lib::movements::{Change, Movement, Refusal};
-use hashbag_ledger_lib::output::{balance_text, refusals_table, refusals_text};
 use hashbag_ledger_lib::reading::{ChangeColumns, Columns, enter_movements, read_movements};
 use std::alloc::{AllocError, Global};
 use std::hash::{BuildHasher, RandomState};
@@ -224,6 +225,16 @@ fn stock_of(alloc: Global, start: &[(&str, usize)]) -> Result<Vec<(String, usize
     Ok(stock)
 }
 
+// What a balance is as CSV.
+fn balance_text(
+    alloc: Global,
+    names: (&str, &str),
+    reading: Reading,
+    balance: &[(String, usize)],
+) -> Result<Vec<u8>, AllocError> {
+    rows_text(alloc, Form::Csv, reading.delimiter, &Balance(names, reading.scale), balance)
+}
+
 // Returns the balance and the refusals as text.
 fn said_of_all(alloc: Global, entered: &Entered<String>) -> Result<String, Fail> {
     let balance = balance_text(alloc, NAMES, Reading::plain(), &entered.balance)?;
@@ -283,6 +294,16 @@ fn entered_into(
     };
     enter_movements(alloc, &mut ledger, text.as_bytes(), 0, SIGNED, reading)?;
     Ok(end(alloc, ledger)?)
+}
+
+// What refusals are as CSV.
+fn refusals_table(
+    alloc: Global,
+    files: &[&str],
+    reading: Reading,
+    refusals: &[Refusal<String>],
+) -> Result<Vec<u8>, AllocError> {
+    rows_text(alloc, Form::Csv, reading.delimiter, &Refusals(reading.scale, files), refusals)
 }
 
 // What is written with decimals of a stock and of refusals.

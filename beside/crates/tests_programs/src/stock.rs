@@ -2,13 +2,14 @@
 use hashbag::FixedState;
 use hashbag_csv::counts::Reading;
 use hashbag_csv::delimiter::Delimiter;
+use hashbag_csv::forms::{Form, rows_text};
 use hashbag_csv::scale::{Mark, Scale};
 use hashbag_ledger_lib::date_forms::{DateForm, iso_of};
 use hashbag_ledger_lib::dated::balance_at;
 use hashbag_ledger_lib::dates::is_date;
 use hashbag_ledger_lib::extras::{Extra, ExtraColumns, opposite_extras, read_extras};
 use hashbag_ledger_lib::ledger::booking::{book_batch, count_refused, refusals_from};
-use hashbag_ledger_lib::listing::{batches_text, history_text};
+use hashbag_ledger_lib::listings::{Batches, History};
 use hashbag_ledger_lib::movements::{Change, Entry, Movement, Outcome, Place, Refusal};
 use hashbag_ledger_lib::numbers::{MOST, change_of, number_of, plain_change, signed, size_of};
 use hashbag_ledger_lib::once::{Batch, Kind, batch_of, entered_before, undone_by};
@@ -677,7 +678,7 @@ fn batches_and_histories_are_written(rt: HostRuntime) -> Result<(), Fail> {
     };
     let batches = three_batches(alloc)?;
     assert_eq!(rt;
-        String::from_utf8(batches_text(alloc, reading, &batches)?)?.as_str(),
+        String::from_utf8(rows_text(alloc, Form::Csv, reading.delimiter, &Batches, &batches)?)?.as_str(),
         "batch;file;sha256;kind;undoes;time;movements;refused\n1;file 1.csv;aa;moves;;2026-01-02 03:04:05;2;1\n2;file 2.csv;bb;moves;;2026-01-02 03:04:05;0;0\n5;file 5.csv;;undo;1;2026-01-02 03:04:05;1;0\n"
     );
     let mut entries = two_entries(alloc)?;
@@ -690,7 +691,7 @@ fn batches_and_histories_are_written(rt: HostRuntime) -> Result<(), Fail> {
     }
     let entries = zip(alloc, entries, extras)?;
     assert_eq!(rt;
-        String::from_utf8(history_text(alloc, reading, &batches, &entries)?)?.as_str(),
+        String::from_utf8(rows_text(alloc, Form::Csv, reading.delimiter, &History(reading.scale, &batches), &entries)?)?.as_str(),
         "batch;file;line;time;date;change;outcome;number;note\n1;file 1.csv;7;2026-01-02 03:04:05;;2,5;entered;2,5;\n5;file 5.csv;7;2026-01-02 03:04:05;2026-02-28;-3,0;refused;2,5;late\n"
     );
     Ok(())

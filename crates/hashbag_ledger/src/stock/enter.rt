@@ -6,6 +6,7 @@ use crate::stock::database::{HostDatabases, ended, is_new, is_of_database, open,
 use crate::stock::say::{random_state, say};
 use crate::stock::stages::HostStages;
 use hashbag_csv::delimiter::Delimiter;
+use hashbag_csv::forms::{Form, rows_text};
 use hashbag_ledger_db::closing::{Closed, begin_in, beginning_of, closed_in};
 use hashbag_ledger_db::entering::EnterReport;
 use hashbag_ledger_db::files::enter_named;
@@ -14,12 +15,12 @@ use hashbag_ledger_db::messages::PROGRAM;
 use hashbag_ledger_db::stages::{Stage, Stages};
 use hashbag_ledger_db::stock::tables::Contents;
 use hashbag_ledger_db::troubles;
-use hashbag_ledger_lib::output::typed_text;
+use hashbag_ledger_lib::listings;
 use hashbag_shell::inputs::{HostInputs, Inputs};
 use hashbag_shell::output::Output;
 use hashbag_shell::status::{BAD_INPUT, DONE};
 use hashbag_shell::trouble::Trouble;
-use std::fs;
+use std::{fs, slice};
 
 // Returns a file that the arguments name for two uses, if there is one.
 fn conflict<'a>(rt: &HostRuntime, job: &Job<'a>) -> Result<Option<&'a str>, Trouble<'a>> {
@@ -150,7 +151,10 @@ pub fn enter_typed<'a>(rt: &HostRuntime, job: &Job<'a>, sign: &str) -> Result<u8
         return Err(troubles::no_file(rt.alloc(), job.db));
     }
     let article = job.articles.first().copied().unwrap_or("");
-    let text = typed_text(rt.alloc(), Delimiter::Comma, article, sign, job.quantity)?;
+    let alloc = rt.alloc();
+    let movement: (&str, String) = (article, format!(in alloc; "{sign}{}", job.quantity)?);
+    let rows = slice::from_ref(&movement);
+    let text = rows_text(alloc, Form::Csv, Delimiter::Comma, &listings::Typed, rows)?;
     let state = random_state(rt)?;
     let output = output_of(rt, job)?;
     let inputs = Typed { text };
