@@ -267,6 +267,21 @@ ends 0 '' balance --db show.db --to json nut
 has ../out '[{"article":"nut","number":60}]\n' "the balance as JSON"
 ends 0 '' balance --db salt.db --to json
 has ../out '[{"article":"salt","number":"0.05"}]\n' "a number with decimals in JSON"
+# so are the movements of a batch or of an article, and the batches
+ends 0 '' show --db show.db --to table 2
+has ../out 'LINE  DATE  ARTICLE      CHANGE  OUTCOME  NUMBER  NOTE\n   2        bolt             -4  entered       6      \n   3        nut              20  entered      60      \n   4        bolt             -7  refused       6      \n   5        screw, long      12  entered      12      \n   6        washer           -3  entered       0      \n   7        bolt             -6  entered       0      \n' "the movements of a batch in columns"
+ends 0 '' show --db show.db --to json more.csv
+has ../out '[{"line":2,"date":"","article":"bolt","change":1,"outcome":"entered","number":1,"note":""}]\n' "the movements of a batch as JSON"
+ends 0 '' show --db salt.db --to json 3
+has ../out '[{"line":2,"date":"","article":"salt","change":"-1.70","outcome":"entered","number":"0.05","note":""}]\n' "a movement with decimals in JSON"
+ends 0 '' history --db show.db --to table nut
+sed -E 's/20[0-9]{2}-[0-9]{2}-[0-9]{2} [0-9]{2}:[0-9]{2}:[0-9]{2}/WHEN/' ../out > ../plain
+has ../plain 'BATCH  FILE        LINE  TIME                 DATE  CHANGE  OUTCOME  NUMBER  NOTE\n    1  stock.csv      3  WHEN            40  entered      40      \n    2  monday.csv     3  WHEN            20  entered      60      \n' "the history of an article in columns"
+ends 0 "$p: show.db: no movement of \"axe\"" history --db show.db --to json axe
+has ../out '[]\n' "the history of an article without movements as JSON"
+ends 0 '' batches --db show.db --to json
+sed -E 's/20[0-9]{2}-[0-9]{2}-[0-9]{2} [0-9]{2}:[0-9]{2}:[0-9]{2}/WHEN/g; s/[0-9a-f]{64}/SUM/g' ../out > ../plain
+has ../plain '[{"batch":1,"file":"stock.csv","sha256":"SUM","kind":"start","undoes":"","time":"WHEN","movements":3,"refused":0},{"batch":2,"file":"monday.csv","sha256":"SUM","kind":"moves","undoes":"","time":"WHEN","movements":6,"refused":1},{"batch":3,"file":"more.csv","sha256":"SUM","kind":"moves","undoes":"","time":"WHEN","movements":1,"refused":0}]\n' "the batches as JSON"
 printf 'article,change\n茶,1234567\n' > ../line && input=../line ends 0 '' enter --quiet --db wide.db
 ends 0 '' put --quiet --db wide.db "$(printf 'a\tb')" 2
 ends 0 '' balance --db wide.db --to table
@@ -402,6 +417,8 @@ ends 0 '' close --db kept.db --into kept3.db
 ends 0 '' put --quiet --db kept3.db salt 0,5
 ends 0 '' balance --db kept3.db --to json
 has ../out '[{"article":"salt","number":"4.5"}]\n' "a number of JSON has a point, whatever the mark"
+ends 0 '' show --db kept3.db --to json 2
+has ../out '[{"line":2,"date":"","article":"salt","change":"0.5","outcome":"entered","number":"4.5","note":""}]\n' "a number of JSON has a point, whatever the mark, in a movement"
 is kept3.db 'select name, value from meta order by name' 'columns|Artikel,Art,Menge\ndelimiter|tab\nhashbag_ledger|3\nmark|,\nscale|1' "a new stock keeps what the old one kept"
 ends 0 '' close --db kept.db --into kept4.db --mark . -d ';' -c a,b
 is kept4.db 'select name, value from meta order by name' 'columns|a,b\ndelimiter|;\nhashbag_ledger|3\nmark|.\nscale|1' "a new stock keeps what close names"
@@ -724,7 +741,7 @@ cd .. || exit 1
 
 # Arguments
 for words in "enter a.csv" "balance" "history --db s.db" "undo --quiet --db s.db" "undo --quiet --db s.db x" "close --db s.db" "verify --db" "balance --db s.db --wrong" \
-  "show --db s.db" "count a.csv" "count --db s.db a.csv b.csv" "take --db s.db bolt" "put --db s.db 5" "balance --db s.db --to csw" \
+  "show --db s.db" "count a.csv" "count --db s.db a.csv b.csv" "take --db s.db bolt" "put --db s.db 5" "balance --db s.db --to csw" "history --db s.db --to csw bolt" \
   "enter --quiet --db s.db --wait x" "enter --quiet --db s.db --columns a" "enter --quiet --db s.db --start-columns a,b,c" "enter --quiet --db s.db --scale 10"; do
   # shellcheck disable=SC2086
   "$program" $words > ../out 2> ../err < /dev/null
