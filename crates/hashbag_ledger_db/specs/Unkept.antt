@@ -1,17 +1,22 @@
 -- What the subcommand `total` does: the movements of its files come to the opening stock.
-use Rattle.std.specs.Prelude.{◌≡◌, ℕ, ◌+◌, nat_lt, if◌then◌else◌, Bool, List, [], ◌∷◌, ◌++◌, length, map, All, String, string_cmp, MatchOption}
+use Rattle.std.specs.Prelude.{◌≡◌, ℕ, ◌+◌, nat_lt, if◌then◌else◌, Bool, List, [], ◌∷◌, ◌++◌, length, map, take, All, String, string_cmp, MatchOption}
 use Rattle.std.specs.Borrow.{Bor}
 use Rattle.std.specs.Global.{Global}
 use Rattle.std.specs.String.{string_eq}
 use Rattle.hashbag_csv.specs.Counts.{count_line, counts_in}
+use Rattle.hashbag_csv.specs.Forms.{rows_in}
 use Rattle.hashbag_csv.specs.Quantities.{IsBalance}
+use Rattle.hashbag_csv.specs.declared.counts.Reading.{Reading}
+use Rattle.hashbag_csv.specs.declared.forms.Form.TheVariants.{Csv}
 use Rattle.hashbag_ledger_db.specs.declared.settings.Settings.{Settings}
 use Rattle.hashbag_ledger_lib.specs.Ledger.{in_the_end, refused_of, Leaves}
+use Rattle.hashbag_ledger_lib.specs.Listings.{balance_cells, balance_names, refusal_cells, refusal_names}
 use Rattle.hashbag_ledger_lib.specs.Movements.{movements_in, names_now, content_of}
 use Rattle.hashbag_ledger_lib.specs.Settled.{listed, IsLedgerOf}
 use Rattle.hashbag_ledger_lib.specs.declared.ledger.Entered.{Entered}
 use Rattle.hashbag_ledger_lib.specs.declared.ledger.Ledger.{Ledger}
 use Rattle.hashbag_ledger_lib.specs.declared.movements.Movement.{Movement}
+use Rattle.hashbag_ledger_lib.specs.declared.movements.Refusal.{Refusal}
 use Rattle.hashbag_shell.specs.Inputs.{IsTextRead}
 
 -- the old ledger and then these movements, entered in turn, give the new ledger
@@ -64,6 +69,25 @@ module _ (gives : List ℕ → List ℕ → Type 0) (settings : Settings) where
     pub rows : IsBalance string_eq string_cmp (in_the_end string_eq (listed string_eq start) movements) entered.balance.items
     pub leaves : Leaves string_eq (listed string_eq start) movements (listed string_eq entered.balance.items)
     pub refused : entered.refusals.items ≡ refused_of string_eq (listed string_eq start) movements
+
+-- the balance as CSV, under the names of the columns of the opening stock
+abbrev pub balance_text : Settings → Entered (String Global) → List ℕ
+balance_text settings entered =
+    let reading = settings.reading in
+    rows_in Csv reading.delimiter (balance_names settings.start_columns) (map (balance_cells reading.scale) entered.balance.items)
+
+-- the refusals that are named: with `--strict` only the first
+abbrev pub named_in : Settings → List (Refusal (String Global)) → List (Refusal (String Global))
+named_in settings refusals = if settings.strict then take 1 refusals else refusals
+
+-- refusals as CSV, with the names of these files
+abbrev pub refusals_rows : Reading → List (Bor (List ℕ)) → List (Refusal (String Global)) → List ℕ
+refusals_rows reading files refusals =
+    rows_in Csv reading.delimiter refusal_names (map (refusal_cells (map (λ f. f.now) files) reading.scale) refusals)
+
+-- the refusals that are named, as CSV
+abbrev pub refusals_table : Settings → List (Refusal (String Global)) → List ℕ
+refusals_table settings refusals = refusals_rows settings.reading settings.files.items (named_in settings refusals)
 
 -- whether a movement was refused
 abbrev pub has_refused : Entered (String Global) → Bool

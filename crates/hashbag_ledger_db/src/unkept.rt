@@ -1,6 +1,6 @@
 //! A stock that isn't kept: the subcommand `total`. Files are read through `Inputs`, so the clauses hold for any bytes.
-ghost use Rattle.std.specs.Prelude.{◌≡◌, ◌↔◌, None, true, IfOk, OnOk};
-ghost use Rattle.hashbag_ledger_db.specs.Unkept.{EntersFileOf, EntersFiles, IsBegunFrom, IsEnteredOf, IsStartOf, has_refused, status_with};
+ghost use Rattle.std.specs.Prelude.{◌≡◌, ◌↔◌, None, true, IfOk, IfSome, OnOk};
+ghost use Rattle.hashbag_ledger_db.specs.Unkept.{EntersFileOf, EntersFiles, IsBegunFrom, IsEnteredOf, IsStartOf, balance_text, has_refused, named_in, refusals_rows, refusals_table, status_with};
 
 use crate::settings::Settings;
 use crate::troubles::in_start;
@@ -110,26 +110,43 @@ fn entered_of<'a, I: Inputs, S: BuildHasher + Drop>(
     Ok(end(alloc, ledger)?)
 }
 
-// Returns the text of the refusals. With `--strict`, only the first refusal is in the text.
+// Returns the refusals that are named: with `--strict` only the first.
+fn named_of<'a>(settings: &Settings<'_>, all: &'a [Refusal<String>]) -> &'a [Refusal<String>]
+    ensures { result.now ≡ named_in settings.now all.now }
+{
+    if settings.strict {
+        &all[..all.len().min(1)]
+    } else {
+        all
+    }
+}
+
+// Returns these refusals as CSV.
+fn refusals_csv(
+    alloc: Global,
+    settings: &Settings<'_>,
+    named: &[Refusal<String>],
+) -> Result<Vec<u8>, AllocError>
+    ensures { IfOk result (λ text. text.items ≡ refusals_rows settings.now.reading settings.now.files.items named.now) }
+{
+    let reading = settings.reading;
+    let rows = Refusals(reading.scale, settings.files.as_slice());
+    rows_text(alloc, Form::Csv, reading.delimiter, &rows, named)
+}
+
+// Returns the text of the refusals: a table for a file, lines for standard error.
 fn refused_text(
     alloc: Global,
     settings: &Settings<'_>,
     all: &[Refusal<String>],
-) -> Result<Vec<u8>, AllocError> {
-    let named = if settings.strict {
-        &all[..all.len().min(1)]
-    } else {
-        all
-    };
-    let reading = settings.reading;
-    // A table for a file, lines for standard error.
+) -> Result<Vec<u8>, AllocError>
+    ensures { IfSome settings.now.refused (λ _. IfOk result (λ text. text.items ≡ refusals_table settings.now all.now)) }
+{
+    let named = named_of(settings, all);
     match settings.refused {
-        Some(_) => {
-            let rows = Refusals(reading.scale, &settings.files);
-            rows_text(alloc, Form::Csv, reading.delimiter, &rows, named)
-        }
+        Some(_) => refusals_csv(alloc, settings, named),
         None => {
-            let text = refusals_text(alloc, &settings.files, reading.scale, named)?;
+            let text = refusals_text(alloc, &settings.files, settings.reading.scale, named)?;
             Ok(text.into_bytes())
         }
     }
@@ -141,14 +158,21 @@ fn left_text(
     settings: &Settings<'_>,
     entered: &Entered<String>,
 ) -> Result<Option<Vec<u8>>, AllocError>
-    ensures { IfOk result (λ text. text ≡ None ↔ (settings.now.strict ≡ true) × (has_refused entered.now ≡ true)) }
+    ensures denied { IfOk result (λ text. text ≡ None ↔ (settings.now.strict ≡ true) × (has_refused entered.now ≡ true)) }
+    ensures balance { IfOk result (λ left. IfSome left (λ text. text.items ≡ balance_text settings.now entered.now)) }
 {
     if settings.strict && is_refused(entered) {
         return Ok(None);
     }
     let reading = settings.reading;
     let listing = Balance(settings.start_columns, reading.scale);
-    let text = rows_text(alloc, Form::Csv, reading.delimiter, &listing, &entered.balance)?;
+    let text = rows_text(
+        alloc,
+        Form::Csv,
+        reading.delimiter,
+        &listing,
+        &entered.balance,
+    )?;
     Ok(Some(text))
 }
 
@@ -186,6 +210,12 @@ pub fn enter_unkept<'a, I: Inputs, S: BuildHasher + Drop>(
 
     // `balance` is `None` exactly if `strict` is set and a movement is refused.
     ensures denied { IfOk result (λ report. report.balance ≡ None ↔ (settings.now.strict ≡ true) × (report.status ≡ 1)) }
+
+    // The balance that is written is CSV with the rows of the balance of `entered`.
+    ensures balance { IfOk result (λ report. IfSome report.balance (λ text. text.items ≡ balance_text settings.now report.entered)) }
+
+    // The file for refusals has those of `entered` as rows of CSV, with `strict` only the first.
+    ensures refusals { IfOk result (λ report. IfSome settings.now.refused (λ _. report.refusals.items ≡ refusals_table settings.now report.entered.refusals.items)) }
 {
     let entered = entered_of(alloc, state, inputs, settings)?;
     Ok(UnkeptReport {
