@@ -99,7 +99,7 @@ for words in "total --help" "total -h" "help total"; do
 done
 
 # A first word that is no subcommand, or none: the message has the usages
-for words in "" mv.csv ./mv.csv - "--start cur.csv mv.csv" "-o new.csv mv.csv" "--strict total mv.csv" "--db s.db mv.csv"; do
+for words in "" mv.csv ./mv.csv - total.csv enter.csv counted.csv "--start cur.csv mv.csv" "-o new.csv mv.csv" "--strict total mv.csv" "--db s.db mv.csv"; do
   # shellcheck disable=SC2086
   "$program" $words > ../out 2> ../err < /dev/null
   [ $? = 2 ] && [ ! -s ../out ] && grep -qFx "Usage: hashbag_ledger total [OPTIONS] [MOVES.csv]..." ../err || { cat ../err; fail "no subcommand: $words"; }

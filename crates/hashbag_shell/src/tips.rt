@@ -60,8 +60,19 @@ impl<'w, 'n> Nearest<'w, 'n> {
     }
 }
 
+// Returns what follows a tip in a message: the usage and the last line. The usage is left out if it would show the name of the tip, as it does but for
+// subcommands.
+fn behind_tip(tip: &str) -> Option<&str> {
+    let (_, behind) = if tip.starts_with("subcommand ") {
+        tip.split_once("\n\n")?
+    } else {
+        tip.rsplit_once("\n\n")?
+    };
+    Some(behind)
+}
+
 /// Returns a message of the parser. If the message has a tip whose name isn't near the word that was given, the tip is left out, and so is
-/// the usage, which would show that name too.
+/// the usage if it would show that name too.
 ///
 /// # Errors
 ///
@@ -69,10 +80,10 @@ impl<'w, 'n> Nearest<'w, 'n> {
 pub fn without_far_tip(alloc: Global, message: &str) -> Result<String, AllocError> {
     if let Some((said, tip)) = message.split_once("\n\n  tip: a similar ")
         && let (Some(word), Some(name)) = (quoted(said), quoted(tip))
-        && let Some((_, last)) = tip.rsplit_once("\n\n")
+        && let Some(behind) = behind_tip(tip)
         && !is_near(alloc, word, name)?
     {
-        return format!(in alloc; "{said}\n\n{last}");
+        return format!(in alloc; "{said}\n\n{behind}");
     }
     message.to_string(alloc)
 }
