@@ -1,7 +1,8 @@
 #!/usr/bin/env python3
-"""tests/crates/tested.py [--jobs N] [NAME..]: runs the tests of each crate of beside/, or of those that are named, by `rt try --test`, and
+"""tests/crates/tested.py [--jobs N] [--due] [--write] [NAME..]: runs the tests of each crate of beside/, or of those that are named, by `rt try --test`, and
 each program there by `rt try`, in a repository that `tests/crates/beside.py` makes. `tests/crates/try_alone.py` leaves out what `rt` starts besides.
-N crates are run at a time: as many as there are processors, if not given.
+N crates are run at a time: as many as there are processors, if not given. --due leaves out those that passed on the same files, as `tests/stands.py`
+finds; --write, beside it, writes that the others passed.
 
 A program gets its file `stdin`, and has to print its file `stdout`, or nothing if it has none. Each `#[test]` of a crate's files has to be run
 and to pass. A library without one has to be used by another crate of beside/. Of what fails, all that was printed is shown. The last line is
@@ -18,6 +19,10 @@ import threading
 from concurrent.futures import ThreadPoolExecutor
 
 TOP = os.path.dirname(os.path.dirname(os.path.dirname(os.path.realpath(__file__))))
+sys.dont_write_bytecode = True
+sys.path.insert(0, f"{TOP}/tests")
+from stands import Scripts  # noqa: E402
+
 TEST = re.compile(r"^ *#\[test\]", re.M)
 RESULT = re.compile(r"^test result: \w+\. (\d+) passed; (\d+) failed; (\d+) ignored", re.M)
 # How long a test may take, in seconds: long, so that many may run side by side.
@@ -80,6 +85,8 @@ class Crate:
 def main():
     parser = argparse.ArgumentParser(description=__doc__, formatter_class=argparse.RawDescriptionHelpFormatter)
     parser.add_argument("--jobs", metavar="N", type=int, default=len(os.sched_getaffinity(0)))
+    parser.add_argument("--due", action="store_true")
+    parser.add_argument("--write", action="store_true")
     parser.add_argument("names", metavar="NAME", nargs="*")
     given = parser.parse_args()
     with tempfile.TemporaryDirectory() as root:
@@ -94,9 +101,19 @@ def main():
             print(f"tested: without tests, and used by none: {' '.join(idle)}" if idle else f"tested: no tests: {' '.join(unknown)}")
             return 2
         chosen = [it for it in tested if not given.names or it.name in given.names]
+        due = Scripts().due([it.name for it in chosen]) if given.due else {}
+        if given.due:
+            print(f"these stand by the record: {' '.join(it.name for it in chosen if it.name not in due) or 'none'}", flush=True)
+            chosen = [it for it in chosen if it.name in due]
+        chosen.sort(key=lambda it: -it.tests)
         with ThreadPoolExecutor(given.jobs) as pool:
-            sums = list(pool.map(Crate.run, sorted(chosen, key=lambda it: -it.tests)))
-    passed, failed = (sum(it) for it in zip(*sums))
+            found = list(pool.map(Crate.run, chosen))
+    if given.write:
+        Scripts().write({it.name: due[it.name] for it, (_, failed) in zip(chosen, found) if not failed})
+    passed, failed = sum(it[0] for it in found), sum(it[1] for it in found)
+    if given.due and not chosen:
+        print("tests: all stand")
+        return 0
     print(f"tests: {passed} passed, {failed} failed")
     return 1 if failed or not passed else 0
 
