@@ -2,8 +2,9 @@
 //! again, and a list may be counted in parts.
 //!
 //! Each law is a function that is proved, which callers can copy.
-ghost use Rattle.std.specs.Prelude.{◌≡◌, ◌++◌, IsTrue, OnOk, IfOk};
+ghost use Rattle.std.specs.Prelude.{◌≡◌, ◌+◌, ◌++◌, IsTrue, OnOk, IfOk};
 ghost use Rattle.hashbag_core.specs.Occurrences.{count, SameCounts};
+ghost use Rattle.hashbag_ops.specs.Unions.{IsSumOf};
 
 use crate::combine::{merge, take_away};
 use hashbag_core::{BagError, HashBag};
@@ -17,18 +18,18 @@ use std::hash::{BuildHasher, Hash};
 ///
 /// `TooMany` or `Memory` if a merge fails.
 pub fn merges_commute<T: Eq + Hash + Drop, S: BuildHasher + Drop>(
-    mut a: HashBag<T, S>,
+    a: HashBag<T, S>,
     b: HashBag<T, S>,
     same_a: HashBag<T, S>,
-    mut same_b: HashBag<T, S>,
+    same_b: HashBag<T, S>,
 ) -> Result<bool, BagError>
     requires first { SameCounts T.eq a.items same_a.items }
     requires second { SameCounts T.eq b.items same_b.items }
     ensures { IfOk result (λ equal. IsTrue equal) }
 {
-    merge(&mut a, b)?;
-    merge(&mut same_b, same_a)?;
-    Ok(a == same_b)
+    let left = merged(a, b)?;
+    let right = merged(same_b, same_a)?;
+    Ok(are_equal(left, right))
 }
 
 /// Merges `b` and then `c` into `a`; and merges `same_c` into `same_b`, and the sum into `same_a`. Returns whether the two results are equal. They
@@ -38,11 +39,11 @@ pub fn merges_commute<T: Eq + Hash + Drop, S: BuildHasher + Drop>(
 ///
 /// `TooMany` or `Memory` if a merge fails.
 pub fn merges_associate<T: Eq + Hash + Drop, S: BuildHasher + Drop>(
-    mut a: HashBag<T, S>,
+    a: HashBag<T, S>,
     b: HashBag<T, S>,
     c: HashBag<T, S>,
-    mut same_a: HashBag<T, S>,
-    mut same_b: HashBag<T, S>,
+    same_a: HashBag<T, S>,
+    same_b: HashBag<T, S>,
     same_c: HashBag<T, S>,
 ) -> Result<bool, BagError>
     requires first { SameCounts T.eq a.items same_a.items }
@@ -50,11 +51,51 @@ pub fn merges_associate<T: Eq + Hash + Drop, S: BuildHasher + Drop>(
     requires third { SameCounts T.eq c.items same_c.items }
     ensures { IfOk result (λ equal. IsTrue equal) }
 {
-    merge(&mut a, b)?;
-    merge(&mut a, c)?;
-    merge(&mut same_b, same_c)?;
-    merge(&mut same_a, same_b)?;
-    Ok(a == same_a)
+    let left = merged_from_left(a, b, c)?;
+    let right = merged_from_right(same_a, same_b, same_c)?;
+    Ok(are_equal(left, right))
+}
+
+// Returns `a`, after `b` and then `c` were merged into it.
+fn merged_from_left<T: Eq + Hash + Drop, S: BuildHasher + Drop>(
+    a: HashBag<T, S>,
+    b: HashBag<T, S>,
+    c: HashBag<T, S>,
+) -> Result<HashBag<T, S>, BagError>
+    ensures { IfOk result (λ all. (v : T) → count T.eq v all.items ≡ count T.eq v a.items + count T.eq v b.items + count T.eq v c.items) }
+{
+    let sum = merged(a, b)?;
+    merged(sum, c)
+}
+
+// Returns `a`, after the sum of `b` and `c` was merged into it.
+fn merged_from_right<T: Eq + Hash + Drop, S: BuildHasher + Drop>(
+    a: HashBag<T, S>,
+    b: HashBag<T, S>,
+    c: HashBag<T, S>,
+) -> Result<HashBag<T, S>, BagError>
+    ensures { IfOk result (λ all. (v : T) → count T.eq v all.items ≡ count T.eq v a.items + (count T.eq v b.items + count T.eq v c.items)) }
+{
+    let sum = merged(b, c)?;
+    merged(a, sum)
+}
+
+// Returns `into`, after `from` was merged into it.
+fn merged<T: Eq + Hash + Drop, S: BuildHasher + Drop>(
+    mut into: HashBag<T, S>,
+    from: HashBag<T, S>,
+) -> Result<HashBag<T, S>, BagError>
+    ensures { IfOk result (λ sum. IsSumOf T.eq into.items from.items sum.items) }
+{
+    merge(&mut into, from)?;
+    Ok(into)
+}
+
+// Returns whether the bags have the same counts.
+fn are_equal<T: Eq + Hash + Drop, S: BuildHasher + Drop>(a: HashBag<T, S>, b: HashBag<T, S>) -> bool
+    ensures { SameCounts T.eq a.items b.items → IsTrue result }
+{
+    a == b
 }
 
 /// Merges `other` into `bag`, and takes `same` away from `bag`. `same` has the counts of `other`, so each value then occurs in `bag` as often as

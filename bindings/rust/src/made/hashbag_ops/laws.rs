@@ -17,15 +17,15 @@ use std::hash::{BuildHasher, Hash};
 //
 // `TooMany` or `Memory` if a merge fails.
 pub fn merges_commute<T: Eq + Hash, S: BuildHasher>(
-    mut a: HashBag<T, S>,
+    a: HashBag<T, S>,
     b: HashBag<T, S>,
     same_a: HashBag<T, S>,
-    mut same_b: HashBag<T, S>,
+    same_b: HashBag<T, S>,
 ) -> Result<bool, BagError>
 {
-    merge(&mut a, b)?;
-    merge(&mut same_b, same_a)?;
-    Ok(a == same_b)
+    let left = merged(a, b)?;
+    let right = merged(same_b, same_a)?;
+    Ok(are_equal(left, right))
 }
 
 // Merges `b` and then `c` into `a`; and merges `same_c` into `same_b`, and the sum into `same_a`. Returns whether the two results are equal. They
@@ -35,19 +35,55 @@ pub fn merges_commute<T: Eq + Hash, S: BuildHasher>(
 //
 // `TooMany` or `Memory` if a merge fails.
 pub fn merges_associate<T: Eq + Hash, S: BuildHasher>(
-    mut a: HashBag<T, S>,
+    a: HashBag<T, S>,
     b: HashBag<T, S>,
     c: HashBag<T, S>,
-    mut same_a: HashBag<T, S>,
-    mut same_b: HashBag<T, S>,
+    same_a: HashBag<T, S>,
+    same_b: HashBag<T, S>,
     same_c: HashBag<T, S>,
 ) -> Result<bool, BagError>
 {
-    merge(&mut a, b)?;
-    merge(&mut a, c)?;
-    merge(&mut same_b, same_c)?;
-    merge(&mut same_a, same_b)?;
-    Ok(a == same_a)
+    let left = merged_from_left(a, b, c)?;
+    let right = merged_from_right(same_a, same_b, same_c)?;
+    Ok(are_equal(left, right))
+}
+
+// Returns `a`, after `b` and then `c` were merged into it.
+fn merged_from_left<T: Eq + Hash, S: BuildHasher>(
+    a: HashBag<T, S>,
+    b: HashBag<T, S>,
+    c: HashBag<T, S>,
+) -> Result<HashBag<T, S>, BagError>
+{
+    let sum = merged(a, b)?;
+    merged(sum, c)
+}
+
+// Returns `a`, after the sum of `b` and `c` was merged into it.
+fn merged_from_right<T: Eq + Hash, S: BuildHasher>(
+    a: HashBag<T, S>,
+    b: HashBag<T, S>,
+    c: HashBag<T, S>,
+) -> Result<HashBag<T, S>, BagError>
+{
+    let sum = merged(b, c)?;
+    merged(a, sum)
+}
+
+// Returns `into`, after `from` was merged into it.
+fn merged<T: Eq + Hash, S: BuildHasher>(
+    mut into: HashBag<T, S>,
+    from: HashBag<T, S>,
+) -> Result<HashBag<T, S>, BagError>
+{
+    merge(&mut into, from)?;
+    Ok(into)
+}
+
+// Returns whether the bags have the same counts.
+fn are_equal<T: Eq + Hash, S: BuildHasher>(a: HashBag<T, S>, b: HashBag<T, S>) -> bool
+{
+    a == b
 }
 
 // Merges `other` into `bag`, and takes `same` away from `bag`. `same` has the counts of `other`, so each value then occurs in `bag` as often as
