@@ -28,8 +28,9 @@ use std::mem;
 ///
 /// # Panics
 ///
-/// A call that inserts panics if the total would pass the limit, or if an allocation fails. The bag is then unchanged. Each such call has a form
-/// whose name begins with `try_` and which returns a [`BagError`] instead. (`try_take` is no such form; it is the original crate's.)
+/// A call that inserts panics if the total would pass the limit, or if an allocation fails. The bag is then unchanged; only an `extend` keeps the
+/// items before. Each such call but `insert_key`, `extend`, `collect` and [`Entry::or_insert`](crate::Entry::or_insert) has a form whose name begins with `try_`, which
+/// returns a [`BagError`] instead. (`try_take` is no such form; it is the original crate's.)
 ///
 /// # After a panic
 ///
