@@ -62,11 +62,11 @@ class Scripts:
         return (*own, *folders, *(it for it in words if not it.startswith("="))), [(it, self.uses[it]) for it in crates]
 
     def sum_of(self, label):
-        """Returns the sum of what decides what a script does."""
+        """Returns the sum of what decides what a script does. Wrong bodies and their record decide nothing."""
         begins, crates = self.begins(label)
         sum = hashlib.sha256(f"{label} {crates} {self.tools}".encode())
         for file in self.files:
-            if file.startswith(begins) and "/refused/" not in file and os.path.isfile(f"{TOP}/{file}"):
+            if file.startswith(begins) and "/refused" not in file and os.path.isfile(f"{TOP}/{file}"):
                 with open(f"{TOP}/{file}", "rb") as it:
                     sum.update(f"{file} {hashlib.sha256(it.read()).hexdigest()}\n".encode())
         return sum.hexdigest()[:16]
