@@ -66,7 +66,7 @@ class Scripts:
         begins, crates = self.begins(label)
         sum = hashlib.sha256(f"{label} {crates} {self.tools}".encode())
         for file in self.files:
-            if file.startswith(begins) and "/refused" not in file and os.path.isfile(f"{TOP}/{file}"):
+            if file.startswith(begins) and "/refused/" not in file and not file.endswith("/refused.txt") and os.path.isfile(f"{TOP}/{file}"):
                 with open(f"{TOP}/{file}", "rb") as it:
                     sum.update(f"{file} {hashlib.sha256(it.read()).hexdigest()}\n".encode())
         return sum.hexdigest()[:16]

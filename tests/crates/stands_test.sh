@@ -10,8 +10,8 @@ cd "$scratch" && mkdir -p tests beside/crates crates/low/src crates/low/refused 
 sed 's/^TOOLS = .*/TOOLS = ()/' "$top/tests/stands.py" > tests/stands.py && chmod +x tests/stands.py # the versions of tools take long
 export GIT_AUTHOR_DATE='2026-01-01 00:00 +0000' GIT_COMMITTER_DATE='2026-01-01 00:00 +0000'
 printf 'low: core\nhigh: low # a comment\n' > crates.txt
-printf 'one: =high data/\ntwo: docs/a\nthree: docs/b\n' > tests/reads.txt
-mkdir docs data && echo > docs/a && echo > docs/b && touch crates/low/src/lib.rt crates/high/src/lib.rt crates/low/refused/it.edit beside/list.txt
+printf 'one: =high data/\ntwo: docs/a\nthree: docs/refused_b\n' > tests/reads.txt
+mkdir docs data && echo > docs/a && echo > docs/refused_b && touch crates/low/src/lib.rt crates/high/src/lib.rt crates/low/refused/it.edit beside/list.txt
 git init -q . && git add -A && git -c user.name=a -c user.email=a@example.org commit -q -m one || exit 1
 
 fail() {
@@ -33,8 +33,8 @@ tests/stands.py --passed "${lines[@]}"
 drawn=$(tests/stands.py one two three | sed 's/^[0-9a-f]* //')
 [[ $drawn =~ ^(one|two|three)$ ]] || fail "not one is drawn: $drawn"
 due
-echo b > docs/b && due three
-echo > docs/b && due
+echo b > docs/refused_b && due three
+echo > docs/refused_b && due
 echo a > crates/low/src/lib.rt && due one
 git checkout -q crates && due
 echo a > crates/low/refused/it.edit && due
@@ -43,7 +43,7 @@ git add data && due one
 git rm -qf data/new && rm docs/a && due two
 git checkout -q docs/a && due
 sed -i 's/low: core/low: core std/' crates.txt && due one
-git checkout -q crates.txt && sed -i "s:^two.*:& docs/b:" tests/reads.txt && due two
+git checkout -q crates.txt && sed -i "s:^two.*:& docs/refused_b:" tests/reads.txt && due two
 # the commit draws: of thirty commits each comes up
 for ((it = 1; it <= 30; it++)); do
   git -c user.name=a -c user.email=a@example.org commit -q --allow-empty -m "$it"
